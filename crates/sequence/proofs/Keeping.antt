@@ -1,0 +1,166 @@
+-- `advance` keeps the half-read record valid. Each proof follows the lines of the definition it speaks of.
+use mathlib.Core.Path.{_≡_, refl, sym, ap, _∙_}
+use mathlib.Core.List.{List, [], _∷_}
+use mathlib.Core.Bool.{Bool, true, false}
+use Prim.Native.Nat.{ℕ, zero, suc, _+_, _-_, _*_, _<_, _≤_}
+use native.Mathlib.Nat.{add-zero}
+use native.Mathlib.Omega.{arith}
+use borrow.Author.Tests.{lt-ltb, le-leb, eq-eqb, ltb-true, ltb-false, leb-true, leb-false, eqb-true, eqb-false}
+use lib.Dec.{ltb, leb, eqb}
+use lib.ListN.{getD, set}
+use Rattle.words.specs.Choice.{if_then_else_, _and_, _is_to_}
+use Rattle.words.proofs.Choosing.{then-case, else-case, either-line, both, both-hold, range-holds, range-is}
+use Rattle.sequence.specs.declared.HalfRead.{HalfRead}
+use Rattle.sequence.specs.declared.Advanced.{Advanced}
+use Rattle.sequence.specs.Record.{bare, nothingRead, escRead, intermediateRead, bracketRead, spoiltRead, largestArgument, argumentsFit, validHalfRead, lastArgument, withLastArgument, withDigit, withNextArgument}
+use Rattle.sequence.specs.Reading.{outsideSequence, afterEsc, afterIntermediate, afterBracket, insideSequence, advanceOf}
+
+abbrev Valid : HalfRead → Type 0
+Valid half = validHalfRead half ≡ true
+
+-- a valid record of none of the first three kinds is after ESC [, and has one to eight arguments, spoilt or not
+module _ (half : HalfRead) (v : Valid half) (not-none : half .kind ≡ 0 → ⊥) (not-esc : half .kind ≡ 1 → ⊥) (not-intermediate : half .kind ≡ 2 → ⊥) where
+  bracket-facts : (half .kind ≡ 3) × (1 ≤ half .count) × (half .count ≤ 8)
+  unfolding validHalfRead
+  bracket-facts =
+      either-line (λ (t : Bool). t ≡ true → (half .kind ≡ 3) × (1 ≤ half .count) × (half .count ≤ 8)) (half .spoilt) _ _
+      (λ _ p. let one = eqb-true (half .count) 1 (both (both p .1) .0) in (eqb-true _ _ (both p .0), omega arith, omega arith))
+      (λ _. either-line (λ (t : Bool). t ≡ true → (half .kind ≡ 3) × (1 ≤ half .count) × (half .count ≤ 8)) (eqb (half .kind) 3) _ _
+      (λ k p. let counted = range-holds _ _ _ (both p .0) in (eqb-true _ _ k, counted .0, counted .1))
+      (λ _ p. let low = leb-true (half .kind) 2 (both p .0) in absurd (omega arith)))
+      v
+
+  is-bracket : half .kind ≡ 3
+  is-bracket = bracket-facts .0
+
+  pub arguments-counted : (1 ≤ half .count) × (half .count ≤ 8)
+  arguments-counted = (bracket-facts .1, bracket-facts .2)
+
+-- a fitting value in place of an argument; one more argument reached
+set-fits : (reached i k value : ℕ) (arguments : List ℕ) → value ≤ largestArgument (i + k) reached → argumentsFit reached i arguments ≡ true → argumentsFit reached i (set arguments k value) ≡ true
+unfolding argumentsFit
+set-fits reached i k value [] h p = p
+set-fits reached i zero value (argument ∷ rest) h p = both-hold _ _ (le-leb _ _ (rw add-zero at h)) (both p .1)
+set-fits reached i (suc k) value (argument ∷ rest) h p =
+    let next : i + suc k ≡ i + 1 + k = omega arith in
+    both-hold _ _ (both p .0) (set-fits reached (i + 1) k value rest (rw next at h) (both p .1))
+
+largest-grows : (reached i : ℕ) → largestArgument i reached ≤ largestArgument i (reached + 1)
+unfolding largestArgument
+largest-grows reached i =
+    either-line (λ (n : ℕ). n ≤ largestArgument i (reached + 1)) (ltb i reached) 9999 0
+    (λ t.
+    let low = ltb-true i reached t in
+    rw (then-case {A = ℕ} (ltb i (reached + 1)) 9999 0 (lt-ltb i (reached + 1) (omega arith))) (omega arith))
+    (λ _. omega arith)
+
+more-fit : (reached i : ℕ) (arguments : List ℕ) → argumentsFit reached i arguments ≡ true → argumentsFit (reached + 1) i arguments ≡ true
+unfolding argumentsFit
+more-fit reached i [] p = p
+more-fit reached i (argument ∷ rest) p =
+    let now = leb-true argument (largestArgument i reached) (both p .0) in
+    let grown = largest-grows reached i in
+    both-hold _ _ (le-leb argument (largestArgument i (reached + 1)) (omega arith)) (more-fit reached (i + 1) rest (both p .1))
+
+-- the records that the rules name
+nothing-valid : Valid nothingRead
+unfolding validHalfRead if_then_else_ _and_ argumentsFit largestArgument
+nothing-valid = refl
+
+esc-valid : Valid escRead
+unfolding validHalfRead if_then_else_ _and_ argumentsFit largestArgument
+esc-valid = refl
+
+intermediate-valid : Valid intermediateRead
+unfolding validHalfRead if_then_else_ _and_ argumentsFit largestArgument
+intermediate-valid = refl
+
+bracket-valid : Valid bracketRead
+unfolding validHalfRead if_then_else_ _and_ _is_to_ argumentsFit largestArgument
+bracket-valid = refl
+
+spoilt-valid : Valid spoiltRead
+unfolding validHalfRead if_then_else_ _and_ argumentsFit largestArgument
+spoilt-valid = refl
+
+-- after ESC [, not spoilt
+open-is : (half : HalfRead) → half .kind ≡ 3 → half .spoilt ≡ false → validHalfRead half ≡ (half .count is 1 to 8 and argumentsFit (half .count) 0 (half .arguments))
+unfolding validHalfRead
+open-is half k s = else-case _ _ _ s ∙ then-case _ _ _ (eq-eqb _ _ k)
+
+last-fits : (count value : ℕ) → 1 ≤ count → value ≤ 9999 → value ≤ largestArgument (0 + (count - 1)) count
+unfolding largestArgument
+last-fits count value counted small =
+    rw (then-case {A = ℕ} (ltb (0 + (count - 1)) count) 9999 0 (lt-ltb (0 + (count - 1)) count (omega arith))) small
+
+digit-keeps : (half : HalfRead) (digit : ℕ) → half .kind ≡ 3 → Valid half → Valid (withDigit half digit)
+unfolding withDigit
+digit-keeps half digit k v =
+    either-line Valid (half .spoilt) _ _
+    (λ _. v)
+    (λ s. either-line Valid (ltb 9999 (lastArgument half * 10 + digit)) _ _
+    (λ _. spoilt-valid)
+    (λ small.
+    let was = both (sym (open-is half k s) ∙ v) in
+    open-is (withLastArgument half (lastArgument half * 10 + digit)) k s
+    ∙ both-hold _ _ (was .0) (set-fits (half .count) 0 (half .count - 1) _ (half .arguments) (last-fits (half .count) _ (range-holds _ _ _ (was .0) .0) (ltb-false _ _ small)) (was .1))))
+
+next-keeps : (half : HalfRead) → half .kind ≡ 3 → Valid half → Valid (withNextArgument half)
+unfolding withNextArgument
+next-keeps half k v =
+    either-line Valid (half .spoilt) _ _
+    (λ _. v)
+    (λ s. either-line Valid (leb 8 (half .count)) _ _
+    (λ _. spoilt-valid)
+    (λ room.
+    let was = both (sym (open-is half k s) ∙ v) in
+    let counted = range-holds _ _ _ (was .0) in
+    let low = leb-false 8 (half .count) room in
+    open-is _ k s ∙ both-hold _ _ (range-is (half .count + 1) 1 8 (omega arith) (omega arith)) (more-fit (half .count) 0 (half .arguments) (was .1))))
+
+-- the rules in turn
+abbrev LeavesValid : Advanced → Type 0
+LeavesValid advanced = Valid (advanced .half)
+
+outside-keeps : (byte : ℕ) → LeavesValid (outsideSequence byte)
+unfolding outsideSequence
+outside-keeps byte =
+    either-line LeavesValid _ _ _ (λ _. nothing-valid)
+    (λ _. either-line LeavesValid _ _ _ (λ _. nothing-valid)
+    (λ _. either-line LeavesValid _ _ _ (λ _. esc-valid)
+    (λ _. either-line LeavesValid _ _ _ (λ _. nothing-valid) (λ _. nothing-valid))))
+
+after-esc-keeps : (byte : ℕ) → LeavesValid (afterEsc byte)
+unfolding afterEsc
+after-esc-keeps byte =
+    either-line LeavesValid _ _ _ (λ _. intermediate-valid)
+    (λ _. either-line LeavesValid _ _ _ (λ _. bracket-valid) (λ _. nothing-valid))
+
+after-intermediate-keeps : (byte : ℕ) → LeavesValid (afterIntermediate byte)
+unfolding afterIntermediate
+after-intermediate-keeps byte = either-line LeavesValid _ _ _ (λ _. intermediate-valid) (λ _. nothing-valid)
+
+after-bracket-keeps : (half : HalfRead) (byte : ℕ) → half .kind ≡ 3 → Valid half → LeavesValid (afterBracket half byte)
+unfolding afterBracket
+after-bracket-keeps half byte k v =
+    either-line LeavesValid _ _ _ (λ _. digit-keeps half (byte - 0x30) k v)
+    (λ _. either-line LeavesValid _ _ _ (λ _. next-keeps half k v)
+    (λ _. either-line LeavesValid _ _ _ (λ _. spoilt-valid)
+    (λ _. either-line LeavesValid _ _ _ (λ _. nothing-valid) (λ _. nothing-valid))))
+
+inside-keeps : (half : HalfRead) (byte : ℕ) → Valid half → (half .kind ≡ 0 → ⊥) → LeavesValid (insideSequence half byte)
+unfolding insideSequence
+inside-keeps half byte v not-none =
+    either-line LeavesValid _ _ _ (λ _. nothing-valid)
+    (λ _. either-line LeavesValid _ _ _ (λ _. esc-valid)
+    (λ _. either-line LeavesValid _ _ _
+    (λ _. either-line LeavesValid _ _ _ (λ _. after-esc-keeps byte)
+    (λ not-esc. either-line LeavesValid _ _ _ (λ _. after-intermediate-keeps byte)
+    (λ not-intermediate. after-bracket-keeps half byte (is-bracket half v not-none (eqb-false _ _ not-esc) (eqb-false _ _ not-intermediate)) v)))
+    (λ _. nothing-valid)))
+
+pub advance-keeps : (half : HalfRead) (byte : ℕ) → validHalfRead half ≡ true → validHalfRead (advanceOf half byte .half) ≡ true
+unfolding advanceOf
+advance-keeps half byte v =
+    either-line LeavesValid _ _ _ (λ _. outside-keeps byte)
+    (λ not-none. inside-keeps half byte v (eqb-false _ _ not-none))

@@ -1,0 +1,74 @@
+-- Document 01, "Reading host bytes", rule by rule: what one host byte does to the half-read record, and the event it gives.
+-- What an event does to the terminal is told by later definitions.
+use mathlib.Core.Bool.{Bool}
+use Prim.Native.Nat.{ℕ, _-_}
+use lib.Dec.{ltb, leb, eqb}
+use Rattle.words.specs.Choice.{if_then_else_, _or_, _is_to_}
+use Rattle.sequence.specs.Record.{nothingRead, escRead, intermediateRead, bracketRead, spoiltRead, withDigit, withNextArgument}
+use Rattle.sequence.specs.declared.HalfRead.{HalfRead}
+use Rattle.sequence.specs.declared.Event.{Event}
+use Rattle.sequence.specs.declared.Event.the-variants.{Nothing, Text, Control, EscCommand, BracketCommand, Refused}
+use Rattle.sequence.specs.declared.Advanced.{Advanced}
+
+-- The sequence is read on, and nothing happens yet; or it ends, with an event, and nothing stays half read.
+abbrev pub readsOn : HalfRead → Advanced
+readsOn half = record { half = half; event = Nothing }
+
+abbrev pub ends : Event → Advanced
+ends event = record { half = nothingRead; event = event }
+
+-- Rule 2: the control bytes that act.
+unfoldable pub isControl : ℕ → Bool
+isControl byte = eqb byte 0x08 or eqb byte 0x0D or eqb byte 0x0A or eqb byte 0x09
+
+-- Rule 3: the bytes that only drop a sequence.
+unfoldable pub isCancel : ℕ → Bool
+isCancel byte = eqb byte 0x18 or eqb byte 0x1A
+
+-- Rules 1 to 4, outside a sequence. The last line is for the other bytes below 20, and 7F: ignored.
+unfoldable pub outsideSequence : ℕ → Advanced
+outsideSequence byte =
+    if byte is 0x20 to 0x7E then ends (Text byte)
+    else if isControl byte then ends (Control byte)
+    else if eqb byte 0x1B then readsOn escRead
+    else if leb 0x80 byte then ends Refused
+    else ends Nothing
+
+-- Rule 5, a byte 20 to 7E after ESC: an intermediate, the [ of rule 6, or a command, which may be listed or not.
+unfoldable pub afterEsc : ℕ → Advanced
+afterEsc byte =
+    if leb byte 0x2F then readsOn intermediateRead
+    else if eqb byte 0x5B then readsOn bracketRead
+    else ends (EscCommand byte)
+
+-- Rule 5, a byte 20 to 7E after ESC and an intermediate.
+unfoldable pub afterIntermediate : ℕ → Advanced
+afterIntermediate byte =
+    if leb byte 0x2F then readsOn intermediateRead
+    else ends Refused
+
+-- Rule 6, a byte 20 to 7E after ESC [. The third line is for 20 to 2F, 3A and 3C to 3F.
+unfoldable pub afterBracket : HalfRead → ℕ → Advanced
+afterBracket half byte =
+    if byte is 0x30 to 0x39 then readsOn (withDigit half (byte - 0x30))
+    else if eqb byte 0x3B then readsOn (withNextArgument half)
+    else if ltb byte 0x40 then readsOn spoiltRead
+    else if half .spoilt then ends Refused
+    else ends (BracketCommand byte)
+
+-- Rules 3 to 6, inside a sequence. The last line is for every other byte below 20, 7F, and 80 to FF: not executed.
+unfoldable pub insideSequence : HalfRead → ℕ → Advanced
+insideSequence half byte =
+    if isCancel byte then ends Nothing
+    else if eqb byte 0x1B then readsOn escRead
+    else if byte is 0x20 to 0x7E then
+    (if eqb (half .kind) 1 then afterEsc byte
+    else if eqb (half .kind) 2 then afterIntermediate byte
+    else afterBracket half byte)
+    else ends Refused
+
+-- The record and the event after one host byte.
+unfoldable pub advanceOf : HalfRead → ℕ → Advanced
+advanceOf half byte =
+    if eqb (half .kind) 0 then outsideSequence byte
+    else insideSequence half byte

@@ -1,0 +1,349 @@
+// Document 01, "Reading host bytes": the half-read sequence, advanced by one byte.
+// Which record and which event a byte gives is defined in specs/Reading.antt.
+ghost use mathlib.Core.Path.{_≡_};
+ghost use mathlib.Core.Bool.{true};
+ghost use Prim.Native.Nat.{_≤_};
+ghost use Rattle.words.specs.Choice.{_is_to_};
+ghost use Rattle.sequence.specs.Record.{largestArgument, argumentsFit, validHalfRead, withDigit, withNextArgument};
+ghost use Rattle.sequence.specs.Reading.{isControl, isCancel, outsideSequence, afterEsc, afterIntermediate, afterBracket, insideSequence, advanceOf};
+
+// What is half read.
+pub const NONE: u8 = 0;
+
+pub const AFTER_ESC: u8 = 1;
+
+pub const AFTER_INTERMEDIATE: u8 = 2;
+
+pub const AFTER_BRACKET: u8 = 3;
+
+// A sequence of which some bytes have been read. The last of `count` arguments is still being read.
+pub struct HalfRead {
+    pub kind: u8,
+    pub arguments: [u16; 8],
+    pub count: u8,
+    pub spoilt: bool,
+}
+
+// What a byte brings about.
+pub enum Event {
+    Nothing,
+    Text(u8),
+    Control(u8),
+    // ESC and the command's byte.
+    EscCommand(u8),
+    // ESC [ and the command's final byte; its arguments are those of the record before this byte.
+    BracketCommand(u8),
+    Refused,
+}
+
+pub struct Advanced {
+    pub half: HalfRead,
+    pub event: Event,
+}
+
+const NOTHING_READ: HalfRead = HalfRead {
+    kind: NONE,
+    arguments: [0; 8],
+    count: 0,
+    spoilt: false,
+};
+
+const ESC_READ: HalfRead = HalfRead {
+    kind: AFTER_ESC,
+    arguments: [0; 8],
+    count: 0,
+    spoilt: false,
+};
+
+const INTERMEDIATE_READ: HalfRead = HalfRead {
+    kind: AFTER_INTERMEDIATE,
+    arguments: [0; 8],
+    count: 0,
+    spoilt: false,
+};
+
+const BRACKET_READ: HalfRead = HalfRead {
+    kind: AFTER_BRACKET,
+    arguments: [0; 8],
+    count: 1,
+    spoilt: false,
+};
+
+const SPOILT: HalfRead = HalfRead {
+    kind: AFTER_BRACKET,
+    arguments: [0; 8],
+    count: 1,
+    spoilt: true,
+};
+
+// Whether n is low to high.
+fn is_between(n: u8, low: u8, high: u8) -> bool
+    ensures { λ r. ⌜ r ≡ (n is low to high) ⌝ }
+{
+    if n < low {
+        return false;
+    }
+    n <= high
+}
+
+fn is_control(byte: u8) -> bool
+    ensures { λ r. ⌜ r ≡ isControl byte ⌝ }
+{
+    match byte {
+        0x08 => true,
+        0x0D => true,
+        0x0A => true,
+        0x09 => true,
+        _ => false,
+    }
+}
+
+fn is_cancel(byte: u8) -> bool
+    ensures { λ r. ⌜ r ≡ isCancel byte ⌝ }
+{
+    match byte {
+        0x18 => true,
+        0x1A => true,
+        _ => false,
+    }
+}
+
+// Any byte where nothing is half read.
+fn outside_sequence(byte: u8) -> Advanced
+    ensures { λ r. ⌜ r ≡ outsideSequence byte ⌝ }
+{
+    if is_between(byte, 0x20, 0x7E) {
+        return Advanced {
+            half: NOTHING_READ,
+            event: Event::Text(byte),
+        };
+    }
+    if is_control(byte) {
+        return Advanced {
+            half: NOTHING_READ,
+            event: Event::Control(byte),
+        };
+    }
+    if byte == 0x1B {
+        return Advanced {
+            half: ESC_READ,
+            event: Event::Nothing,
+        };
+    }
+    if 0x80 <= byte {
+        return Advanced {
+            half: NOTHING_READ,
+            event: Event::Refused,
+        };
+    }
+    Advanced {
+        half: NOTHING_READ,
+        event: Event::Nothing,
+    }
+}
+
+// 20 to 7E after ESC.
+fn after_esc(byte: u8) -> Advanced
+    ensures { λ r. ⌜ r ≡ afterEsc byte ⌝ }
+{
+    if byte <= 0x2F {
+        return Advanced {
+            half: INTERMEDIATE_READ,
+            event: Event::Nothing,
+        };
+    }
+    if byte == 0x5B {
+        return Advanced {
+            half: BRACKET_READ,
+            event: Event::Nothing,
+        };
+    }
+    Advanced {
+        half: NOTHING_READ,
+        event: Event::EscCommand(byte),
+    }
+}
+
+// 20 to 7E after ESC and an intermediate.
+fn after_intermediate(byte: u8) -> Advanced
+    ensures { λ r. ⌜ r ≡ afterIntermediate byte ⌝ }
+{
+    if byte <= 0x2F {
+        return Advanced {
+            half: INTERMEDIATE_READ,
+            event: Event::Nothing,
+        };
+    }
+    Advanced {
+        half: NOTHING_READ,
+        event: Event::Refused,
+    }
+}
+
+// The largest that argument `i`, counted from 0, may be where `reached` of them are reached.
+fn largest_argument(i: usize, reached: usize) -> u16
+    ensures { λ r. ⌜ r ≡ largestArgument i reached ⌝ }
+{
+    if i < reached {
+        return 9999;
+    }
+    0
+}
+
+fn arguments_fit(arguments: [u16; 8], reached: usize) -> bool
+    ensures { λ r. ⌜ r ≡ argumentsFit reached 0 arguments ⌝ }
+{
+    let mut i: usize = 0;
+    while i < 8 {
+        let largest = largest_argument(i, reached);
+        if largest < arguments[i] {
+            return false;
+        }
+        i += 1;
+    }
+    true
+}
+
+impl HalfRead {
+    // Document 01's number 2 asks this of the half-read record.
+    pub fn is_valid(self) -> bool
+        ensures { λ r. ⌜ r ≡ validHalfRead self ⌝ }
+    {
+        let arguments = self.arguments;
+        let count = self.count;
+        if self.spoilt {
+            if self.kind != AFTER_BRACKET {
+                return false;
+            }
+            if count != 1 {
+                return false;
+            }
+            return arguments_fit(arguments, 0);
+        }
+        if self.kind == AFTER_BRACKET {
+            if is_between(count, 1, 8) {
+                return arguments_fit(arguments, count as usize);
+            }
+            return false;
+        }
+        if AFTER_INTERMEDIATE < self.kind {
+            return false;
+        }
+        if count != 0 {
+            return false;
+        }
+        arguments_fit(arguments, 0)
+    }
+
+    // A digit is put at the end of the last argument.
+    fn with_digit(self, digit: u8) -> Self
+        requires { ⌜ (1 ≤ self .count) × (self .count ≤ 8) × (digit ≤ 9) ⌝ }
+        ensures { λ r. ⌜ r ≡ withDigit self digit ⌝ }
+    {
+        if self.spoilt {
+            return self;
+        }
+        let last = (self.count - 1) as usize;
+        let value = self.arguments[last] as u32 * 10 + digit as u32;
+        if 9999 < value {
+            return SPOILT;
+        }
+        let mut half = self;
+        half.arguments[last] = value as u16;
+        half
+    }
+
+    // A semicolon starts the next argument.
+    fn with_next_argument(self) -> Self
+        ensures { λ r. ⌜ r ≡ withNextArgument self ⌝ }
+    {
+        if self.spoilt {
+            return self;
+        }
+        if 8 <= self.count {
+            return SPOILT;
+        }
+        let mut half = self;
+        half.count = self.count + 1;
+        half
+    }
+
+    // 20 to 7E after ESC [.
+    fn after_bracket(self, byte: u8) -> Advanced
+        requires { ⌜ (1 ≤ self .count) × (self .count ≤ 8) ⌝ }
+        ensures { λ r. ⌜ r ≡ afterBracket self byte ⌝ }
+    {
+        if is_between(byte, 0x30, 0x39) {
+            return Advanced {
+                half: self.with_digit(byte - 0x30),
+                event: Event::Nothing,
+            };
+        }
+        if byte == 0x3B {
+            return Advanced {
+                half: self.with_next_argument(),
+                event: Event::Nothing,
+            };
+        }
+        if byte < 0x40 {
+            return Advanced {
+                half: SPOILT,
+                event: Event::Nothing,
+            };
+        }
+        if self.spoilt {
+            return Advanced {
+                half: NOTHING_READ,
+                event: Event::Refused,
+            };
+        }
+        Advanced {
+            half: NOTHING_READ,
+            event: Event::BracketCommand(byte),
+        }
+    }
+
+    // Any byte inside a sequence.
+    fn inside_sequence(self, byte: u8) -> Advanced
+        requires { ⌜ validHalfRead self ≡ true ⌝ }
+        requires { ⌜ (self .kind ≡ 0 → ⊥) ⌝ }
+        ensures { λ r. ⌜ r ≡ insideSequence self byte ⌝ }
+    {
+        if is_cancel(byte) {
+            return Advanced {
+                half: NOTHING_READ,
+                event: Event::Nothing,
+            };
+        }
+        if byte == 0x1B {
+            return Advanced {
+                half: ESC_READ,
+                event: Event::Nothing,
+            };
+        }
+        if is_between(byte, 0x20, 0x7E) {
+            if self.kind == AFTER_ESC {
+                return after_esc(byte);
+            }
+            if self.kind == AFTER_INTERMEDIATE {
+                return after_intermediate(byte);
+            }
+            return self.after_bracket(byte);
+        }
+        Advanced {
+            half: NOTHING_READ,
+            event: Event::Refused,
+        }
+    }
+
+    // The record and the event after one host byte.
+    pub fn advance(self, byte: u8) -> Advanced
+        requires { ⌜ validHalfRead self ≡ true ⌝ }
+        ensures { λ r. ⌜ r ≡ advanceOf self byte ⌝ }
+    {
+        if self.kind == NONE {
+            return outside_sequence(byte);
+        }
+        self.inside_sequence(byte)
+    }
+}

@@ -1,0 +1,64 @@
+-- Laws of tests and choices, for proofs that follow a table.
+use mathlib.Core.Path.{_≡_, refl, sym, _∙_}
+use mathlib.Core.Bool.{Bool, true, false}
+use Prim.Native.Nat.{ℕ, _≤_}
+use native.Mathlib.Omega.{arith}
+use borrow.Author.Tests.{lt-ltb, le-ltb, le-leb, lt-leb, eq-eqb, ne-eqb, leb-true}
+use Rattle.words.specs.Choice.{if_then_else_, _and_, _or_, _is_to_}
+
+pub true-is-not-false : true ≡ false → ⊥
+true-is-not-false p = let z : _≡_ {A = ℕ} 0 1 = cc in omega arith
+
+module _ {A : Type 0} where
+  pub then-case : (t : Bool) (a b : A) → t ≡ true → (if t then a else b) ≡ a
+  unfolding if_then_else_
+  then-case true a b p = refl
+  then-case false a b p = absurd (true-is-not-false (sym p))
+
+  pub else-case : (t : Bool) (a b : A) → t ≡ false → (if t then a else b) ≡ b
+  unfolding if_then_else_
+  else-case true a b p = absurd (true-is-not-false p)
+  else-case false a b p = refl
+
+-- What holds of both lines of a choice holds of the choice.
+pub either-line : {A : Type 0} (P : A → Type 0) (t : Bool) (a b : A) → (t ≡ true → P a) → (t ≡ false → P b) → P (if t then a else b)
+unfolding if_then_else_
+either-line P true a b f g = f refl
+either-line P false a b f g = g refl
+
+module _ (a b : Bool) where
+  pub both-hold : a ≡ true → b ≡ true → (a and b) ≡ true
+  unfolding _and_
+  both-hold p q = rw p q
+
+  pub first-decides : a ≡ true → (a and b) ≡ b
+  unfolding _and_
+  first-decides p = rw p
+
+  pub first-fails : a ≡ false → (a and b) ≡ false
+  unfolding _and_
+  first-fails p = rw p
+
+pub both : {a b : Bool} → (a and b) ≡ true → (a ≡ true) × (b ≡ true)
+unfolding _and_
+both {a = true} p = (refl, p)
+both {a = false} p = absurd (true-is-not-false (sym p))
+
+pub range-holds : (n low high : ℕ) → (n is low to high) ≡ true → (low ≤ n) × (n ≤ high)
+unfolding _is_to_
+range-holds n low high p = let h = both p in (leb-true low n (h .0), leb-true n high (h .1))
+
+pub range-is : (n low high : ℕ) → low ≤ n → n ≤ high → (n is low to high) ≡ true
+unfolding _is_to_
+range-is n low high p q = both-hold _ _ (le-leb low n p) (le-leb n high q)
+
+-- A test that a function answered.
+module _ (n low high : ℕ) (answer : Bool) (told : answer ≡ (n is low to high)) where
+  pub is-in : answer ≡ true → (n is low to high) ≡ true
+  is-in p = sym told ∙ p
+
+  pub is-out : answer ≡ false → (n is low to high) ≡ false
+  is-out p = sym told ∙ p
+
+-- What `search` is handed where a function follows a table.
+pub ruleset tests = (then-case, else-case, both-hold, first-decides, first-fails, is-in, is-out, lt-ltb, le-ltb, le-leb, lt-leb, eq-eqb, ne-eqb)

@@ -1,0 +1,1 @@
+// The vocabulary of the definitions has no code: see specs/ and proofs/.
