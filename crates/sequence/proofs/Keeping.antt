@@ -1,18 +1,18 @@
 -- `advance` keeps the half-read record valid. Each proof follows the lines of the definition it speaks of.
-use mathlib.Core.Path.{_≡_, refl, sym, ap, _∙_}
+use mathlib.Core.Path.{_≡_, refl, sym, _∙_}
 use mathlib.Core.List.{List, [], _∷_}
 use mathlib.Core.Bool.{Bool, true, false}
-use Prim.Native.Nat.{ℕ, zero, suc, _+_, _-_, _*_, _<_, _≤_}
+use Prim.Native.Nat.{ℕ, zero, suc, _+_, _-_, _*_, _≤_}
 use native.Mathlib.Nat.{add-zero}
 use native.Mathlib.Omega.{arith}
 use borrow.Author.Tests.{lt-ltb, le-leb, eq-eqb, ltb-true, ltb-false, leb-true, leb-false, eqb-true, eqb-false}
 use lib.Dec.{ltb, leb, eqb}
-use lib.ListN.{getD, set}
+use lib.ListN.{set}
 use Rattle.words.specs.Choice.{if_then_else_, _and_, _is_to_}
 use Rattle.words.proofs.Choosing.{then-case, else-case, either-line, both, both-hold, range-holds, range-is}
 use Rattle.sequence.specs.declared.HalfRead.{HalfRead}
 use Rattle.sequence.specs.declared.Advanced.{Advanced}
-use Rattle.sequence.specs.Record.{bare, nothingRead, escRead, intermediateRead, bracketRead, spoiltRead, largestArgument, argumentsFit, validHalfRead, lastArgument, withLastArgument, withDigit, withNextArgument}
+use Rattle.sequence.specs.Record.{nothingRead, escRead, intermediateRead, bracketRead, spoiltRead, largestArgument, argumentsFit, validHalfRead, lastArgument, withLastArgument, withDigit, withNextArgument}
 use Rattle.sequence.specs.Reading.{outsideSequence, afterEsc, afterIntermediate, afterBracket, insideSequence, advanceOf}
 
 abbrev Valid : HalfRead → Type 0

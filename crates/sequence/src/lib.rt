@@ -76,6 +76,22 @@ const SPOILT: HalfRead = HalfRead {
     spoilt: true,
 };
 
+// What several rules give: a sequence dropped, a new one started, a refused command.
+const DROPPED: Advanced = Advanced {
+    half: NOTHING_READ,
+    event: Event::Nothing,
+};
+
+const STARTED_ANEW: Advanced = Advanced {
+    half: ESC_READ,
+    event: Event::Nothing,
+};
+
+const REFUSED: Advanced = Advanced {
+    half: NOTHING_READ,
+    event: Event::Refused,
+};
+
 // Whether n is low to high.
 fn is_between(n: u8, low: u8, high: u8) -> bool
     ensures { λ r. ⌜ r ≡ (n is low to high) ⌝ }
@@ -125,21 +141,12 @@ fn outside_sequence(byte: u8) -> Advanced
         };
     }
     if byte == 0x1B {
-        return Advanced {
-            half: ESC_READ,
-            event: Event::Nothing,
-        };
+        return STARTED_ANEW;
     }
     if 0x80 <= byte {
-        return Advanced {
-            half: NOTHING_READ,
-            event: Event::Refused,
-        };
+        return REFUSED;
     }
-    Advanced {
-        half: NOTHING_READ,
-        event: Event::Nothing,
-    }
+    DROPPED
 }
 
 // 20 to 7E after ESC.
@@ -174,10 +181,7 @@ fn after_intermediate(byte: u8) -> Advanced
             event: Event::Nothing,
         };
     }
-    Advanced {
-        half: NOTHING_READ,
-        event: Event::Refused,
-    }
+    REFUSED
 }
 
 // The largest that argument `i`, counted from 0, may be where `reached` of them are reached.
@@ -240,7 +244,7 @@ impl HalfRead {
         requires { ⌜ (1 ≤ self .count) × (self .count ≤ 8) × (digit ≤ 9) ⌝ }
         ensures { λ r. ⌜ r ≡ withDigit self digit ⌝ }
     {
-        if self.spoilt {
+        if self.spoilt { // nothing adds to it
             return self;
         }
         let last = (self.count - 1) as usize;
@@ -292,10 +296,7 @@ impl HalfRead {
             };
         }
         if self.spoilt {
-            return Advanced {
-                half: NOTHING_READ,
-                event: Event::Refused,
-            };
+            return REFUSED;
         }
         Advanced {
             half: NOTHING_READ,
@@ -310,16 +311,10 @@ impl HalfRead {
         ensures { λ r. ⌜ r ≡ insideSequence self byte ⌝ }
     {
         if is_cancel(byte) {
-            return Advanced {
-                half: NOTHING_READ,
-                event: Event::Nothing,
-            };
+            return DROPPED;
         }
         if byte == 0x1B {
-            return Advanced {
-                half: ESC_READ,
-                event: Event::Nothing,
-            };
+            return STARTED_ANEW; // and not refused
         }
         if is_between(byte, 0x20, 0x7E) {
             if self.kind == AFTER_ESC {
@@ -330,10 +325,7 @@ impl HalfRead {
             }
             return self.after_bracket(byte);
         }
-        Advanced {
-            half: NOTHING_READ,
-            event: Event::Refused,
-        }
+        REFUSED // and not executed
     }
 
     // The record and the event after one host byte.

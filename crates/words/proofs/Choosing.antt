@@ -4,7 +4,7 @@ use mathlib.Core.Bool.{Bool, true, false}
 use Prim.Native.Nat.{ℕ, _≤_}
 use native.Mathlib.Omega.{arith}
 use borrow.Author.Tests.{lt-ltb, le-ltb, le-leb, lt-leb, eq-eqb, ne-eqb, leb-true}
-use Rattle.words.specs.Choice.{if_then_else_, _and_, _or_, _is_to_}
+use Rattle.words.specs.Choice.{if_then_else_, _and_, _is_to_}
 
 pub true-is-not-false : true ≡ false → ⊥
 true-is-not-false p = let z : _≡_ {A = ℕ} 0 1 = cc in omega arith

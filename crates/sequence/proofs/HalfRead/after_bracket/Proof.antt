@@ -1,6 +1,5 @@
 use mathlib.Core.Path.{sym, _∙_}
 use Rattle.words.proofs.Choosing.{range-holds}
-use native.Mathlib.Omega.{arith}
 use borrow.Author.Needs.{needs}
 use Rattle.sequence.specs.Reading.{afterBracket}
 use Rattle.sequence.proofs.Laws.{reading}

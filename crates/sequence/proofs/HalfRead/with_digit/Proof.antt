@@ -1,7 +1,5 @@
-use Prim.Native.Nat.{_-_}
 use native.Mathlib.Omega.{arith}
 use borrow.Author.Needs.{needs}
-use lib.ListN.{getD}
 use mir.Syntax.{w16}
 use mir.Val.{Fits}
 use Rattle.words.proofs.Choosing.{tests}

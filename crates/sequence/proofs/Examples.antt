@@ -1,0 +1,77 @@
+-- The definitions of reading, computed on bytes worked out by hand from document 01: the events, and the record left half read.
+use mathlib.Core.Path.{_≡_, refl}
+use mathlib.Core.List.{List, [], _∷_, map}
+use mathlib.Core.Bool.{false}
+use Prim.Native.Nat.{ℕ}
+use Rattle.words.specs.Choice.{if_then_else_, _and_, _or_, _is_to_}
+use Rattle.sequence.specs.declared.HalfRead.{HalfRead}
+use Rattle.sequence.specs.declared.Event.{Event}
+use Rattle.sequence.specs.declared.Event.the-variants.{Nothing, Text, Control, EscCommand, BracketCommand, Refused}
+use Rattle.sequence.specs.Record.{nothingRead, escRead, intermediateRead, bracketRead, spoiltRead, withDigit, withNextArgument}
+use Rattle.sequence.specs.Reading.{isControl, isCancel, outsideSequence, afterEsc, afterIntermediate, afterBracket, insideSequence, advanceOf}
+
+record Read : Type 0 where
+  events : List Event
+  left : HalfRead
+
+-- an event that is nothing is not written down
+noted : Event → List Event → List Event
+noted Nothing later = later
+noted (Text byte) later = Text byte ∷ later
+noted (Control byte) later = Control byte ∷ later
+noted (EscCommand byte) later = EscCommand byte ∷ later
+noted (BracketCommand byte) later = BracketCommand byte ∷ later
+noted Refused later = Refused ∷ later
+
+reading : HalfRead → List ℕ → Read
+reading half [] = record { events = []; left = half }
+reading half (byte ∷ bytes) =
+    let now = advanceOf half byte in
+    let later = reading (now .half) bytes in
+    record { events = noted (now .event) (later .events); left = later .left }
+
+record Example : Type 0 where
+  bytes : List ℕ
+  read : Read
+
+gives : List ℕ → List Event → HalfRead → Example
+gives bytes events left = record { bytes = bytes; read = record { events = events; left = left } }
+
+bracket : List ℕ → ℕ → HalfRead
+bracket arguments count = record { kind = 3; arguments = arguments; count = count; spoilt = false }
+
+examples : List Example
+examples =
+    -- text, the controls that act, and the bytes that are ignored, outside a sequence
+    gives (0x20 ∷ 0x7E ∷ []) (Text 0x20 ∷ Text 0x7E ∷ []) nothingRead
+    ∷ gives (0x08 ∷ 0x09 ∷ 0x0A ∷ 0x0D ∷ []) (Control 0x08 ∷ Control 0x09 ∷ Control 0x0A ∷ Control 0x0D ∷ []) nothingRead
+    ∷ gives (0x00 ∷ 0x07 ∷ 0x0B ∷ 0x18 ∷ 0x1A ∷ 0x1F ∷ 0x7F ∷ []) [] nothingRead
+    -- 18, 1A and 1B inside one
+    ∷ gives (0x1B ∷ 0x18 ∷ 0x41 ∷ []) (Text 0x41 ∷ []) nothingRead
+    ∷ gives (0x1B ∷ 0x5B ∷ 0x31 ∷ 0x1A ∷ 0x41 ∷ []) (Text 0x41 ∷ []) nothingRead
+    ∷ gives (0x1B ∷ 0x5B ∷ 0x31 ∷ 0x1B ∷ []) [] escRead
+    ∷ gives (0x1B ∷ 0x1B ∷ 0x44 ∷ []) (EscCommand 0x44 ∷ []) nothingRead
+    -- other controls and 7F inside one are not executed; 80 to FF is refused anywhere
+    ∷ gives (0x1B ∷ 0x5B ∷ 0x31 ∷ 0x0A ∷ 0x41 ∷ []) (Refused ∷ Text 0x41 ∷ []) nothingRead
+    ∷ gives (0x1B ∷ 0x7F ∷ []) (Refused ∷ []) nothingRead
+    ∷ gives (0x80 ∷ 0x1B ∷ 0xFF ∷ []) (Refused ∷ Refused ∷ []) nothingRead
+    -- ESC and intermediates
+    ∷ gives (0x1B ∷ 0x28 ∷ 0x2F ∷ []) [] intermediateRead
+    ∷ gives (0x1B ∷ 0x28 ∷ 0x2F ∷ 0x42 ∷ 0x42 ∷ []) (Refused ∷ Text 0x42 ∷ []) nothingRead
+    -- ESC [ and arguments: omitted, 9,999 and 10,000, eight and nine
+    ∷ gives (0x1B ∷ 0x5B ∷ []) [] bracketRead
+    ∷ gives (0x1B ∷ 0x5B ∷ 0x48 ∷ []) (BracketCommand 0x48 ∷ []) nothingRead
+    ∷ gives (0x1B ∷ 0x5B ∷ 0x32 ∷ 0x34 ∷ 0x3B ∷ 0x38 ∷ 0x30 ∷ []) [] (bracket (24 ∷ 80 ∷ 0 ∷ 0 ∷ 0 ∷ 0 ∷ 0 ∷ 0 ∷ []) 2)
+    ∷ gives (0x1B ∷ 0x5B ∷ 0x30 ∷ 0x39 ∷ 0x39 ∷ 0x39 ∷ 0x39 ∷ []) [] (bracket (9999 ∷ 0 ∷ 0 ∷ 0 ∷ 0 ∷ 0 ∷ 0 ∷ 0 ∷ []) 1)
+    ∷ gives (0x1B ∷ 0x5B ∷ 0x31 ∷ 0x30 ∷ 0x30 ∷ 0x30 ∷ 0x30 ∷ []) [] spoiltRead
+    ∷ gives (0x1B ∷ 0x5B ∷ 0x3B ∷ 0x3B ∷ 0x3B ∷ 0x3B ∷ 0x3B ∷ 0x3B ∷ 0x3B ∷ 0x37 ∷ []) [] (bracket (0 ∷ 0 ∷ 0 ∷ 0 ∷ 0 ∷ 0 ∷ 0 ∷ 7 ∷ []) 8)
+    ∷ gives (0x1B ∷ 0x5B ∷ 0x3B ∷ 0x3B ∷ 0x3B ∷ 0x3B ∷ 0x3B ∷ 0x3B ∷ 0x3B ∷ 0x3B ∷ 0x6D ∷ []) (Refused ∷ []) nothingRead
+    -- spoilt, and nothing adds to it
+    ∷ gives (0x1B ∷ 0x5B ∷ 0x3F ∷ 0x35 ∷ 0x3B ∷ 0x36 ∷ []) [] spoiltRead
+    ∷ gives (0x1B ∷ 0x5B ∷ 0x31 ∷ 0x20 ∷ 0x6D ∷ 0x6D ∷ []) (Refused ∷ Text 0x6D ∷ []) nothingRead
+    ∷ []
+
+-- Each of the examples reads as it says.
+as-worked-out : map (λ (e : Example). reading nothingRead (e .bytes)) examples ≡ map (λ (e : Example). e .read) examples
+unfolding if_then_else_ _and_ _or_ _is_to_ withDigit withNextArgument isControl isCancel outsideSequence afterEsc afterIntermediate afterBracket insideSequence advanceOf noted reading gives bracket examples
+as-worked-out = refl
