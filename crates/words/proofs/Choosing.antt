@@ -4,7 +4,7 @@ use mathlib.Core.Bool.{Bool, true, false}
 use Prim.Native.Nat.{ℕ, _≤_}
 use native.Mathlib.Omega.{arith}
 use borrow.Author.Tests.{lt-ltb, le-ltb, le-leb, lt-leb, eq-eqb, ne-eqb, leb-true}
-use Rattle.words.specs.Choice.{if_then_else_, _and_, _is_to_}
+use Rattle.words.specs.Choice.{if_then_else_, _and_, _or_, _is_to_}
 
 pub true-is-not-false : true ≡ false → ⊥
 true-is-not-false p = let z : _≡_ {A = ℕ} 0 1 = cc in omega arith
@@ -39,6 +39,22 @@ module _ (a b : Bool) where
   unfolding _and_
   first-fails p = rw p
 
+  pub second-fails : b ≡ false → (a and b) ≡ false
+  unfolding _and_
+  second-fails p = rw p (fails a)
+    where
+      fails : (a : Bool) → (a and false) ≡ false
+      fails true = refl
+      fails false = refl
+
+  pub first-holds : a ≡ true → (a or b) ≡ true
+  unfolding _or_
+  first-holds p = rw p
+
+  pub second-decides : a ≡ false → (a or b) ≡ b
+  unfolding _or_
+  second-decides p = rw p
+
 pub both : {a b : Bool} → (a and b) ≡ true → (a ≡ true) × (b ≡ true)
 unfolding _and_
 both {a = true} p = (refl, p)
@@ -61,4 +77,4 @@ module _ (n low high : ℕ) (answer : Bool) (told : answer ≡ (n is low to high
   is-out p = sym told ∙ p
 
 -- What `search` is handed where a function follows a table.
-pub ruleset tests = (then-case, else-case, both-hold, first-decides, first-fails, is-in, is-out, lt-ltb, le-ltb, le-leb, lt-leb, eq-eqb, ne-eqb)
+pub ruleset tests = (then-case, else-case, both-hold, first-decides, first-fails, first-holds, second-decides, is-in, is-out, lt-ltb, le-ltb, le-leb, lt-leb, eq-eqb, ne-eqb)

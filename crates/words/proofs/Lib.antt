@@ -1,2 +1,5 @@
 pub mod Choosing
 pub mod Walking
+pub mod Writing
+pub mod Passing
+pub mod Output

@@ -1,0 +1,12 @@
+-- Document 01, "Fields, keys and blocks": rows and columns in blocks and reports have no leading zeros.
+use mathlib.Core.List.{List, [], _∷_}
+use Prim.Native.Nat.{ℕ, _+_, _/_, _%_}
+use lib.Dec.{ltb}
+use Rattle.words.specs.Choice.{if_then_else_}
+
+-- A number below 1,000 in decimal digits.
+unfoldable pub decimal : ℕ → List ℕ
+decimal number =
+    if ltb number 10 then (0x30 + number) ∷ []
+    else if ltb number 100 then (0x30 + number / 10) ∷ (0x30 + number % 10) ∷ []
+    else (0x30 + number / 100) ∷ (0x30 + number / 10 % 10) ∷ (0x30 + number % 10) ∷ []

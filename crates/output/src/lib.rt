@@ -1,0 +1,78 @@
+// Bytes and decimal numbers, written into a lent output from a place on; each function gives the place after.
+ghost use mathlib.Core.Path.{_≡_};
+ghost use mathlib.Core.List.{[], _∷_};
+ghost use Prim.Native.Nat.{_+_, _/_, _%_, _<_, _≤_};
+ghost use lib.ListN.{length};
+ghost use Rattle.words.specs.Output.{Wrote};
+ghost use Rattle.output.specs.Decimal.{decimal};
+
+// How often a unit goes into a number, and what is left.
+struct CountedOff {
+    times: usize,
+    left: usize,
+}
+
+// Counted by subtraction: there is no divide instruction on a small panel.
+fn count_off(number: usize, unit: usize) -> CountedOff
+    requires { ⌜ 0 < unit ⌝ }
+    ensures { λ r. ⌜ (r .times ≡ number / unit) × (r .left ≡ number % unit) ⌝ }
+{
+    let mut times = 0;
+    let mut left = number;
+    while unit <= left {
+        left -= unit;
+        times += 1;
+    }
+    CountedOff { times, left }
+}
+
+pub fn decimal_length(number: usize) -> usize
+    ensures { λ r. ⌜ r ≡ length (decimal number) ⌝ }
+{
+    if number < 10 {
+        return 1;
+    }
+    if number < 100 {
+        return 2;
+    }
+    3
+}
+
+pub fn put_byte(out: &mut [u8], at: usize, byte: u8) -> usize
+    requires { ⌜ at < length (now out) ⌝ }
+    ensures { λ r. ⌜ Wrote at (byte ∷ []) (now (out .entry)) r (now (out .exit)) ⌝ }
+{
+    out[at] = byte;
+    at + 1
+}
+
+fn put_digit(out: &mut [u8], at: usize, digit: usize) -> usize
+    requires { ⌜ (digit ≤ 9) × (at < length (now out)) ⌝ }
+    ensures { λ r. ⌜ Wrote at ((0x30 + digit) ∷ []) (now (out .entry)) r (now (out .exit)) ⌝ }
+{
+    put_byte(out, at, (0x30 + digit) as u8)
+}
+
+fn put_two_digits(out: &mut [u8], at: usize, number: usize) -> usize
+    requires { ⌜ (number < 100) × (at + 2 ≤ length (now out)) ⌝ }
+    ensures { λ r. ⌜ Wrote at ((0x30 + number / 10) ∷ (0x30 + number % 10) ∷ []) (now (out .entry)) r (now (out .exit)) ⌝ }
+{
+    let tens = count_off(number, 10);
+    let next = put_digit(out, at, tens.times);
+    put_digit(out, next, tens.left)
+}
+
+pub fn put_decimal(out: &mut [u8], at: usize, number: usize) -> usize
+    requires { ⌜ (number < 1000) × (at + length (decimal number) ≤ length (now out)) ⌝ }
+    ensures { λ r. ⌜ Wrote at (decimal number) (now (out .entry)) r (now (out .exit)) ⌝ }
+{
+    if number < 10 { // no leading zero
+        return put_digit(out, at, number);
+    }
+    if number < 100 {
+        return put_two_digits(out, at, number);
+    }
+    let hundreds = count_off(number, 100);
+    let next = put_digit(out, at, hundreds.times);
+    put_two_digits(out, next, hundreds.left)
+}

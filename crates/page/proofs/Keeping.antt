@@ -1,0 +1,151 @@
+-- What each operation keeps: the size of the page, and that its characters and marks are as they may be.
+use mathlib.Core.Path.{_≡_, refl, _∙_}
+use mathlib.Core.Bool.{Bool, true}
+use mathlib.Core.List.{List, [], _∷_}
+use Prim.Native.Nat.{ℕ, _-_, _<_, _≤_}
+use native.Mathlib.Omega.{arith}
+use borrow.Author.Tests.{ltb-true, lt-ltb}
+use lib.ListN.{length, take, drop, getD, replicate, length-set, length-append, length-take, length-drop, length-replicate}
+use Rattle.words.specs.Lists.{every}
+use Rattle.words.proofs.Choosing.{either-line, both, both-hold, range-is}
+use Rattle.words.proofs.Writing.{length-each, length-onPart}
+use Rattle.words.proofs.Passing.{passes, every-append, every-set, every-replicate, every-take, every-drop, every-each, every-onPart}
+use Rattle.page.specs.Marks.{validCharacter, validMark, withModified, withoutModified}
+use Rattle.page.specs.Page.{Page, pageOf, validPage, textStored, typed, erased, scrolledUp, scrolledDown, tagged, blanked, closedUp, movedRight, partStored, sentMark, modifiedCleared}
+
+-- An operation takes no cell away and adds none.
+pub record SameSize (before after : Page) : Type 0 where
+  pub characters : length (after .characters) ≡ length (before .characters)
+  pub marks : length (after .marks) ≡ length (before .marks)
+
+module _ (page : Page) where
+  pub text-same-size : (cell character pen : ℕ) → SameSize page (textStored cell character pen page)
+  unfolding textStored
+  text-same-size cell character pen = record { characters = simp length-set; marks = simp length-set }
+
+  pub typed-same-size : (cell character : ℕ) → SameSize page (typed cell character page)
+  unfolding typed
+  typed-same-size cell character = record { characters = simp length-set; marks = simp length-set }
+
+  pub erased-same-size : (mode : Bool) (from to : ℕ) → SameSize page (erased mode from to page)
+  unfolding erased
+  erased-same-size mode from to = record { characters = simp length-each; marks = simp length-each }
+
+  pub cleared-same-size : SameSize page (pageOf (page .characters) (modifiedCleared (page .marks)))
+  unfolding modifiedCleared
+  cleared-same-size = record { characters = refl; marks = length-each _ _ _ }
+
+module _ (page : Page) (columns : ℕ) (fits : columns ≤ length (page .characters)) (same : length (page .marks) ≡ length (page .characters)) where
+  pub scrolled-up-same-size : SameSize page (scrolledUp columns page)
+  unfolding scrolledUp
+  scrolled-up-same-size = record {
+    characters = simp (length-append, length-drop, length-replicate) (omega arith);
+    marks = simp (length-append, length-drop, length-replicate) (omega arith);
+  }
+
+  pub scrolled-down-same-size : SameSize page (scrolledDown columns page)
+  unfolding scrolledDown
+  scrolled-down-same-size = record {
+    characters = simp (length-append, length-take, length-replicate) (omega arith);
+    marks = simp (length-append, length-take, length-replicate) (omega arith);
+  }
+
+module _ (page : Page) (from to : ℕ) (fits : to ≤ length (page .characters)) where
+  part-same-size : (change : List ℕ → List ℕ) → from ≤ to → ((part : List ℕ) → length part ≡ to - from → length (change part) ≡ to - from) → SameSize page (partStored change from to page)
+  unfolding tagged
+  part-same-size change h keeps = record { characters = length-onPart from to change (page .characters) h fits keeps; marks = length-each _ _ _ }
+
+  pub blanked-same-size : from ≤ to → SameSize page (partStored blanked from to page)
+  unfolding blanked
+  blanked-same-size h = part-same-size blanked h (λ part n. length-replicate _ _ ∙ n)
+
+  pub closed-up-same-size : from < to → SameSize page (partStored closedUp from to page)
+  unfolding closedUp
+  closed-up-same-size h = part-same-size closedUp (omega arith) (λ part n. simp (length-append, length-drop) (omega arith))
+
+  pub moved-right-same-size : from < to → SameSize page (partStored movedRight from to page)
+  unfolding movedRight
+  moved-right-same-size h = part-same-size movedRight (omega arith) (λ part n. simp length-take (omega arith))
+
+-- The marks that the keys and sending leave, and the blanks, are as they may be.
+modified-valid : (mark : ℕ) → validMark mark ≡ true → validMark (withModified mark) ≡ true
+modified-valid mark p = lt-ltb (withModified mark) 0x80 (omega (arith, ltb-true mark 0x80 p))
+
+sent-valid : (mark : ℕ) → validMark mark ≡ true → validMark (sentMark mark) ≡ true
+unfolding sentMark
+sent-valid mark p =
+    either-line (λ m. validMark m ≡ true) _ _ _ (λ _. p) (λ _. lt-ltb (withoutModified mark) 0x80 (omega (arith, ltb-true mark 0x80 p)))
+
+blank-valid : validCharacter 0x20 ≡ true
+blank-valid = range-is 0x20 0x20 0x7E (omega arith) (omega arith)
+
+blanked-valid : (part : List ℕ) → every validCharacter (blanked part) ≡ true
+unfolding blanked
+blanked-valid part = every-replicate _ (length part) 0x20 blank-valid
+
+-- A valid page stays valid.
+module _ (page : Page) (valid : validPage page ≡ true) where
+  characters-valid : every validCharacter (page .characters) ≡ true
+  unfolding validPage
+  characters-valid = both valid .0
+
+  marks-valid : every validMark (page .marks) ≡ true
+  unfolding validPage
+  marks-valid = both valid .1
+
+  pub text-keeps-valid : (cell character pen : ℕ) → validCharacter character ≡ true → validMark pen ≡ true → validPage (textStored cell character pen page) ≡ true
+  unfolding validPage textStored
+  text-keeps-valid cell character pen p q = both-hold _ _ (every-set _ _ cell character p characters-valid) (every-set _ _ cell pen q marks-valid)
+
+  pub typed-keeps-valid : (cell character : ℕ) → cell < length (page .marks) → validCharacter character ≡ true → validPage (typed cell character page) ≡ true
+  unfolding validPage typed
+  typed-keeps-valid cell character here p =
+      let mark = getD (page .marks) cell 0 in
+      both-hold _ _
+      (every-set _ _ cell character p characters-valid)
+      (every-set _ _ cell (withModified mark) (modified-valid mark (passes _ _ marks-valid cell here)) marks-valid)
+
+  pub erased-keeps-valid : (mode : Bool) (from to : ℕ) → validPage (erased mode from to page) ≡ true
+  unfolding validPage erased
+  erased-keeps-valid mode from to =
+      both-hold _ _
+      (every-each _ _ 0 _ (λ cell x p. either-line (λ y. validCharacter y ≡ true) _ _ _ (λ _. blank-valid) (λ _. p)) characters-valid)
+      (every-each _ _ 0 _ (λ cell x p. either-line (λ y. validMark y ≡ true) _ _ _ (λ _. refl) (λ _. p)) marks-valid)
+
+  pub scrolled-up-keeps-valid : (columns : ℕ) → validPage (scrolledUp columns page) ≡ true
+  unfolding validPage scrolledUp
+  scrolled-up-keeps-valid columns =
+      both-hold _ _
+      (every-append _ (drop columns (page .characters)) _ (every-drop _ columns _ characters-valid) (every-replicate _ columns 0x20 blank-valid))
+      (every-append _ (drop columns (page .marks)) _ (every-drop _ columns _ marks-valid) (every-replicate _ columns 0 refl))
+
+  pub scrolled-down-keeps-valid : (columns : ℕ) → validPage (scrolledDown columns page) ≡ true
+  unfolding validPage scrolledDown
+  scrolled-down-keeps-valid columns =
+      both-hold _ _
+      (every-append _ (replicate columns 0x20) _ (every-replicate _ columns 0x20 blank-valid) (every-take _ (length (page .characters) - columns) _ characters-valid))
+      (every-append _ (replicate columns 0) _ (every-replicate _ columns 0 refl) (every-take _ (length (page .marks) - columns) _ marks-valid))
+
+  part-keeps-valid : (change : List ℕ → List ℕ) (from to : ℕ) → ((part : List ℕ) → every validCharacter part ≡ true → every validCharacter (change part) ≡ true) → validPage (partStored change from to page) ≡ true
+  unfolding validPage tagged
+  part-keeps-valid change from to keeps =
+      both-hold _ _
+      (every-onPart _ from to change (page .characters) keeps characters-valid)
+      (every-each _ _ 0 _ (λ cell x p. either-line (λ y. validMark y ≡ true) _ _ _ (λ _. modified-valid x p) (λ _. p)) marks-valid)
+
+  pub blanked-keeps-valid : (from to : ℕ) → validPage (partStored blanked from to page) ≡ true
+  blanked-keeps-valid from to = part-keeps-valid blanked from to (λ part p. blanked-valid part)
+
+  pub closed-up-keeps-valid : (from to : ℕ) → validPage (partStored closedUp from to page) ≡ true
+  unfolding closedUp
+  closed-up-keeps-valid from to =
+      part-keeps-valid closedUp from to (λ part p. every-append _ (drop 1 part) (0x20 ∷ []) (every-drop _ 1 part p) (every-replicate _ 1 0x20 blank-valid))
+
+  pub moved-right-keeps-valid : (from to : ℕ) → validPage (partStored movedRight from to page) ≡ true
+  unfolding movedRight
+  moved-right-keeps-valid from to =
+      part-keeps-valid movedRight from to (λ part p. every-append _ (0x20 ∷ []) (take (length part - 1) part) (every-replicate _ 1 0x20 blank-valid) (every-take _ (length part - 1) part p))
+
+  pub cleared-keeps-valid : validPage (pageOf (page .characters) (modifiedCleared (page .marks))) ≡ true
+  unfolding validPage modifiedCleared
+  cleared-keeps-valid = both-hold _ _ characters-valid (every-each _ _ 0 _ (λ cell x p. sent-valid x p) marks-valid)

@@ -1,0 +1,44 @@
+-- What the definitions say of lists. Places are counted from 0.
+use mathlib.Core.Bool.{Bool, true}
+use mathlib.Core.List.{List, [], _∷_, _++_}
+use Prim.Native.Nat.{ℕ, zero, suc, _+_, _-_}
+use lib.Dec.{leb, ltb}
+use lib.ListN.{take, drop}
+use Rattle.words.specs.Choice.{if_then_else_, _and_}
+
+-- A place from `from` on and before `to`.
+unfoldable pub within : ℕ → ℕ → ℕ → Bool
+within from to place = leb from place and ltb place to
+
+-- Every element passes the test.
+unfoldable pub every : {A : Type 0} → (A → Bool) → List A → Bool
+every test [] = true
+every test (x ∷ rest) = test x and every test rest
+
+-- Each element x, at its place k, becomes f k x; the first one's place is i.
+unfoldable pub eachFrom : (ℕ → ℕ → ℕ) → ℕ → List ℕ → List ℕ
+eachFrom f i [] = []
+eachFrom f i (x ∷ rest) = f i x ∷ eachFrom f (i + 1) rest
+
+abbrev pub each : (ℕ → ℕ → ℕ) → List ℕ → List ℕ
+each f list = eachFrom f 0 list
+
+-- Of the n places from i on, those that pass the test, in order.
+unfoldable pub placesFrom : (ℕ → Bool) → ℕ → ℕ → List ℕ
+placesFrom test i zero = []
+placesFrom test i (suc n) =
+    let rest = placesFrom test (i + 1) n in
+    if test i then i ∷ rest
+    else rest
+
+-- The list with a change of its part from `from` to before `to` in the place of that part.
+unfoldable pub onPart : ℕ → ℕ → (List ℕ → List ℕ) → List ℕ → List ℕ
+onPart from to change list = take from list ++ (change (take (to - from) (drop from list)) ++ drop to list)
+
+-- The elements that pass the test, in order.
+unfoldable pub selected : {A : Type 0} → (A → Bool) → List A → List A
+selected test [] = []
+selected test (x ∷ rest) =
+    let later = selected test rest in
+    if test x then x ∷ later
+    else later
