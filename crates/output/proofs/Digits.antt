@@ -4,7 +4,8 @@ use mathlib.Core.List.{List, [], _∷_, _++_}
 use Prim.Native.Nat.{ℕ, _+_, _/_, _%_, _<_, _≤_}
 use native.Mathlib.Omega.{arith}
 use borrow.Author.Tests.{lt-ltb, le-ltb}
-use Rattle.words.proofs.Choosing.{then-case, else-case}
+use lib.ListN.{length}
+use Rattle.words.proofs.Choosing.{then-case, else-case, either-line}
 use Rattle.output.specs.Decimal.{decimal}
 
 abbrev pub twoDigits : ℕ → List ℕ
@@ -27,3 +28,9 @@ module _ (number : ℕ) where
       let tens : number / 10 % 10 ≡ number % 100 / 10 = omega arith in
       let ones : number % 10 ≡ number % 100 % 10 = omega arith in
       else-case _ _ _ (le-ltb _ _ ten) ∙ else-case _ _ _ (le-ltb _ _ h) ∙ (λ i. (0x30 + number / 100) ∷ (0x30 + tens i) ∷ (0x30 + ones i) ∷ [])
+
+pub three-at-most : (number : ℕ) → length (decimal number) ≤ 3
+unfolding decimal
+three-at-most number =
+    either-line (λ (digits : List ℕ). length digits ≤ 3) _ _ _ (λ _. omega arith)
+    (λ _. either-line (λ (digits : List ℕ). length digits ≤ 3) _ _ _ (λ _. omega arith) (λ _. omega arith))

@@ -1,7 +1,7 @@
 -- Rows and columns, counted along: what division says of the next cell and of the one before.
 use mathlib.Core.Path.{_≡_, sym, ap, _∙_}
-use Prim.Native.Nat.{ℕ, zero, suc, _+_, _-_, _*_, _/_, _%_, _<_}
-use native.Mathlib.Nat.{div-add-mod', mod-lt, zero-mul}
+use Prim.Native.Nat.{ℕ, zero, suc, _+_, _-_, _*_, _/_, _%_, _<_, _≤_}
+use native.Mathlib.Nat.{div-add-mod', div-lt-iff-lt-mul, mod-lt, zero-mul}
 use native.Mathlib.Omega.{arith}
 use Rattle.words.proofs.Walking.{once-more}
 use lib.Arith.{digits-div, digits-mod}
@@ -12,6 +12,16 @@ use Rattle.places.specs.Places.{placeOf, Counted}
 pub place-is : (columns cell row column above left : ℕ) → left < columns → cell ≡ above * columns + left → row ≡ above + 1 → column ≡ left + 1 → record { cell = cell; row = row; column = column } ≡ placeOf columns cell
 unfolding placeOf
 place-is columns cell row column above left h e r c = rw (e, digits-div above h, digits-mod above h, r, c)
+
+-- A place that was counted along.
+pub cell-is : (columns cell : ℕ) {place : Place} → place ≡ placeOf columns cell → place .cell ≡ cell
+unfolding placeOf
+cell-is columns cell is = ap (λ (p : Place). p .cell) is
+
+pub counted : {columns : ℕ} (cell : ℕ) {place : Place} → 0 < columns → place ≡ placeOf columns cell → cell ≤ 7680 → Counted columns place
+counted {columns} cell some is low =
+    let here = cell-is columns cell is in
+    record { some-columns = some; right = is ∙ ap (placeOf columns) (sym here); on-page = omega arith }
 
 -- What a counted place says of itself.
 pub record Spelt (columns : ℕ) (place : Place) (above left : ℕ) : Type 0 where
@@ -37,3 +47,10 @@ row-above cell columns (suc above) h e = omega arith
 
 pub row-less : (above columns : ℕ) → 0 < above → above * columns ≡ (above - 1) * columns + columns
 row-less above columns h = let again : above ≡ above - 1 + 1 = omega arith in ap (λ (n : ℕ). n * columns) again ∙ once-more (above - 1) columns
+
+-- Where the cell is one of so many rows, the place's row is one of them, and its column one of the columns.
+pub on-rows : {columns : ℕ} {place : Place} (rows : ℕ) → Counted columns place → place .cell < rows * columns → (place .row ≤ rows) × (place .column ≤ columns)
+on-rows {columns} {place} rows counted h =
+    let now = spelt counted in
+    let above : place .cell / columns < rows = div-lt-iff-lt-mul (counted .some-columns) .1 h in
+    (omega arith, omega arith)

@@ -63,7 +63,7 @@ more-fit reached i (argument ∷ rest) p =
     both-hold _ _ (le-leb argument (largestArgument i (reached + 1)) (omega arith)) (more-fit reached (i + 1) rest (both p .1))
 
 -- the records that the rules name
-nothing-valid : Valid nothingRead
+pub nothing-valid : validHalfRead nothingRead ≡ true
 unfolding validHalfRead if_then_else_ _and_ argumentsFit largestArgument
 nothing-valid = refl
 

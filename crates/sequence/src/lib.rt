@@ -41,7 +41,7 @@ pub struct Advanced {
     pub event: Event,
 }
 
-const NOTHING_READ: HalfRead = HalfRead {
+pub const NOTHING_READ: HalfRead = HalfRead {
     kind: NONE,
     arguments: [0; 8],
     count: 0,

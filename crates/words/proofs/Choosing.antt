@@ -1,13 +1,18 @@
 -- Laws of tests and choices, for proofs that follow a table.
 use mathlib.Core.Path.{_≡_, refl, sym, _∙_}
 use mathlib.Core.Bool.{Bool, true, false}
-use Prim.Native.Nat.{ℕ, _≤_}
+use mathlib.Core.Logic.{_⊎_, inl, inr}
+use Prim.Native.Nat.{ℕ, _≤_, _<_}
 use native.Mathlib.Omega.{arith}
-use borrow.Author.Tests.{lt-ltb, le-ltb, le-leb, lt-leb, eq-eqb, ne-eqb, leb-true}
+use lib.Dec.{ltb}
+use borrow.Author.Tests.{lt-ltb, le-ltb, le-leb, lt-leb, eq-eqb, ne-eqb, leb-true, ltb-true, ltb-false}
 use Rattle.words.specs.Choice.{if_then_else_, _and_, _or_, _is_to_}
 
 pub true-is-not-false : true ≡ false → ⊥
 true-is-not-false p = let z : _≡_ {A = ℕ} 0 1 = cc in omega arith
+
+pub not-both : {t : Bool} → t ≡ true → t ≡ false → ⊥
+not-both p q = true-is-not-false (sym p ∙ q)
 
 module _ {A : Type 0} where
   pub then-case : (t : Bool) (a b : A) → t ≡ true → (if t then a else b) ≡ a
@@ -25,6 +30,17 @@ pub either-line : {A : Type 0} (P : A → Type 0) (t : Bool) (a b : A) → (t �
 unfolding if_then_else_
 either-line P true a b f g = f refl
 either-line P false a b f g = g refl
+
+-- What follows where a test holds and follows where it fails.
+pub either-way : {A : Type 0} (t : Bool) → (t ≡ true → A) → (t ≡ false → A) → A
+either-way true f g = f refl
+either-way false f g = g refl
+
+pub less-or-not : {A : Type 0} (a b : ℕ) → (a < b → A) → (b ≤ a → A) → A
+less-or-not a b f g = either-way (ltb a b) (λ t. f (ltb-true a b t)) (λ t. g (ltb-false a b t))
+
+pub le-or-lt : (a b : ℕ) → (a ≤ b) ⊎ (b < a)
+le-or-lt a b = less-or-not b a inr inl
 
 module _ (a b : Bool) where
   pub both-hold : a ≡ true → b ≡ true → (a and b) ≡ true
@@ -59,6 +75,21 @@ pub both : {a b : Bool} → (a and b) ≡ true → (a ≡ true) × (b ≡ true)
 unfolding _and_
 both {a = true} p = (refl, p)
 both {a = false} p = absurd (true-is-not-false (sym p))
+
+pub neither : {a b : Bool} → (a or b) ≡ false → (a ≡ false) × (b ≡ false)
+unfolding _or_
+neither {a = true} p = absurd (true-is-not-false p)
+neither {a = false} p = (refl, p)
+
+pub one-fails : {a b : Bool} → (a and b) ≡ false → (a ≡ false) ⊎ (b ≡ false)
+unfolding _and_
+one-fails {a = true} p = inr p
+one-fails {a = false} p = inl refl
+
+pub one-holds : {a b : Bool} → (a or b) ≡ true → (a ≡ true) ⊎ (b ≡ true)
+unfolding _or_
+one-holds {a = true} p = inl refl
+one-holds {a = false} p = inr p
 
 pub range-holds : (n low high : ℕ) → (n is low to high) ≡ true → (low ≤ n) × (n ≤ high)
 unfolding _is_to_

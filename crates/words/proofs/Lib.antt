@@ -2,4 +2,5 @@ pub mod Choosing
 pub mod Walking
 pub mod Writing
 pub mod Passing
+pub mod Elements
 pub mod Output

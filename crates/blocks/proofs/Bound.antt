@@ -1,0 +1,208 @@
+-- No block exceeds 35,185 bytes, and one has as many.
+use mathlib.Core.Path.{_≡_, refl, sym, ap, _∙_}
+use mathlib.Core.Bool.{Bool, true, false, not}
+use Prim.Native.Nat.{ℕ, zero, suc, _+_, _-_, _*_, _<_, _≤_, max}
+use native.Mathlib.Nat.{suc-mul, zero-mul}
+use native.Mathlib.Numerals.{add-one}
+use native.Mathlib.Omega.{arith}
+use lib.Arith.{digits-div, digits-mod}
+use lib.Dec.{eqb, eqb·suc-suc}
+use lib.ListN.{length, replicate, length-replicate}
+use Rattle.words.specs.Choice.{if_then_else_, _and_, _or_}
+use Rattle.words.proofs.Choosing.{either-line, either-way, both-hold}
+use Rattle.words.proofs.Writing.{length-each, getD-each}
+use Rattle.page.specs.Marks.{unprotected}
+use Rattle.page.specs.Page.{Page}
+use Rattle.places.specs.Places.{placeOf}
+use Rattle.words.proofs.Walking.{once-more}
+use Rattle.fields.specs.Fields.{opensStretch, joined, startsField}
+use Rattle.output.specs.Decimal.{decimal}
+use Rattle.blocks.specs.Blocks.{block}
+use Rattle.blocks.proofs.Claims.{Whole, blankForm, firstAndEven}
+use Rattle.blocks.proofs.Listing.{joined-free, joined-starts-not, protected-starts-not}
+use Rattle.blocks.proofs.Weighing.{total, total-append, total-same, opening, weight, block-length, no-longer}
+
+-- A cell by the rows above it and the columns to its left: whether a stretch begins there, and what a field's start needs.
+opensAt : ℕ → ℕ → Bool
+opensAt above left = eqb left 0
+
+needed : ℕ → ℕ → ℕ
+needed above left = 4 + length (decimal (above + 1)) + length (decimal (left + 1))
+
+-- The most that the cells from some cell on can add, where the cell before it is protected and where it is unprotected.
+record Most : Type 0 where
+  after-protected : ℕ
+  after-unprotected : ℕ
+
+mostAfter : Bool → Most → ℕ
+mostAfter free bound = if free then bound .after-unprotected else bound .after-protected
+
+-- One cell more, in front of these: if it is unprotected, it starts a field or belongs to that of the cell before it.
+oneMore : Bool → ℕ → Most → Most
+oneMore opens start later =
+    record {
+      after-protected = max (later .after-protected) (start + 1 + later .after-unprotected);
+      after-unprotected = max (later .after-protected) (if opens then start + 1 + later .after-unprotected else 1 + later .after-unprotected);
+    }
+
+-- Of n cells of a row, and of those behind them.
+most : ℕ → ℕ → ℕ → Most → Most
+most above left zero behind = behind
+most above left (suc n) behind = let later = most above (left + 1) n behind in oneMore (opensAt above left) (needed above left) later
+
+-- Of the last n rows.
+mostOfRows : ℕ → ℕ → ℕ → Most
+mostOfRows columns above zero = record { after-protected = 0; after-unprotected = 0 }
+mostOfRows columns above (suc n) = let below = mostOfRows columns (above + 1) n in most above 0 columns below
+
+-- What it adds keeps to this bound, if what comes after it does.
+one-more : (free before opens : Bool) (added later start : ℕ) (bound : Most)
+    → (free ≡ false → added ≡ 0) → (opens ≡ false → before ≡ true → free ≡ true → added ≡ 1) → added ≤ start + 1 → later ≤ mostAfter free bound
+    → added + later ≤ mostAfter before (oneMore opens start bound)
+unfolding if_then_else_ mostAfter oneMore
+one-more false true true added later start bound none one most h = omega (arith, none refl)
+one-more false true false added later start bound none one most h = omega (arith, none refl)
+one-more false false opens added later start bound none one most h = omega (arith, none refl)
+one-more true true true added later start bound none one most h = omega arith
+one-more true true false added later start bound none one most h = omega (arith, one refl refl refl)
+one-more true false opens added later start bound none one most h = omega arith
+
+module _ (free : ℕ → Bool) (columns : ℕ) where
+  -- What a cell adds: nothing if it is protected, one byte if it is joined to the one before it, and in any case no more than a start and a byte.
+  protected-weight : (cell : ℕ) → free cell ≡ false → weight free columns cell ≡ 0
+  unfolding weight if_then_else_
+  protected-weight cell f = rw (protected-starts-not free columns cell f, f)
+
+  joined-weight : (cell : ℕ) → joined free (placeOf columns cell) ≡ true → weight free columns cell ≡ 1
+  unfolding weight if_then_else_
+  joined-weight cell j = rw (joined-starts-not free columns cell j, joined-free free columns cell j)
+
+  any-weight : (cell : ℕ) → weight free columns cell ≤ opening columns cell + 1
+  unfolding weight
+  any-weight cell =
+      let one : (if free cell then 1 else 0) ≤ 1 = either-line (λ (n : ℕ). n ≤ 1) (free cell) _ _ (λ _. omega arith) (λ _. omega arith) in
+      either-line (λ (n : ℕ). n + (if free cell then 1 else 0) ≤ opening columns cell + 1) (startsField free (placeOf columns cell)) _ _ (λ _. omega arith) (λ _. omega arith)
+
+  module _ (above left : ℕ) (fits : left < columns) where
+    start-weight : weight free columns (above * columns + left) ≤ needed above left + 1
+    unfolding opening placeOf needed
+    start-weight = rw (digits-div above fits, digits-mod above fits) at (any-weight (above * columns + left))
+
+    opens-at : opensStretch (placeOf columns (above * columns + left)) ≡ opensAt above left
+    unfolding opensStretch placeOf opensAt
+    opens-at = rw (digits-mod above fits, add-one left) (eqb·suc-suc left 0)
+
+    inside-weight : opensAt above left ≡ false → free (above * columns + left - 1) ≡ true → free (above * columns + left) ≡ true → weight free columns (above * columns + left) ≡ 1
+    unfolding joined placeOf
+    inside-weight inside before here = joined-weight (above * columns + left) (both-hold _ _ (ap not (opens-at ∙ inside)) (both-hold _ _ before here))
+
+  -- The n cells at the end of a row with what comes after it, and the last n rows.
+  row-from : (above n left : ℕ) (behind : Most) (rest : ℕ) → left + n ≡ columns → rest ≤ mostAfter (free (above * columns + columns - 1)) behind
+      → total (weight free columns) (above * columns + left) n + rest ≤ mostAfter (free (above * columns + left - 1)) (most above left n behind)
+  unfolding total most
+  row-from above zero left behind rest e h = let at-end : left ≡ columns = omega arith in rw at-end (omega arith)
+  row-from above (suc n) left behind rest e h =
+      let fits : left < columns = omega arith in
+      let cell : ℕ = above * columns + left in
+      let next : above * columns + (left + 1) ≡ cell + 1 = omega arith in
+      let before-next : cell + 1 - 1 ≡ cell = omega arith in
+      let later = rw (next, before-next) at (row-from above n (left + 1) behind rest (omega arith) h) in
+      omega (
+        arith,
+        one-more (free cell) (free (cell - 1)) (opensAt above left) (weight free columns cell) _ (needed above left) _
+            (protected-weight cell) (inside-weight above left fits) (start-weight above left fits) later,
+      )
+
+  rows-from : (n above : ℕ) → total (weight free columns) (above * columns) (n * columns) ≤ mostAfter (free (above * columns - 1)) (mostOfRows columns above n)
+  unfolding mostOfRows total
+  rows-from zero above = rw (zero-mul columns) (omega arith)
+  rows-from (suc n) above =
+      let size : suc n * columns ≡ columns + n * columns = suc-mul n columns ∙ omega arith in
+      let first : above * columns + 0 ≡ above * columns = omega arith in
+      let below = rw (once-more above columns) at (rows-from n (above + 1)) in
+      rw (size, total-append) (rw first at (row-from above columns 0 (mostOfRows columns (above + 1) n) _ (omega arith) below))
+
+-- More columns and more rows can only add.
+record NotAbove (a b : Most) : Type 0 where
+  protected-case : a .after-protected ≤ b .after-protected
+  unprotected-case : a .after-unprotected ≤ b .after-unprotected
+
+one-adds : (opens : Bool) (start : ℕ) (a b : Most) → NotAbove a b → NotAbove (oneMore opens start a) (oneMore opens start b)
+unfolding oneMore if_then_else_
+one-adds true start a b h = record { protected-case = omega arith; unprotected-case = omega arith }
+one-adds false start a b h = record { protected-case = omega arith; unprotected-case = omega arith }
+
+one-is-more : (opens : Bool) (start : ℕ) (a b : Most) → NotAbove a b → NotAbove a (oneMore opens start b)
+unfolding oneMore if_then_else_
+one-is-more true start a b h = record { protected-case = omega arith; unprotected-case = omega arith }
+one-is-more false start a b h = record { protected-case = omega arith; unprotected-case = omega arith }
+
+more-columns : (above n more left : ℕ) (a b : Most) → NotAbove a b → NotAbove (most above left n a) (most above left (n + more) b)
+unfolding most
+more-columns above zero zero left a b h = h
+more-columns above zero (suc more) left a b h =
+    let size : 0 + suc more ≡ suc (0 + more) = omega arith in
+    rw size (one-is-more _ _ _ _ (more-columns above zero more (left + 1) a b h))
+more-columns above (suc n) more left a b h =
+    let size : suc n + more ≡ suc (n + more) = omega arith in
+    rw size (one-adds _ _ _ _ (more-columns above n more (left + 1) a b h))
+
+more-rows : (columns wider n more above : ℕ) → NotAbove (mostOfRows columns above n) (mostOfRows (columns + wider) above (n + more))
+unfolding mostOfRows
+more-rows columns wider zero more above = record { protected-case = omega arith; unprotected-case = omega arith }
+more-rows columns wider (suc n) more above =
+    let size : suc n + more ≡ suc (n + more) = omega arith in
+    rw size (more-columns above columns wider 0 _ _ (more-rows columns wider n more (above + 1)))
+
+-- The largest page, of 48 rows of 160 columns.
+largest : Most
+largest = record { after-protected = 35184; after-unprotected = 35184 }
+
+largest-is : mostOfRows 160 0 48 ≡ largest
+unfolding mostOfRows most oneMore opensAt needed decimal if_then_else_ largest
+largest-is = refl
+
+below-largest : (free : Bool) (bound : Most) → NotAbove bound largest → mostAfter free bound ≤ 35184
+unfolding mostAfter largest
+below-largest free bound h = either-line (λ (n : ℕ). n ≤ 35184) free _ _ (λ _. h .unprotected-case) (λ _. h .protected-case)
+
+pub bounded : (full : Bool) (rows columns : ℕ) (page : Page) → rows ≤ 48 → columns ≤ 160 → length (page .marks) ≡ rows * columns → Whole page
+    → length (block full columns page) ≤ 35185
+bounded full rows columns page few narrow size whole =
+    let free = unprotected (page .marks) in
+    let wider : columns + (160 - columns) ≡ 160 = omega arith in
+    let more : rows + (48 - rows) ≡ 48 = omega arith in
+    let first : 0 * columns ≡ 0 = zero-mul columns in
+    let sum : total (weight free columns) 0 (rows * columns) ≤ mostAfter (free 0) (mostOfRows columns 0 rows) = rw first at (rows-from free columns rows 0) in
+    let bound : NotAbove (mostOfRows columns 0 rows) largest = rw (wider, more, largest-is) at (more-rows columns (160 - columns) rows (48 - rows) 0) in
+    omega (arith, no-longer full columns page, rw size at (block-length columns page whole), below-largest (free 0) _ bound)
+
+-- The block of a blank form, by the cells that are to be unprotected.
+module _ (free : ℕ → Bool) (cells : ℕ) where
+  form-marks : length (blankForm free cells .marks) ≡ cells
+  form-marks = length-each _ 0 (replicate cells 0) ∙ length-replicate cells 0
+
+  form-free : (cell : ℕ) → cell < cells → unprotected (blankForm free cells .marks) cell ≡ free cell
+  unfolding unprotected if_then_else_
+  form-free cell h =
+      let listed : cell < length (replicate {A = ℕ} cells 0) = omega (arith, length-replicate {A = ℕ} cells 0) in
+      let same : 0 + cell ≡ cell = omega arith in
+      rw (getD-each (λ k m. if free k then 0 else 1) 0 (replicate cells 0) cell listed, same) (either-way (free cell) (λ f. rw f) (λ f. rw f))
+
+  -- What a cell adds is told by it and the cell before it.
+  same-weight : (other : ℕ → Bool) (columns cell : ℕ) → other cell ≡ free cell → other (cell - 1) ≡ free (cell - 1) → weight other columns cell ≡ weight free columns cell
+  unfolding weight startsField joined placeOf
+  same-weight other columns cell e b = rw (e, b)
+
+  form-length : (columns : ℕ) → length (block true columns (blankForm free cells)) ≡ 1 + total (weight free columns) 0 cells
+  form-length columns =
+      let marks = blankForm free cells .marks in
+      block-length columns (blankForm free cells) (length-replicate cells 0x20 ∙ sym form-marks)
+      ∙ rw form-marks (ap (λ (sum : ℕ). 1 + sum) (total-same _ _ 0 cells (λ k l h. same-weight (unprotected marks) columns k (form-free k (omega arith)) (form-free (k - 1) (omega arith)))))
+
+all-added : total (weight firstAndEven 160) 0 7680 ≡ 35184
+unfolding total weight firstAndEven startsField joined opensStretch placeOf opening decimal if_then_else_ _and_ _or_
+all-added = refl
+
+pub reached : length (block true 160 (blankForm firstAndEven (48 * 160))) ≡ 35185
+reached = form-length firstAndEven 7680 160 ∙ ap (λ (sum : ℕ). 1 + sum) all-added

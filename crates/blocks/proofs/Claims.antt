@@ -1,0 +1,70 @@
+-- The words in which the theorems on blocks are stated.
+use mathlib.Core.Path.{_≡_}
+use mathlib.Core.Bool.{Bool, true, false}
+use mathlib.Core.List.{List}
+use Prim.Native.Nat.{ℕ, _*_, _%_, _<_, _≤_}
+use lib.Dec.{ltb, eqb}
+use lib.ListN.{length, getD, replicate}
+use Rattle.words.specs.Choice.{if_then_else_, _and_, _or_}
+use Rattle.words.specs.Lists.{every, each}
+use Rattle.page.specs.Marks.{isModified, validCharacter, unprotected}
+use Rattle.page.specs.Page.{Page}
+use Rattle.places.specs.Places.{placeOf}
+use Rattle.fields.specs.Fields.{Field, fieldsOf}
+use Rattle.blocks.specs.Blocks.{Entry, entriesSent}
+
+-- An entry that a page can send: a row and a column below 1,000, and characters 20 to 7E.
+unfoldable pub validEntry : Entry → Bool
+validEntry entry = ltb (entry .row) 1000 and ltb (entry .column) 1000 and every validCharacter (entry .characters)
+
+-- A page of no more than 48 rows of no more than 160 columns, with characters 20 to 7E.
+pub record Sendable (columns : ℕ) (page : Page) : Type 0 where
+  pub some-columns : 0 < columns
+  pub columns-fit : columns ≤ 160
+  pub rows-fit : length (page .marks) ≤ 48 * columns
+  pub characters-valid : every validCharacter (page .characters) ≡ true
+
+-- A character for each cell.
+abbrev pub Whole : Page → Type 0
+Whole page = length (page .characters) ≡ length (page .marks)
+
+-- The fields of a page.
+abbrev pub fieldsOn : ℕ → Page → List Field
+fieldsOn columns page = fieldsOf (unprotected (page .marks)) columns (length (page .marks))
+
+-- Two pages of one size; and with the same unprotected cells.
+pub record SameSize (p q : Page) : Type 0 where
+  pub marks : length (p .marks) ≡ length (q .marks)
+  pub characters : length (p .characters) ≡ length (q .characters)
+
+pub record SameForm (p q : Page) : Type 0 where
+  pub size : SameSize p q
+  pub unprotected-cells : (k : ℕ) → k < length (q .marks) → unprotected (p .marks) k ≡ unprotected (q .marks) k
+
+-- Two pages with the same fields, and in these the same characters.
+pub record FilledAlike (columns : ℕ) (p q : Page) : Type 0 where
+  pub entries : entriesSent true columns p ≡ entriesSent true columns q
+  pub fields : fieldsOn columns p ≡ fieldsOn columns q
+  pub form : SameForm p q
+  pub characters : (k : ℕ) → k < length (q .marks) → unprotected (q .marks) k ≡ true → getD (p .characters) k 0 ≡ getD (q .characters) k 0
+
+-- No unprotected cell of the page is modified.
+abbrev pub NothingModified : Page → Type 0
+NothingModified page = (k : ℕ) → k < length (page .marks) → unprotected (page .marks) k ≡ true → isModified (getD (page .marks) k 0) ≡ false
+
+-- From the page p to the page q, each unprotected cell that is not modified on q has kept its character.
+abbrev pub UnmodifiedKept : Page → Page → Type 0
+UnmodifiedKept p q =
+    (k : ℕ) → k < length (q .marks) → unprotected (q .marks) k ≡ true → isModified (getD (q .marks) k 0) ≡ false → getD (p .characters) k 0 ≡ getD (q .characters) k 0
+
+-- A page of 20s on which just these cells are unprotected.
+abbrev pub blankForm : (ℕ → Bool) → ℕ → Page
+blankForm free cells =
+    record {
+      characters = replicate cells 0x20;
+      marks = each (λ cell mark. if free cell then 0 else 1) (replicate cells 0);
+    }
+
+-- Of 160 columns, the first and the even ones.
+unfoldable pub firstAndEven : ℕ → Bool
+firstAndEven cell = eqb (placeOf 160 cell .column) 1 or eqb (placeOf 160 cell .column % 2) 0

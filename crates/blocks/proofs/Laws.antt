@@ -1,0 +1,115 @@
+-- Laws of a block's bytes, for the functions that count and write them.
+use mathlib.Core.Path.{_≡_, refl, sym, ap, _∙_}
+use mathlib.Core.Bool.{Bool, true, false}
+use mathlib.Core.List.{List, [], _∷_, _++_, map}
+use Prim.Native.Nat.{ℕ, suc, _+_, _-_, _<_, _≤_}
+use native.Mathlib.Omega.{arith}
+use lib.ListN.{length, take, drop, getD, length-append}
+use Rattle.words.specs.Choice.{if_then_else_, _and_, _or_}
+use Rattle.words.specs.Lists.{selected}
+use Rattle.words.proofs.Choosing.{then-case, else-case, both-hold, first-fails, second-fails, first-holds, second-decides}
+use Rattle.words.proofs.Output.{length-part}
+use Rattle.page.specs.Marks.{isModified, unprotected}
+use Rattle.page.specs.Page.{Page}
+use Rattle.places.specs.declared.Place.{Place}
+use Rattle.places.specs.Places.{placeOf}
+use Rattle.fields.specs.Fields.{Field, startsField, fieldEnd, fieldFrom, fieldsFrom, fieldsOf}
+use Rattle.fields.proofs.Bounds.{end-of}
+use Rattle.output.specs.Decimal.{decimal}
+use Rattle.blocks.specs.Blocks.{headBytes, entryBytes, entryOf, encode, someModified, isSent, entriesSent, block, bytesAt}
+
+pub head-length : (row column : ℕ) → length (headBytes row column) ≡ 4 + length (decimal row) + length (decimal column)
+unfolding headBytes
+head-length row column = simp length-append (omega arith)
+
+-- the search for a modified cell, a turn at a time
+module _ (marks : List ℕ) (cell to : ℕ) where
+  pub modified-here : cell < to → isModified (getD marks cell 0) ≡ true → someModified marks (to - cell) cell ≡ true
+  unfolding someModified
+  modified-here h found =
+      let more : to - cell ≡ suc (to - (cell + 1)) = omega arith in
+      ap (λ (n : ℕ). someModified marks n cell) more ∙ first-holds _ _ found
+
+  pub modified-later : cell < to → isModified (getD marks cell 0) ≡ false → someModified marks (to - cell) cell ≡ someModified marks (to - (cell + 1)) (cell + 1)
+  unfolding someModified
+  modified-later h not-here =
+      let more : to - cell ≡ suc (to - (cell + 1)) = omega arith in
+      ap (λ (n : ℕ). someModified marks n cell) more ∙ second-decides _ _ not-here
+
+  pub modified-nowhere : to ≤ cell → someModified marks (to - cell) cell ≡ false
+  unfolding someModified
+  modified-nowhere h = let none : to - cell ≡ 0 = omega arith in rw none
+
+-- the end of a field that starts on the page
+pub end-bounds : (free : ℕ → Bool) (columns cells cell : ℕ) → cell < cells → (cell < fieldEnd free columns cells cell) × (fieldEnd free columns cells cell ≤ cells)
+end-bounds free columns cells cell h = let end = end-of free columns cells cell h in (end .high, end .on-page)
+
+-- What the block has for a place that was counted right.
+module _ (full : Bool) (columns : ℕ) (page : Page) (place : Place) (right : place ≡ placeOf columns (place .cell)) where
+  pub unstarted : startsField (unprotected (page .marks)) place ≡ false → bytesAt full columns page (place .cell) ≡ []
+  unfolding bytesAt
+  unstarted none = else-case _ _ _ (first-fails _ _ (ap (startsField (unprotected (page .marks))) (sym right) ∙ none))
+
+  module _ (end : ℕ) (is-end : end ≡ fieldEnd (unprotected (page .marks)) columns (length (page .marks)) (place .cell)) where
+    same-field : isSent full (page .marks) (record { start = place .cell; length = end - place .cell }) ≡ isSent full (page .marks) (fieldFrom (unprotected (page .marks)) columns (length (page .marks)) (place .cell))
+    same-field = rw is-end
+
+    pub unsent : isSent full (page .marks) (record { start = place .cell; length = end - place .cell }) ≡ false → bytesAt full columns page (place .cell) ≡ []
+    unfolding bytesAt
+    unsent none = else-case _ _ _ (second-fails _ _ (sym same-field ∙ none))
+
+    pub sent-is : startsField (unprotected (page .marks)) place ≡ true → isSent full (page .marks) (record { start = place .cell; length = end - place .cell }) ≡ true → bytesAt full columns page (place .cell) ≡ headBytes (place .row) (place .column) ++ take (end - place .cell) (drop (place .cell) (page .characters))
+    unfolding bytesAt entryBytes entryOf
+    sent-is starts sent =
+        then-case _ _ _ (both-hold _ _ (ap (startsField (unprotected (page .marks))) (sym right) ∙ starts) (sym same-field ∙ sent))
+        ∙ (λ i. headBytes (right⁻ i .row) (right⁻ i .column) ++ take (sym is-end i - place .cell) (drop (place .cell) (page .characters)))
+      where
+        right⁻ : placeOf columns (place .cell) ≡ place
+        right⁻ = sym right
+
+    pub sent-length : place .cell < length (page .marks) → length (page .characters) ≡ length (page .marks) → startsField (unprotected (page .marks)) place ≡ true → isSent full (page .marks) (record { start = place .cell; length = end - place .cell }) ≡ true → length (bytesAt full columns page (place .cell)) ≡ length (headBytes (place .row) (place .column)) + (end - place .cell)
+    sent-length here same starts sent =
+        let bounds = end-bounds (unprotected (page .marks)) columns (length (page .marks)) (place .cell) here in
+        let on-page : end ≤ length (page .characters) = omega arith in
+        ap (length {A = ℕ}) (sent-is starts sent)
+        ∙ length-append (headBytes (place .row) (place .column)) (take (end - place .cell) (drop (place .cell) (page .characters)))
+        ∙ ap (λ (n : ℕ). length (headBytes (place .row) (place .column)) + n) (length-part (page .characters) (place .cell) end on-page)
+
+-- The bytes that a block has from a cell on.
+abbrev pub restFrom : Bool → ℕ → Page → ℕ → ℕ → List ℕ
+restFrom full columns page n cell =
+    encode
+    (map (entryOf columns (page .characters))
+    (selected (isSent full (page .marks)) (fieldsFrom (unprotected (page .marks)) columns (length (page .marks)) n cell)))
+
+module _ (full : Bool) (columns : ℕ) (page : Page) where
+  rest-suc : (n cell : ℕ) → restFrom full columns page (suc n) cell ≡ bytesAt full columns page cell ++ restFrom full columns page n (cell + 1)
+  unfolding fieldsFrom selected encode bytesAt if_then_else_ _and_
+  rest-suc n cell = by-tests (startsField (unprotected (page .marks)) (placeOf columns cell)) (isSent full (page .marks) field) refl
+    where
+      field : Field
+      field = fieldFrom (unprotected (page .marks)) columns (length (page .marks)) cell
+
+      later : List Field
+      later = fieldsFrom (unprotected (page .marks)) columns (length (page .marks)) n (cell + 1)
+
+      bytes : List Field → List ℕ
+      bytes fields = encode (map (entryOf columns (page .characters)) (selected (isSent full (page .marks)) fields))
+
+      by-tests : (starts sent : Bool) → isSent full (page .marks) field ≡ sent → bytes (if starts then field ∷ later else later) ≡ (if starts and sent then entryBytes (entryOf columns (page .characters) field) else []) ++ bytes later
+      by-tests true true e = rw e
+      by-tests true false e = rw e
+      by-tests false sent e = refl
+
+  pub rest-next : (cells cell : ℕ) → cell < cells → restFrom full columns page (cells - cell) cell ≡ bytesAt full columns page cell ++ restFrom full columns page (cells - (cell + 1)) (cell + 1)
+  rest-next cells cell h =
+      let more : cells - cell ≡ suc (cells - (cell + 1)) = omega arith in
+      ap (λ (n : ℕ). restFrom full columns page n cell) more ∙ rest-suc (cells - (cell + 1)) cell
+
+  pub rest-ends : (cells cell : ℕ) → cells ≤ cell → restFrom full columns page (cells - cell) cell ≡ 0x03 ∷ []
+  unfolding fieldsFrom selected encode
+  rest-ends cells cell h = let none : cells - cell ≡ 0 = omega arith in rw none
+
+  pub whole-block : block full columns page ≡ restFrom full columns page (length (page .marks) - 0) 0
+  unfolding block entriesSent fieldsOf
+  whole-block = let all : length (page .marks) - 0 ≡ length (page .marks) = omega arith in rw all

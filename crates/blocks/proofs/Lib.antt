@@ -1,0 +1,10 @@
+pub mod Laws
+pub mod Claims
+pub mod Decoding
+pub mod Listing
+pub mod Pages
+pub mod Laying
+pub mod Recovering
+pub mod Weighing
+pub mod Bound
+pub mod Theorems

@@ -1,0 +1,70 @@
+-- The entries that a page sends.
+use mathlib.Core.Path.{_≡_, refl, ap, _∙_}
+use mathlib.Core.Bool.{Bool, true, false}
+use mathlib.Core.List.{List, [], _∷_, map, List·Memᴰ}
+use Prim.Native.Nat.{ℕ, zero, suc, _+_, _/_, _%_, _<_, _≤_}
+use native.Mathlib.Nat.{mod-lt, div-lt-iff-lt-mul}
+use native.Mathlib.Omega.{arith}
+use borrow.Author.Tests.{lt-ltb}
+use lib.ListN.{length, getD}
+use Rattle.words.specs.Lists.{every}
+use Rattle.words.proofs.Choosing.{both-hold, first-holds, second-decides}
+use Rattle.words.proofs.Elements.{every-by-each, every-map, selected-all, selected-none, selected-from}
+use Rattle.words.proofs.Passing.{every-take, every-drop}
+use Rattle.page.specs.Marks.{isModified, validCharacter, unprotected}
+use Rattle.page.specs.Page.{Page}
+use Rattle.places.specs.Places.{placeOf}
+use Rattle.fields.specs.Fields.{Field}
+use Rattle.blocks.specs.Blocks.{encode, entryOf, someModified, isSent, entriesSent, block}
+use Rattle.blocks.specs.Decode.{decode}
+use Rattle.blocks.proofs.Claims.{validEntry, Sendable, fieldsOn, NothingModified}
+use Rattle.blocks.proofs.Decoding.{decode-encode}
+use Rattle.blocks.proofs.Listing.{Listed, listed, field-bounds, field-free}
+
+-- A field of a page's list.
+abbrev pub ListedOn : ℕ → Page → Field → Type 0
+ListedOn columns page field = Listed (unprotected (page .marks)) columns (length (page .marks)) field
+
+module _ (columns : ℕ) (page : Page) (sendable : Sendable columns page) where
+  valid-entry : (field : Field) → ListedOn columns page field → validEntry (entryOf columns (page .characters) field) ≡ true
+  unfolding validEntry entryOf placeOf
+  valid-entry field is =
+      let start = field .start in
+      let row : start / columns < 48 = div-lt-iff-lt-mul (sendable .some-columns) .1 (omega (arith, is .on-page, sendable .rows-fit)) in
+      let column : start % columns < columns = mod-lt start (sendable .some-columns) in
+      both-hold _ _ (lt-ltb (start / columns + 1) 1000 (omega arith))
+      (both-hold _ _ (lt-ltb (start % columns + 1) 1000 (omega (arith, sendable .columns-fit)))
+      (every-take validCharacter (field .length) _ (every-drop validCharacter start (page .characters) (sendable .characters-valid))))
+
+  pub valid-entries : (full : Bool) → every validEntry (entriesSent full columns page) ≡ true
+  unfolding entriesSent
+  valid-entries full =
+      every-map validEntry (entryOf columns (page .characters)) _
+      (every-by-each _ _ (λ field m. valid-entry field (listed _ _ _ field (selected-from (isSent full (page .marks)) field (fieldsOn columns page) m))))
+
+  pub decode-block : (full : Bool) → decode (block full columns page) ≡ entriesSent full columns page
+  unfolding block
+  decode-block full = decode-encode (entriesSent full columns page) (valid-entries full)
+
+module _ (columns : ℕ) (page : Page) where
+  -- A full block has all fields.
+  pub all-sent : entriesSent true columns page ≡ map (entryOf columns (page .characters)) (fieldsOn columns page)
+  unfolding entriesSent isSent
+  all-sent = ap (map (entryOf columns (page .characters))) (selected-all (isSent true (page .marks)) (fieldsOn columns page) (λ field m. first-holds true _ refl))
+
+  -- A changed block of a page with no modified cell that is unprotected.
+  none-modified : (n cell : ℕ) → ((k : ℕ) → cell ≤ k → k < cell + n → isModified (getD (page .marks) k 0) ≡ false) → someModified (page .marks) n cell ≡ false
+  unfolding someModified
+  none-modified zero cell h = refl
+  none-modified (suc n) cell h = second-decides _ _ (h cell (omega arith) (omega arith)) ∙ none-modified n (cell + 1) (λ k l m. h k (omega arith) (omega arith))
+
+  pub nothing-sent : NothingModified page → block false columns page ≡ 0x03 ∷ []
+  unfolding block entriesSent isSent encode
+  nothing-sent unmodified =
+      ap (λ (fields : List Field). encode (map (entryOf columns (page .characters)) fields)) (selected-none (isSent false (page .marks)) (fieldsOn columns page) unsent)
+    where
+      unsent : (field : Field) → List·Memᴰ field (fieldsOn columns page) → isSent false (page .marks) field ≡ false
+      unsent field m =
+          let is : ListedOn columns page field = listed _ _ _ field m in
+          let bounds = field-bounds _ _ _ field is in
+          second-decides false _ refl ∙ none-modified (field .length) (field .start) (λ k l h. unmodified k (omega arith) (field-free _ _ _ field is k l h))

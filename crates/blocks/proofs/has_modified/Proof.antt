@@ -1,0 +1,45 @@
+use mathlib.Core.Path.{_≡_, sym, ap, _∙_}
+use Prim.Native.Nat.{ℕ, _-_, _≤_}
+use native.Mathlib.Omega.{arith}
+use borrow.Author.Needs.{needs}
+use lib.ListN.{length}
+use Rattle.page.specs.Marks.{isModified}
+use Rattle.blocks.specs.Blocks.{someModified}
+use Rattle.blocks.proofs.Laws.{modified-here, modified-later, modified-nowhere}
+use Rattle.blocks.proofs.has_modified.Statement.{statement}
+use Rattle.blocks.proofs.has_modified.Tie as tie
+
+-- no cell before `cell` is modified
+abbrev Inv-loop : tie.InvT-loop
+Inv-loop marks from to cell₀ cell = (cell ≤ to) × (to ≤ length marks) × (someModified marks (to - from) from ≡ someModified marks (to - cell) cell)
+
+abbrev μ-loop : tie.MeasureT-loop
+μ-loop marks from to cell₀ cell = to - cell
+
+returns : tie.Need-returns Inv-loop μ-loop
+returns c =
+    let found = ap isModified (sym (c .before .before .mark-at .ensures)) ∙ sym (c .before .is-modified .ensures) ∙ c .if1 .taken in
+    sym (c .before .before .before .before .loop .inv .2 ∙ modified-here _ _ _ (c .before .before .before .loop-test .taken) found)
+
+loop-again : tie.Need-loop-again Inv-loop μ-loop
+loop-again c =
+    let not-here = ap isModified (sym (c .before .before .mark-at .ensures)) ∙ sym (c .before .is-modified .ensures) ∙ c .if1 .left in
+    (search needs, search needs, c .before .before .before .before .loop .inv .2 ∙ modified-later _ _ _ (c .before .before .before .loop-test .taken) not-here)
+
+returns-2 : tie.Need-returns-2 Inv-loop μ-loop
+returns-2 c = sym (c .before .loop .inv .2 ∙ modified-nowhere _ _ _ (c .loop-test .left))
+
+pub has-modified-spec : {M : Type 1} → statement M
+has-modified-spec =
+    tie.close
+    (tie.spec
+    Inv-loop
+    μ-loop
+    (λ c. search needs)
+    (λ c κs. search needs)
+    (λ c κs. search needs)
+    returns
+    (λ c. search needs)
+    (λ c. search needs)
+    loop-again
+    returns-2)

@@ -1,0 +1,63 @@
+use mathlib.Core.Path.{sym, ap, _∙_}
+use Prim.Native.Nat.{ℕ}
+use native.Mathlib.Omega.{arith}
+use borrow.Author.Needs.{needs}
+use borrow.Author.Tests.{not-true, not-false}
+use lib.ListN.{length}
+use Rattle.page.specs.Page.{pageOf}
+use Rattle.page.specs.Marks.{unprotected}
+use Rattle.output.proofs.Digits.{three-at-most}
+use Rattle.fields.proofs.Walks.{at-first-opens}
+use Rattle.blocks.proofs.Laws.{head-length, end-bounds, unstarted, unsent, sent-length}
+use Rattle.blocks.proofs.length_at.Statement.{statement}
+use Rattle.blocks.proofs.length_at.Tie as tie
+
+starts-field-requires : tie.Need-starts-field-requires
+starts-field-requires c κs = let start = c .before in (search needs, at-first-opens (start .pre .0))
+
+returns : tie.Need-returns
+returns c =
+    let start = c .before .before .before in
+    let none = sym (c .before .starts-field .ensures) ∙ not-true _ (c .if1 .taken) in
+    (λ characters same. sym (ap (length {A = ℕ}) (unstarted _ _ (pageOf characters (start .args .marks .now)) _ (start .pre .0 .right) none)), omega arith)
+
+is-sent-requires : tie.Need-is-sent-requires
+is-sent-requires c κs =
+    let start = c .before .before .before .before in
+    omega (arith, end-bounds (unprotected (start .args .marks .now)) (start .args .columns) (length (start .args .marks .now)) (start .args .place .cell) (start .pre .1 .0))
+
+returns-2 : tie.Need-returns-2
+returns-2 c =
+    let start = c .before .before .before .before .before .before in
+    let none = sym (c .before .is-sent .ensures) ∙ not-true _ (c .if2 .taken) in
+    (λ characters same. sym (ap (length {A = ℕ}) (unsent _ _ (pageOf characters (start .args .marks .now)) _ (start .pre .0 .right) _ (c .before .before .field-end .ensures) none)), omega arith)
+
+entry-length-requires : tie.Need-entry-length-requires
+entry-length-requires c κs =
+    let start = c .before .before .before .before .before .before in
+    omega (arith, end-bounds (unprotected (start .args .marks .now)) (start .args .columns) (length (start .args .marks .now)) (start .args .place .cell) (start .pre .1 .0))
+
+returns-3 : tie.Need-returns-3
+returns-3 c =
+    let start = c .before .before .before .before .before .before .before in
+    let place = start .args .place in
+    let marks = start .args .marks .now in
+    let bounds = end-bounds (unprotected marks) (start .args .columns) (length marks) (place .cell) (start .pre .1 .0) in
+    let starts = sym (c .before .before .before .before .before .starts-field .ensures) ∙ not-false _ (c .before .before .before .before .if1 .left) in
+    let sent = sym (c .before .before .is-sent .ensures) ∙ not-false _ (c .before .if2 .left) in (
+      λ characters same.
+          c .entry-length .ensures ∙ sym (sent-length _ _ (pageOf characters marks) _ (start .pre .0 .right) _ (c .before .before .before .field-end .ensures) (start .pre .1 .0) same starts sent),
+      omega (arith, head-length (place .row) (place .column), three-at-most (place .row), three-at-most (place .column)),
+    )
+
+pub length-at-spec : {M : Type 1} → statement M
+length-at-spec =
+    tie.close
+    (tie.spec
+    starts-field-requires
+    returns
+    (λ c κs. search needs)
+    is-sent-requires
+    returns-2
+    entry-length-requires
+    returns-3)

@@ -1,0 +1,178 @@
+// The block that is sent to the host: first its length, then, only if there is room, its bytes.
+// Its bytes are defined in specs/Blocks.antt.
+use places::Place;
+ghost use mathlib.Core.Path.{_≡_};
+ghost use mathlib.Core.List.{List, [], _∷_};
+ghost use Prim.Native.Nat.{ℕ, _+_, _-_, _*_, _<_, _≤_};
+ghost use lib.ListN.{length, take, drop};
+ghost use Rattle.words.specs.Output.{Wrote};
+ghost use Rattle.page.specs.Page.{pageOf};
+ghost use Rattle.places.specs.Places.{Counted};
+ghost use Rattle.blocks.specs.Blocks.{headBytes, someModified, isSent, bytesAt, block, sending};
+
+// Whether a block was sent, and how many bytes it has.
+pub enum Sent {
+    Bytes(usize),
+    NoRoom,
+}
+
+fn put_head(out: &mut [u8], at: usize, row: usize, column: usize) -> usize
+    requires { ⌜ (row < 1000) × (column < 1000) × (at + length (headBytes row column) ≤ length (now out)) ⌝ }
+    ensures { λ r. ⌜ Wrote at (headBytes row column) (now (out .entry)) r (now (out .exit)) ⌝ }
+{
+    let bracket = output::put_byte(out, at, 0x1B);
+    let digits = output::put_byte(out, bracket, 0x5B);
+    let semicolon = output::put_decimal(out, digits, row);
+    let more_digits = output::put_byte(out, semicolon, 0x3B);
+    let end = output::put_decimal(out, more_digits, column);
+    output::put_byte(out, end, 0x66)
+}
+
+fn put_characters(out: &mut [u8], at: usize, characters: &[u8], from: usize, to: usize) -> usize
+    requires { ⌜ (from ≤ to) × (to ≤ length (now characters)) × (at + (to - from) ≤ length (now out)) ⌝ }
+    ensures { λ r. ⌜ Wrote at (take (to - from) (drop from (now (characters .entry)))) (now (out .entry)) r (now (out .exit)) ⌝ }
+{
+    let mut next = at;
+    let mut cell = from;
+    while cell < to {
+        next = output::put_byte(out, next, characters[cell]);
+        cell += 1;
+    }
+    next
+}
+
+fn has_modified(marks: &[u8], from: usize, to: usize) -> bool
+    requires { ⌜ (from ≤ to) × (to ≤ length (now marks)) ⌝ }
+    ensures { λ r. ⌜ r ≡ someModified (now (marks .entry)) (to - from) from ⌝ }
+{
+    let mut cell = from;
+    while cell < to {
+        if page::is_modified(page::mark_at(marks, cell)) {
+            return true;
+        }
+        cell += 1;
+    }
+    false
+}
+
+fn is_sent(marks: &[u8], full: bool, from: usize, to: usize) -> bool
+    requires { ⌜ (from ≤ to) × (to ≤ length (now marks)) ⌝ }
+    ensures { λ r. ⌜ r ≡ isSent full (now (marks .entry)) (record { start = from; length = to - from }) ⌝ }
+{
+    if full {
+        return true;
+    }
+    has_modified(marks, from, to)
+}
+
+// How many bytes the entry of a field has, from its start to the cell after its end: ESC [ ; f are four of them.
+fn entry_length(place: Place, end: usize) -> usize
+    requires { ⌜ (place .cell ≤ end) × (end ≤ 7680) ⌝ }
+    ensures { λ r. ⌜ r ≡ length (headBytes (place .row) (place .column)) + (end - place .cell) ⌝ }
+{
+    let row = output::decimal_length(place.row);
+    let column = output::decimal_length(place.column);
+    4 + row + column + (end - place.cell)
+}
+
+// How many bytes the block has for a cell.
+fn length_at(marks: &[u8], place: Place, columns: usize, full: bool) -> usize
+    requires { ⌜ Counted columns place ⌝ }
+    requires { ⌜ (place .cell < length (now marks)) × (length (now marks) ≤ 7680) ⌝ }
+    ensures { λ r. ⌜ ((characters : List ℕ) → length characters ≡ length (now (marks .entry)) → r ≡ length (bytesAt full columns (pageOf characters (now (marks .entry))) (place .cell))) ⌝ }
+    ensures { λ r. ⌜ r ≤ 7690 ⌝ }
+{
+    if !fields::starts_field(marks, place) {
+        return 0;
+    }
+    let end = fields::field_end(marks, place, columns);
+    if !is_sent(marks, full, place.cell, end) {
+        return 0;
+    }
+    entry_length(place, end)
+}
+
+// How many bytes the block has.
+pub fn block_length(marks: &[u8], columns: usize, full: bool) -> usize
+    requires { ⌜ (0 < columns) × (length (now marks) ≤ 7680) ⌝ }
+    ensures { λ r. ⌜ ((characters : List ℕ) → length characters ≡ length (now (marks .entry)) → r ≡ length (block full columns (pageOf characters (now (marks .entry))))) ⌝ }
+{
+    let mut total = 1;
+    let mut place = Place::first(columns);
+    while place.cell < marks.len() {
+        total = total + length_at(marks, place, columns, full);
+        place = place.next(columns);
+    }
+    total
+}
+
+// What the block has for a cell, written.
+fn put_at(
+    out: &mut [u8],
+    at: usize,
+    characters: &[u8],
+    marks: &[u8],
+    place: Place,
+    columns: usize,
+    full: bool,
+) -> usize
+    requires { ⌜ Counted columns place ⌝ }
+    requires { ⌜ (columns ≤ 160) × (place .cell < length (now marks)) × (length (now marks) ≤ 48 * columns) × (length (now characters) ≡ length (now marks)) ⌝ }
+    requires { ⌜ at + length (bytesAt full columns (pageOf (now characters) (now marks)) (place .cell)) ≤ length (now out) ⌝ }
+    ensures { λ r. ⌜ Wrote at (bytesAt full columns (pageOf (now (characters .entry)) (now (marks .entry))) (place .cell)) (now (out .entry)) r (now (out .exit)) ⌝ }
+{
+    if !fields::starts_field(marks, place) {
+        return at;
+    }
+    let end = fields::field_end(marks, place, columns);
+    let cell = place.cell;
+    if !is_sent(marks, full, cell, end) {
+        return at;
+    }
+    let next = put_head(out, at, place.row, place.column);
+    put_characters(out, next, characters, cell, end)
+}
+
+// The whole block, written.
+fn put_block(
+    out: &mut [u8],
+    at: usize,
+    characters: &[u8],
+    marks: &[u8],
+    columns: usize,
+    full: bool,
+) -> usize
+    requires { ⌜ (0 < columns) × (columns ≤ 160) × (length (now marks) ≤ 48 * columns) × (length (now characters) ≡ length (now marks)) ⌝ }
+    requires { ⌜ at + length (block full columns (pageOf (now characters) (now marks))) ≤ length (now out) ⌝ }
+    ensures { λ r. ⌜ Wrote at (block full columns (pageOf (now (characters .entry)) (now (marks .entry)))) (now (out .entry)) r (now (out .exit)) ⌝ }
+{
+    let mut next = at;
+    let mut place = Place::first(columns);
+    while place.cell < marks.len() {
+        next = put_at(out, next, characters, marks, place, columns, full);
+        place = place.next(columns);
+    }
+    output::put_byte(out, next, 0x03)
+}
+
+// Sends a block into the room left in the output, and clears modified; where there is too little room nothing happens.
+pub fn send_block(
+    out: &mut [u8],
+    at: usize,
+    characters: &[u8],
+    marks: &mut [u8],
+    columns: usize,
+    full: bool,
+) -> Sent
+    requires { ⌜ (0 < columns) × (columns ≤ 160) × (length (now marks) ≤ 48 * columns) × (length (now characters) ≡ length (now marks)) ⌝ }
+    requires { ⌜ at ≤ length (now out) ⌝ }
+    ensures { λ r. ⌜ record { answer = r; marks = now (marks .exit); output = now (out .exit) } ≡ sending full columns (pageOf (now (characters .entry)) (now (marks .entry))) at (now (out .entry)) ⌝ }
+{
+    let length = block_length(marks, columns, full);
+    if out.len() - at < length {
+        return Sent::NoRoom;
+    }
+    put_block(out, at, characters, marks, columns, full);
+    page::clear_modified(marks);
+    Sent::Bytes(length)
+}

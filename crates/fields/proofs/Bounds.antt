@@ -1,0 +1,168 @@
+-- A field's bounds: a field is a longest run of joined cells, and such a run is around each cell.
+use mathlib.Core.Path.{_≡_, ap}
+use mathlib.Core.Bool.{Bool, true, false}
+use mathlib.Core.Logic.{_⊎_, inl, inr, ⊎-elim}
+use Prim.Native.Nat.{ℕ, zero, suc, _+_, _-_, _<_, _≤_}
+use native.Mathlib.Nat.{eq-or-lt-of-le}
+use native.Mathlib.Omega.{arith}
+use Rattle.words.proofs.Choosing.{either-line, le-or-lt, not-both}
+use Rattle.places.specs.Places.{placeOf}
+use Rattle.fields.specs.Fields.{Field, joined, fieldStart, endFrom, fieldEnd}
+use Rattle.fields.proofs.Claims.{IsField, endOf, _has_, fieldAround, IsAround}
+use Rattle.fields.proofs.Laws.{first-opens, none-opens, one-row, are-joined, are-apart, why-apart, joined-free, joined-within}
+
+-- What is known of the start and of the end that are found from a cell.
+module _ (free : ℕ → Bool) (columns : ℕ) where
+  pub record IsStart (cell start : ℕ) : Type 0 where
+    pub low : start ≤ cell
+    pub inside : (k : ℕ) → start < k → k ≤ cell → joined free (placeOf columns k) ≡ true
+    pub before : joined free (placeOf columns start) ≡ false
+
+  pub start-of : 0 < columns → (cell : ℕ) → IsStart cell (fieldStart free columns cell)
+  unfolding fieldStart
+  start-of some zero =
+      record {
+        low = omega arith;
+        inside = λ k over under. absurd (omega arith);
+        before = are-apart free (placeOf columns zero) (inl (first-opens columns some));
+      }
+  start-of some (suc cell) =
+      let further = start-of some cell in
+      either-line (IsStart (suc cell)) _ _ _
+      (λ j. record {
+        low = omega arith;
+        inside = λ k over under. ⊎-elim (λ same. rw same j) (λ less. further .inside k over (omega arith)) (eq-or-lt-of-le under);
+        before = further .before;
+      })
+      (λ j. record { low = omega arith; inside = λ k over under. absurd (omega arith); before = j })
+
+  pub record IsEnd (cells cell end : ℕ) : Type 0 where
+    pub high : cell < end
+    pub on-page : end ≤ cells
+    pub inside : (k : ℕ) → cell < k → k < end → joined free (placeOf columns k) ≡ true
+    pub after : (end ≡ cells) ⊎ (joined free (placeOf columns end) ≡ false)
+
+  end-from : (cells more cell : ℕ) → cells ≡ cell + 1 + more → IsEnd cells cell (endFrom free columns more cell)
+  unfolding endFrom
+  end-from cells zero cell all =
+      record { high = omega arith; on-page = omega arith; inside = λ k over under. absurd (omega arith); after = inl (omega arith) }
+  end-from cells (suc more) cell all =
+      let further = end-from cells more (cell + 1) (omega arith) in
+      either-line (IsEnd cells cell) _ _ _
+      (λ j. record {
+        high = omega arith;
+        on-page = further .on-page;
+        inside = λ k over under. ⊎-elim (λ same. let here : cell + 1 ≡ k = omega arith in rw (← here) j) (λ more. further .inside k (omega arith) under) (eq-or-lt-of-le over);
+        after = further .after;
+      })
+      (λ j. record { high = omega arith; on-page = omega arith; inside = λ k over under. absurd (omega arith); after = inr j })
+
+  pub end-of : (cells cell : ℕ) → cell < cells → IsEnd cells cell (fieldEnd free columns cells cell)
+  unfolding fieldEnd
+  end-of cells cell here = end-from cells (cells - (cell + 1)) cell (omega arith)
+
+-- A longest run of joined cells.
+module _ (free : ℕ → Bool) (columns cells : ℕ) where
+  record IsRun (field : Field) : Type 0 where
+    pub some-cells : field .start < endOf field
+    pub on-page : endOf field ≤ cells
+    pub inside : (k : ℕ) → field .start < k → k < endOf field → joined free (placeOf columns k) ≡ true
+    pub before : joined free (placeOf columns (field .start)) ≡ false
+    pub after : (endOf field ≡ cells) ⊎ (joined free (placeOf columns (endOf field)) ≡ false)
+
+  run-around : 0 < columns → (cell : ℕ) → cell < cells → IsRun (fieldAround free columns cells cell)
+  run-around some cell here =
+      let left = start-of free columns some cell in
+      let right = end-of free columns cells cell here in
+      let end : endOf (fieldAround free columns cells cell) ≡ fieldEnd free columns cells cell = omega arith in
+      record {
+        some-cells = omega arith;
+        on-page = omega arith;
+        inside = λ k over under. ⊎-elim (λ back. left .inside k over back) (λ on. right .inside k on (omega arith)) (le-or-lt k cell);
+        before = left .before;
+        after = rw end (right .after);
+      }
+
+  -- two runs that share a cell are one
+  module _ {one other : Field} (run : IsRun one) (run′ : IsRun other) (cell : ℕ) (in-one : one has cell) (in-other : other has cell) where
+    starts-no-earlier : one .start < other .start → ⊥
+    starts-no-earlier less = not-both (run .inside (other .start) less (omega arith)) (run′ .before)
+
+    ends-no-earlier : endOf one < endOf other → ⊥
+    ends-no-earlier less =
+        ⊎-elim (λ last. omega arith) (not-both (run′ .inside (endOf one) (omega arith) less)) (run .after)
+
+  one-run : {one other : Field} → IsRun one → IsRun other → (cell : ℕ) → one has cell → other has cell → one ≡ other
+  one-run {one} {other} run run′ cell in-one in-other =
+      let left = starts-no-earlier run run′ cell in-one in-other in
+      let left′ = starts-no-earlier run′ run cell in-other in-one in
+      let right = ends-no-earlier run run′ cell in-one in-other in
+      let right′ = ends-no-earlier run′ run cell in-other in-one in
+      let starts : one .start ≡ other .start = omega arith in
+      let lengths : one .length ≡ other .length = omega arith in
+      λ i. record { start = starts i; length = lengths i }
+
+  -- a run that has a free cell is a field, and a field is a run
+  module _ {field : Field} (run : IsRun field) (cell : ℕ) (here : field has cell) (is-free : free cell ≡ true) where
+    all-free : (k : ℕ) → field has k → free k ≡ true
+    unfolding placeOf
+    all-free k within =
+        ⊎-elim
+        (λ back. ⊎-elim (λ same. rw same is-free)
+        (λ less. let again : k + 1 - 1 ≡ k = omega arith in rw (← again) (joined-free free (placeOf columns (k + 1)) (run .inside (k + 1) (omega arith) (omega arith)) .0))
+        (eq-or-lt-of-le back))
+        (λ on. joined-free free (placeOf columns k) (run .inside k (omega arith) (omega arith)) .1)
+        (le-or-lt k cell)
+
+    field-of : 0 < columns → IsField free columns cells field
+    unfolding placeOf
+    field-of some =
+        record {
+          some-cells = omega (arith, run .some-cells);
+          on-page = run .on-page;
+          all-free = all-free;
+          one-row = one-row columns some (field .start) (endOf field - 1) (omega arith) (λ k over under. joined-within free (placeOf columns k) (run .inside k over (omega arith)));
+          none-before =
+              ⊎-elim inl (⊎-elim inr (λ right. absurd (not-both (all-free (field .start) (omega arith)) right)))
+              (why-apart free (placeOf columns (field .start)) (run .before));
+          none-after =
+              ⊎-elim inl
+              (λ apart. inr (⊎-elim inl (⊎-elim (λ left. absurd (not-both (all-free (endOf field - 1) (omega arith)) left)) inr)
+              (why-apart free (placeOf columns (endOf field)) apart)))
+              (run .after);
+        }
+
+  run-of : {field : Field} → 0 < columns → IsField free columns cells field → IsRun field
+  unfolding placeOf
+  run-of {field} some is =
+      record {
+        some-cells = omega (arith, is .some-cells);
+        on-page = is .on-page;
+        inside = λ k over under.
+            are-joined free (placeOf columns k)
+            (none-opens columns some (field .start) (endOf field - 1) k (is .one-row) over (omega arith))
+            (is .all-free (k - 1) (omega arith))
+            (is .all-free k (omega arith));
+        before = are-apart free (placeOf columns (field .start)) (⊎-elim inl (λ left. inr (inl left)) (is .none-before));
+        after = ⊎-elim inl (λ apart. inr (are-apart free (placeOf columns (endOf field)) (⊎-elim inl (λ right. inr (inr right)) apart))) (is .none-after);
+      }
+
+  module _ (some : 0 < columns) where
+    pub same-field : {one other : Field} → IsField free columns cells one → IsField free columns cells other → (cell : ℕ) → one has cell → other has cell → one ≡ other
+    same-field is is′ = one-run (run-of some is) (run-of some is′)
+
+    pub around : (cell : ℕ) → cell < cells → free cell ≡ true → IsAround free columns cells cell
+    around cell here is-free =
+        let start = fieldStart free columns cell in
+        let left = start-of free columns some cell in
+        let right = end-of free columns cells cell here in
+        let left′ = start-of free columns some start in
+        let right′ = end-of free columns cells start (omega arith) in
+        let run = run-around some cell here in
+        let same : fieldAround free columns cells start ≡ fieldAround free columns cells cell =
+        one-run (run-around some start (omega arith)) run start (omega arith) (omega arith) in
+        record {
+          is-field = field-of run cell (omega arith) is-free some;
+          has-cell = (left .low, right .high);
+          one-end = omega (arith, ap (λ (f : Field). f .start) same, ap (λ (f : Field). f .length) same);
+        }

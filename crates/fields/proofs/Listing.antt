@@ -1,0 +1,92 @@
+-- The list of a page's fields: which fields it has, by the cells at which they start, and in which order.
+use mathlib.Core.Path.{_≡_, refl, sym, ap, _∙_}
+use mathlib.Core.Bool.{Bool, true}
+use mathlib.Core.List.{List, List·Memᴰ, List·Memᴰ·head, List·Memᴰ·tail, List·Memᴰ·cases-cons, List·Memᴰ·not-nil, Memᴰ·cast}
+use mathlib.Core.Logic.{⊎-elim}
+use Prim.Native.Nat.{ℕ, zero, suc, _+_, _<_, _≤_}
+use native.Mathlib.Nat.{eq-or-lt-of-le}
+use native.Mathlib.Omega.{arith}
+use Rattle.words.proofs.Choosing.{either-line, not-both}
+use Rattle.places.specs.Places.{placeOf}
+use Rattle.fields.specs.Fields.{Field, startsField, fieldStart, fieldEnd, fieldFrom, fieldsFrom, fieldsOf}
+use Rattle.fields.proofs.Claims.{IsField, endOf, _has_, InOrder, none, one-more, Lists, Passes}
+use Rattle.fields.proofs.Laws.{start-is, is-start, start-here}
+use Rattle.fields.proofs.Bounds.{start-of, end-of, same-field, around}
+
+abbrev pub startsAt : (ℕ → Bool) → ℕ → ℕ → Bool
+startsAt free columns cell = startsField free (placeOf columns cell)
+
+-- The fields that start at one of the n cells from `from` to before `to`.
+module _ (free : ℕ → Bool) (columns cells : ℕ) where
+  abbrev Starts : ℕ → ℕ → Field → Type 0
+  Starts from to field = Passes (startsAt free columns) from to (field .start) × (field ≡ fieldFrom free columns cells (field .start))
+
+  pub listed-starts : (n from to : ℕ) → to ≡ from + n → {field : Field} → List·Memᴰ field (fieldsFrom free columns cells n from) → Starts from to field
+  unfolding fieldsFrom
+  listed-starts zero from to all listed = absurd (List·Memᴰ·not-nil listed)
+  listed-starts (suc n) from to all {field} listed =
+      let later : List·Memᴰ field (fieldsFrom free columns cells n (from + 1)) → Starts from to field =
+      λ m. let is = listed-starts n (from + 1) to (omega arith) m in ((omega arith, is .0 .1, is .0 .2), is .1) in
+      either-line (λ (list : List Field). List·Memᴰ field list → Starts from to field) _ _ _
+      (λ s m. ⊎-elim
+      (λ same.
+      let here : field .start ≡ from = ap (λ (f : Field). f .start) same in
+      ((omega arith, omega arith, rw here s), same ∙ ap (fieldFrom free columns cells) (sym here)))
+      later
+      (List·Memᴰ·cases-cons m))
+      (λ _. later)
+      listed
+
+  pub start-listed : (n from to : ℕ) → to ≡ from + n → (cell : ℕ) → Passes (startsAt free columns) from to cell → List·Memᴰ (fieldFrom free columns cells cell) (fieldsFrom free columns cells n from)
+  unfolding fieldsFrom
+  start-listed zero from to all cell starts = absurd (omega arith)
+  start-listed (suc n) from to all cell starts =
+      let later : from < cell → List·Memᴰ (fieldFrom free columns cells cell) (fieldsFrom free columns cells n (from + 1)) =
+      λ less. start-listed n (from + 1) to (omega arith) cell (omega arith, starts .1, starts .2) in
+      either-line (List·Memᴰ (fieldFrom free columns cells cell)) _ _ _
+      (λ _. ⊎-elim (λ same. List·Memᴰ·head (ap (fieldFrom free columns cells) (sym same))) (λ less. List·Memᴰ·tail (later less)) (eq-or-lt-of-le (starts .0)))
+      (λ not-here. ⊎-elim (λ same. absurd (not-both (starts .2) (rw (← same) not-here))) later (eq-or-lt-of-le (starts .0)))
+
+  -- no later field starts inside the one that starts at a cell
+  ends-before : (n cell : ℕ) → cell < cells → (other : Field) → List·Memᴰ other (fieldsFrom free columns cells n (cell + 1)) → endOf (fieldFrom free columns cells cell) ≤ other .start
+  ends-before n cell here other listed =
+      let starts = listed-starts n (cell + 1) (cell + 1 + n) refl listed .0 in
+      let end = end-of free columns cells cell here in
+      let outside : other .start < fieldEnd free columns cells cell → ⊥ =
+      λ less. not-both (end .inside (other .start) (omega arith) less) (start-is free columns (other .start) (starts .2) .1) in
+      omega arith
+
+  pub in-order : (n from : ℕ) → from + n ≤ cells → InOrder (fieldsFrom free columns cells n from)
+  unfolding fieldsFrom
+  in-order zero from fits = none
+  in-order (suc n) from fits =
+      let later = in-order n (from + 1) (omega arith) in
+      either-line InOrder _ _ _ (λ _. one-more (ends-before n from (omega arith)) later) (λ _. later)
+
+  module _ (some : 0 < columns) where
+    only-fields : (field : Field) → List·Memᴰ field (fieldsOf free columns cells) → IsField free columns cells field
+    unfolding fieldsOf
+    only-fields field listed =
+        let is = listed-starts cells 0 cells (omega arith) listed in
+        let starts = start-is free columns (field .start) (is .0 .2) in
+        let whole = around free columns cells some (field .start) (is .0 .1) (starts .0) .is-field in
+        rw (is .1) (rw (start-here free columns (field .start) (starts .1)) at whole)
+
+    every-cell : (cell : ℕ) → cell < cells → free cell ≡ true → (field : Field) × List·Memᴰ field (fieldsOf free columns cells) × (field has cell)
+    unfolding fieldsOf
+    every-cell cell here is-free =
+        let start = fieldStart free columns cell in
+        let whole = around free columns cells some cell here is-free in
+        let starts = is-start free columns start (whole .is-field .all-free start (omega arith)) (start-of free columns some cell .before) in
+        (fieldFrom free columns cells start, start-listed cells 0 cells (omega arith) start (omega arith, omega arith, starts), (omega arith, omega arith))
+
+    every-field : (field : Field) → IsField free columns cells field → List·Memᴰ field (fieldsOf free columns cells)
+    every-field field is =
+        let start : field has field .start = (omega arith, omega (arith, is .some-cells)) in
+        let listed = every-cell (field .start) (omega (arith, is .on-page)) (is .all-free (field .start) start) in
+        Memᴰ·cast (same-field free columns cells some is (only-fields (listed .0) (listed .1)) (field .start) start (listed .2)) (listed .1)
+
+    pub lists-fields : Lists free columns cells (fieldsOf free columns cells)
+    unfolding fieldsOf
+    lists-fields =
+        record { only-fields = only-fields; every-field = every-field; every-cell = every-cell; in-order = in-order cells 0 (omega arith) }

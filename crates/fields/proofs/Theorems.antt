@@ -1,0 +1,83 @@
+-- What document 01, "Fields, keys and blocks", says of fields and of the cells that keys look for; Claims.antt has its words.
+-- Each holds for any test `free` of which cells are unprotected. The contracts in src/lib.rt say that the code gives what is spoken of here.
+use mathlib.Core.Path.{_≡_}
+use mathlib.Core.Bool.{Bool, true}
+use mathlib.Core.List.{List}
+use Prim.Native.Nat.{ℕ, _+_, _-_, _<_}
+use native.Mathlib.Omega.{arith}
+use Rattle.fields.specs.declared.Sought.the-variants.{Nowhere}
+use Rattle.fields.specs.Fields.{Field, fieldsOf}
+use Rattle.fields.specs.Searches.{firstField, lastField, firstAfter, lastBefore, nextField, previousField, firstFree, firstUnprotected, nextUnprotected}
+use Rattle.fields.proofs.Claims.{IsField, _has_, IsAround, InOrder, Lists, StartsAt, Passes, First, Last, Finds, GoesRound}
+use Rattle.fields.proofs.Bounds.{around, same-field}
+use Rattle.fields.proofs.Listing.{in-order, lists-fields}
+use Rattle.fields.proofs.Searching.{in-other-words, goes-round, finds-something, first-of, last-of, first-after, last-before, first-free}
+
+module _ (free : ℕ → Bool) (columns cells : ℕ) (some-columns : 0 < columns) where
+  -- Around an unprotected cell there is a field, and `fieldStart` and `fieldEnd` are its bounds.
+  pub field-around : (cell : ℕ) → cell < cells → free cell ≡ true → IsAround free columns cells cell
+  field-around = around free columns cells some-columns
+
+  -- Two fields that share a cell are one.
+  pub one-field : {one other : Field} → IsField free columns cells one → IsField free columns cells other → (cell : ℕ) → one has cell → other has cell → one ≡ other
+  one-field = same-field free columns cells some-columns
+
+  -- `fieldsOf` lists the page's fields, all of them and nothing else, in page order.
+  pub all-fields-listed : Lists free columns cells (fieldsOf free columns cells)
+  all-fields-listed = lists-fields free columns cells some-columns
+
+module _ (free : ℕ → Bool) (columns cells : ℕ) where
+  abbrev fields : List Field
+  fields = fieldsOf free columns cells
+
+  fields-in-order : InOrder fields
+  unfolding fieldsOf
+  fields-in-order = in-order free columns cells cells 0 (omega arith)
+
+  -- The page's first field, and its last.
+  pub first-found : Finds columns First (StartsAt fields) (firstField columns fields)
+  first-found = first-of columns fields-in-order
+
+  pub last-found : Finds columns Last (StartsAt fields) (lastField columns fields)
+  last-found = last-of columns fields-in-order
+
+  -- The first field that starts after a cell, and the last that starts before it.
+  pub after-found : (cell : ℕ) → Finds columns First (λ k. StartsAt fields k × (cell < k)) (firstAfter columns cell fields)
+  after-found cell = first-after columns cell fields-in-order
+
+  pub before-found : (cell : ℕ) → Finds columns Last (λ k. StartsAt fields k × (k < cell)) (lastBefore columns cell fields)
+  before-found cell = last-before columns cell fields-in-order
+
+  -- Key 260: the first field that starts after the cell, else the first.
+  pub key-260 : (cell : ℕ) → GoesRound columns First (StartsAt fields) (λ k. cell < k) (nextField columns cell fields)
+  unfolding nextField
+  key-260 cell = goes-round columns (after-found cell) first-found
+
+  -- Key 261: the last field that starts before the cell, else the last.
+  pub key-261 : (cell : ℕ) → GoesRound columns Last (StartsAt fields) (λ k. k < cell) (previousField columns cell fields)
+  unfolding previousField
+  key-261 cell = goes-round columns (before-found cell) last-found
+
+  -- The first unprotected cell of n cells.
+  pub free-found : (n from : ℕ) → Finds columns First (Passes free from (from + n)) (firstFree free columns n from)
+  free-found n from = first-free columns free n from (from + n) (omega arith)
+
+  -- Key 262: the first unprotected cell of the page.
+  pub key-262 : Finds columns First (Passes free 0 cells) (firstUnprotected free columns cells)
+  unfolding firstUnprotected
+  key-262 = first-free columns free cells 0 cells (omega arith)
+
+  -- After a typed character: the first unprotected cell after the cell, else the first.
+  pub after-typing : (cell : ℕ) → cell < cells → GoesRound columns First (Passes free 0 cells) (λ k. cell < k) (nextUnprotected free columns cells cell)
+  unfolding nextUnprotected
+  after-typing cell here =
+      goes-round columns
+      (in-other-words columns
+      (λ k w. ((omega arith, w .1, w .2), omega (arith, w .0)))
+      (λ k w. (omega (arith, w .1), w .0 .1, w .0 .2))
+      (first-free columns free (cells - (cell + 1)) (cell + 1) cells (omega arith)))
+      key-262
+
+  -- If any cell of the page is unprotected, one is found after a typed character.
+  pub after-typing-found : (cell other : ℕ) → cell < cells → other < cells → free other ≡ true → nextUnprotected free columns cells cell ≡ Nowhere → ⊥
+  after-typing-found cell other here there is-free = finds-something columns (after-typing cell here) other (omega arith, there, is-free)

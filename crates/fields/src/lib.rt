@@ -1,0 +1,176 @@
+// Fields: longest runs of unprotected cells within one row, and the searches of the keys.
+// What each function gives is defined in specs/Fields.antt and specs/Searches.antt.
+use places::Place;
+ghost use mathlib.Core.Path.{_≡_};
+ghost use mathlib.Core.Bool.{true};
+ghost use Prim.Native.Nat.{_-_, _*_, _<_, _≤_};
+ghost use lib.ListN.{length};
+ghost use Rattle.places.specs.Places.{placeOf, Counted};
+ghost use Rattle.page.specs.Marks.{unprotected};
+ghost use Rattle.fields.specs.Fields.{opensStretch, joined, startsField, fieldStart, fieldEnd, fieldsOf, fieldsFrom};
+ghost use Rattle.fields.specs.Searches.{firstField, lastField, nextField, previousField, firstFree, firstUnprotected, nextUnprotected};
+
+// A place that was looked for.
+pub enum Sought {
+    At(Place),
+    Nowhere,
+}
+
+// Whether a stretch of cells in which a field may run begins here.
+fn opens_stretch(place: Place) -> bool
+    ensures { λ r. ⌜ r ≡ opensStretch place ⌝ }
+{
+    place.column == 1
+}
+
+// Whether the cell and the one before it belong to one field.
+fn is_joined(marks: &[u8], place: Place) -> bool
+    requires { ⌜ place .cell < length (now marks) ⌝ }
+    requires { ⌜ (place .cell ≡ 0 → opensStretch place ≡ true) ⌝ }
+    ensures { λ r. ⌜ r ≡ joined (unprotected (now (marks .entry))) place ⌝ }
+{
+    if opens_stretch(place) {
+        return false;
+    }
+    if page::is_unprotected(marks, place.cell - 1) {
+        return page::is_unprotected(marks, place.cell);
+    }
+    false
+}
+
+pub fn starts_field(marks: &[u8], place: Place) -> bool
+    requires { ⌜ place .cell < length (now marks) ⌝ }
+    requires { ⌜ (place .cell ≡ 0 → opensStretch place ≡ true) ⌝ }
+    ensures { λ r. ⌜ r ≡ startsField (unprotected (now (marks .entry))) place ⌝ }
+{
+    if page::is_unprotected(marks, place.cell) {
+        return !is_joined(marks, place);
+    }
+    false
+}
+
+// The first cell of the field that has the cell.
+pub fn field_start(marks: &[u8], place: Place, columns: usize) -> Place
+    requires { ⌜ Counted columns place ⌝ }
+    requires { ⌜ place .cell < length (now marks) ⌝ }
+    ensures { λ r. ⌜ r ≡ placeOf columns (fieldStart (unprotected (now (marks .entry))) columns (place .cell)) ⌝ }
+{
+    let mut here = place;
+    while is_joined(marks, here) {
+        here = here.back(columns);
+    }
+    here
+}
+
+// The cell after the last of the field that has the cell.
+pub fn field_end(marks: &[u8], place: Place, columns: usize) -> usize
+    requires { ⌜ Counted columns place ⌝ }
+    requires { ⌜ place .cell < length (now marks) ⌝ }
+    requires { ⌜ length (now marks) ≤ 7680 ⌝ }
+    ensures { λ r. ⌜ r ≡ fieldEnd (unprotected (now (marks .entry))) columns (length (now (marks .entry))) (place .cell) ⌝ }
+{
+    let mut last = place;
+    while last.cell + 1 < marks.len() {
+        let next = last.next(columns);
+        if !is_joined(marks, next) {
+            return next.cell;
+        }
+        last = next;
+    }
+    last.cell + 1
+}
+
+// The first field that starts at the place or after it; the place may be one past the page.
+fn seek_field(marks: &[u8], place: Place, columns: usize) -> Sought
+    requires { ⌜ Counted columns place ⌝ }
+    requires { ⌜ (place .cell ≤ length (now marks)) × (length (now marks) ≤ 7680) ⌝ }
+    ensures { λ r. ⌜ r ≡ firstField columns (fieldsFrom (unprotected (now (marks .entry))) columns (length (now (marks .entry))) (length (now (marks .entry)) - place .cell) (place .cell)) ⌝ }
+{
+    let mut here = place;
+    while here.cell < marks.len() {
+        if starts_field(marks, here) {
+            return Sought::At(here);
+        }
+        here = here.next(columns);
+    }
+    Sought::Nowhere
+}
+
+// The last field that starts before the place; the place may be one past the page.
+fn seek_field_back(marks: &[u8], place: Place, columns: usize) -> Sought
+    requires { ⌜ Counted columns place ⌝ }
+    requires { ⌜ (place .cell ≤ length (now marks)) × (length (now marks) ≤ 7680) ⌝ }
+    ensures { λ r. ⌜ r ≡ lastField columns (fieldsFrom (unprotected (now (marks .entry))) columns (length (now (marks .entry))) (place .cell) 0) ⌝ }
+{
+    let mut here = place;
+    while 0 < here.cell {
+        here = here.back(columns);
+        if starts_field(marks, here) {
+            return Sought::At(here);
+        }
+    }
+    Sought::Nowhere
+}
+
+// The first unprotected cell at the place or after it; the place may be one past the page.
+fn seek_unprotected(marks: &[u8], place: Place, columns: usize) -> Sought
+    requires { ⌜ Counted columns place ⌝ }
+    requires { ⌜ (place .cell ≤ length (now marks)) × (length (now marks) ≤ 7680) ⌝ }
+    ensures { λ r. ⌜ r ≡ firstFree (unprotected (now (marks .entry))) columns (length (now (marks .entry)) - place .cell) (place .cell) ⌝ }
+{
+    let mut here = place;
+    while here.cell < marks.len() {
+        if page::is_unprotected(marks, here.cell) {
+            return Sought::At(here);
+        }
+        here = here.next(columns);
+    }
+    Sought::Nowhere
+}
+
+// Key 260: the first field that starts after the place, else the first.
+pub fn next_field(marks: &[u8], place: Place, columns: usize) -> Sought
+    requires { ⌜ Counted columns place ⌝ }
+    requires { ⌜ (place .cell < length (now marks)) × (length (now marks) ≤ 7680) ⌝ }
+    ensures { λ r. ⌜ r ≡ nextField columns (place .cell) (fieldsOf (unprotected (now (marks .entry))) columns (length (now (marks .entry)))) ⌝ }
+{
+    let after = seek_field(marks, place.next(columns), columns);
+    match after {
+        Sought::At(found) => Sought::At(found),
+        Sought::Nowhere => seek_field(marks, Place::first(columns), columns),
+    }
+}
+
+// Key 261: the last field that starts before the place, else the last.
+pub fn previous_field(marks: &[u8], place: Place, rows: usize, columns: usize) -> Sought
+    requires { ⌜ Counted columns place ⌝ }
+    requires { ⌜ (place .cell < length (now marks)) × (rows ≤ 48) × (columns ≤ 160) × (length (now marks) ≡ rows * columns) ⌝ }
+    ensures { λ r. ⌜ r ≡ previousField columns (place .cell) (fieldsOf (unprotected (now (marks .entry))) columns (length (now (marks .entry)))) ⌝ }
+{
+    let before = seek_field_back(marks, place, columns);
+    match before {
+        Sought::At(found) => Sought::At(found),
+        Sought::Nowhere => seek_field_back(marks, Place::end(rows, columns), columns),
+    }
+}
+
+// Key 262.
+pub fn first_unprotected(marks: &[u8], columns: usize) -> Sought
+    requires { ⌜ (0 < columns) × (length (now marks) ≤ 7680) ⌝ }
+    ensures { λ r. ⌜ r ≡ firstUnprotected (unprotected (now (marks .entry))) columns (length (now (marks .entry))) ⌝ }
+{
+    seek_unprotected(marks, Place::first(columns), columns)
+}
+
+// Where the cursor goes after a typed character: the next unprotected cell, going round the page.
+pub fn next_unprotected(marks: &[u8], place: Place, columns: usize) -> Sought
+    requires { ⌜ Counted columns place ⌝ }
+    requires { ⌜ (place .cell < length (now marks)) × (length (now marks) ≤ 7680) ⌝ }
+    ensures { λ r. ⌜ r ≡ nextUnprotected (unprotected (now (marks .entry))) columns (length (now (marks .entry))) (place .cell) ⌝ }
+{
+    let after = seek_unprotected(marks, place.next(columns), columns);
+    match after {
+        Sought::At(found) => Sought::At(found),
+        Sought::Nowhere => seek_unprotected(marks, Place::first(columns), columns),
+    }
+}

@@ -1,0 +1,89 @@
+-- The loops over tab stops, a turn at a time, and the columns that they end at.
+use mathlib.Core.Path.{_≡_, refl, ap, _∙_}
+use mathlib.Core.Bool.{Bool, true, false, not}
+use mathlib.Core.List.{List}
+use Prim.Native.Nat.{ℕ, zero, suc, _+_, _-_, _<_, _≤_}
+use native.Mathlib.Omega.{arith}
+use lib.ListN.{length, getD, drop-of-length-le}
+use Rattle.words.specs.Choice.{if_then_else_}
+use Rattle.words.specs.Lists.{every}
+use Rattle.words.proofs.Choosing.{either-line, first-decides, first-fails}
+use Rattle.words.proofs.Walking.{next-element}
+use Rattle.state.specs.Tabs.{stopRight, stopLeft, stopsOn, stopsBack}
+use Rattle.state.specs.Validity.{stopsFit}
+
+-- A row or a column that the page has.
+abbrev pub OneTo : ℕ → ℕ → Type 0
+OneTo last at = (1 ≤ at) × (at ≤ last)
+
+-- The stops after the first i columns.
+module _ (stops : List Bool) (i : ℕ) where
+  pub no-stop-next : i < length stops → getD stops i false ≡ false → stopsFit i stops ≡ stopsFit (i + 1) stops
+  unfolding stopsFit every
+  no-stop-next here p = ap (every not) (next-element stops i false here) ∙ first-decides _ _ (ap not p)
+
+  pub stop-next : i < length stops → getD stops i false ≡ true → stopsFit i stops ≡ false
+  unfolding stopsFit every
+  stop-next here p = ap (every not) (next-element stops i false here) ∙ first-fails _ _ (ap not p)
+
+  pub no-stops-left : length stops ≤ i → stopsFit i stops ≡ true
+  unfolding stopsFit every
+  no-stops-left h = rw (drop-of-length-le stops h)
+
+module _ (stops : List Bool) where
+  -- One column on, and one back.
+  pub right-turn : (last at : ℕ) → at < last → stopRight stops (last - at) at ≡ (if getD stops at false then at + 1 else stopRight stops (last - (at + 1)) (at + 1))
+  unfolding stopRight
+  right-turn last at h =
+      let more : last - at ≡ suc (last - (at + 1)) = omega arith in
+      let here : at + 1 - 1 ≡ at = omega arith in
+      rw (more, here)
+
+  pub right-end : (last at : ℕ) → last ≤ at → stopRight stops (last - at) at ≡ at
+  unfolding stopRight
+  right-end last at h = let none : last - at ≡ 0 = omega arith in rw none
+
+  pub left-turn : (at : ℕ) → 1 < at → stopLeft stops at ≡ (if getD stops (at - 1 - 1) false then at - 1 else stopLeft stops (at - 1))
+  unfolding stopLeft
+  left-turn zero h = absurd (omega arith)
+  left-turn (suc zero) h = absurd (omega arith)
+  left-turn (suc (suc before)) h = let back : suc (suc before) - 1 ≡ suc before = omega arith in rw back
+
+  pub left-end : (at : ℕ) → at ≤ 1 → stopLeft stops at ≡ 1
+  unfolding stopLeft
+  left-end zero h = refl
+  left-end (suc zero) h = refl
+  left-end (suc (suc before)) h = absurd (omega arith)
+
+  -- One stop on, and one back.
+  module _ (last n column : ℕ) where
+    pub stops-on-turn : 0 < n → stopsOn stops last n column ≡ stopsOn stops last (n - 1) (stopRight stops (last - column) column)
+    unfolding stopsOn
+    stops-on-turn h = let more : n ≡ suc (n - 1) = omega arith in ap (λ (k : ℕ). stopsOn stops last k column) more
+
+    pub stops-on-end : n ≤ 0 → stopsOn stops last n column ≡ column
+    unfolding stopsOn
+    stops-on-end h = let none : n ≡ 0 = omega arith in rw none
+
+  module _ (n column : ℕ) where
+    pub stops-back-turn : 0 < n → stopsBack stops n column ≡ stopsBack stops (n - 1) (stopLeft stops column)
+    unfolding stopsBack
+    stops-back-turn h = let more : n ≡ suc (n - 1) = omega arith in ap (λ (k : ℕ). stopsBack stops k column) more
+
+    pub stops-back-end : n ≤ 0 → stopsBack stops n column ≡ column
+    unfolding stopsBack
+    stops-back-end h = let none : n ≡ 0 = omega arith in rw none
+
+  -- A stop to the right is not past the last column, and one to the left not before the first.
+  pub right-within : (last more column : ℕ) → 1 ≤ column → column + more ≤ last → OneTo last (stopRight stops more column)
+  unfolding stopRight
+  right-within last zero column h k = (h, omega arith)
+  right-within last (suc more) column h k =
+      either-line (OneTo last) _ _ _ (λ _. (omega arith, omega arith)) (λ _. right-within last more (column + 1) (omega arith) (omega arith))
+
+  pub left-within : (last column : ℕ) → OneTo last column → OneTo last (stopLeft stops column)
+  unfolding stopLeft
+  left-within last zero h = (omega arith, omega arith)
+  left-within last (suc zero) h = h
+  left-within last (suc (suc before)) h =
+      either-line (OneTo last) _ _ _ (λ _. (omega arith, omega arith)) (λ _. left-within last (suc before) (omega arith, omega arith))

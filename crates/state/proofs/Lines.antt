@@ -1,0 +1,161 @@
+-- Lines 1 and 2 of the table hold exactly where the tests that the code runs fail.
+use mathlib.Core.Path.{_≡_, refl, sym, _∙_}
+use mathlib.Core.Bool.{Bool, true, false, not}
+use mathlib.Core.List.{List, [], _∷_}
+use mathlib.Core.Logic.{_⊎_, inl, inr, ⊎-elim, _↔_}
+use Prim.Native.Nat.{ℕ, zero, suc, _+_, _-_, _/_, _%_, _<_, _≤_}
+use native.Mathlib.Omega.{arith}
+use borrow.Author.Tests.{ltb-true, ltb-false, leb-true, leb-false, eqb-true, eqb-false, not-true, not-false}
+use lib.Dec.{leb, eqb}
+use lib.ListN.{length, getD, drop}
+use lib.Seq.{getD-drop}
+use Rattle.words.specs.Choice.{_and_, _or_, _is_to_}
+use Rattle.words.specs.Lists.{every}
+use Rattle.words.proofs.Choosing.{true-is-not-false, both, neither, one-fails, range-holds}
+use Rattle.words.proofs.Passing.{passes}
+use Rattle.page.specs.Marks.{validCharacter, validMark}
+use Rattle.page.specs.Page.{Page, validPage}
+use Rattle.state.specs.declared.Size.{Size}
+use Rattle.state.specs.declared.State.{State}
+use Rattle.state.specs.Pen.{validPen}
+use Rattle.state.specs.Validity.{listedRows, listedColumns, listedSize, sizeFits, cursorFits, stopsFit, validState}
+use Rattle.state.specs.Lines.{Line1, rows-not-listed, columns-not-listed, characters-not-as-long, marks-not-as-long, Line2, above-first-row, below-last-row, before-first-column, past-last-column, cell-too-low, cell-too-high, marks-bit-7, stop-past-last-column, pen-bit-7, pen-modified, message-neither-0-nor-1, half-read-out-of-range}
+use Rattle.state.proofs.Laws.{OneTo}
+use Rattle.state.proofs.Keeping.{rows-listed, columns-listed, parts, row-range, column-range, pen-range}
+
+-- What a test that fails tells.
+none-of : (n a b c : ℕ) → (eqb n a or eqb n b or eqb n c) ≡ false → (n ≡ a → ⊥) × (n ≡ b → ⊥) × (n ≡ c → ⊥)
+none-of n a b c p =
+    let later = neither (neither p .1) in
+    (eqb-false n a (neither p .0), eqb-false n b (later .0), eqb-false n c (later .1))
+
+out-of-range : (n low high : ℕ) → (n is low to high) ≡ false → (n < low) ⊎ (high < n)
+unfolding _is_to_
+out-of-range n low high p = ⊎-elim (λ q. inl (leb-false low n q)) (λ q. inr (leb-false n high q)) (one-fails p)
+
+some-fails : {A : Type 0} (test : A → Bool) (other : A) (list : List A) → every test list ≡ false → (k : ℕ) × (k < length list) × (test (getD list k other) ≡ false)
+unfolding every
+some-fails test other [] p = absurd (true-is-not-false p)
+some-fails test other (x ∷ rest) p =
+    ⊎-elim (λ q. (0, omega arith, q)) (λ q. let later = some-fails test other rest q in (suc (later .0), omega arith, later .2)) (one-fails p)
+
+no-stop-past : (columns : ℕ) (stops : List Bool) → stopsFit columns stops ≡ true → (k : ℕ) → columns ≤ k → getD stops k false ≡ false
+unfolding stopsFit every
+no-stop-past columns stops p k h =
+    let there : columns + (k - columns) ≡ k = omega arith in
+    rw (getD-drop columns stops (k - columns) false, there) at (not-true (getD (drop columns stops) (k - columns) false) (every-stop (drop columns stops) p (k - columns)))
+  where
+    every-stop : (list : List Bool) → every not list ≡ true → (k : ℕ) → not (getD list k false) ≡ true
+    every-stop [] p k = refl
+    every-stop (x ∷ rest) p zero = both p .0
+    every-stop (x ∷ rest) p (suc k) = every-stop rest (both p .1) k
+
+refuted : (test : Bool) → (test ≡ true → ⊥) → test ≡ false
+refuted true p = absurd (p refl)
+refuted false p = refl
+
+-- Line 1.
+module _ (size : Size) (page : Page) where
+  line-1-holds : sizeFits size page ≡ false → Line1 size page
+  unfolding sizeFits listedSize listedRows listedColumns
+  line-1-holds p =
+      ⊎-elim
+      (λ q. ⊎-elim
+      (λ r. let none = none-of (size .rows) 24 27 48 r in rows-not-listed (none .0) (none .1) (none .2))
+      (λ r. let none = none-of (size .columns) 80 132 160 r in columns-not-listed (none .0) (none .1) (none .2))
+      (one-fails q))
+      (λ q. ⊎-elim (λ r. characters-not-as-long (eqb-false _ _ r)) (λ r. marks-not-as-long (eqb-false _ _ r)) (one-fails q))
+      (one-fails p)
+
+  not-line-1 : sizeFits size page ≡ true → Line1 size page → ⊥
+  unfolding sizeFits listedSize
+  not-line-1 p (rows-not-listed a b c) = ⊎-elim a (⊎-elim b c) (rows-listed (size .rows) (both (both p .0) .0))
+  not-line-1 p (columns-not-listed a b c) = ⊎-elim a (⊎-elim b c) (columns-listed (size .columns) (both (both p .0) .1))
+  not-line-1 p (characters-not-as-long a) = a (eqb-true _ _ (both (both p .1) .0))
+  not-line-1 p (marks-not-as-long a) = a (eqb-true _ _ (both (both p .1) .1))
+
+  pub line-1 : (sizeFits size page ≡ false) ↔ Line1 size page
+  line-1 = (line-1-holds, λ line. refuted _ (λ p. not-line-1 p line))
+
+-- Line 2, clause by clause.
+module _ (s : State) (page : Page) where
+  cursor-off : cursorFits (s .size) (s .cursor) ≡ false → Line2 s page
+  unfolding cursorFits
+  cursor-off p =
+      ⊎-elim
+      (λ q. ⊎-elim above-first-row below-last-row (out-of-range _ _ _ q))
+      (λ q. ⊎-elim before-first-column past-last-column (out-of-range _ _ _ q))
+      (one-fails p)
+
+  stop-past : stopsFit (s .size .columns) (s .stops) ≡ false → Line2 s page
+  unfolding stopsFit
+  stop-past p =
+      let found = some-fails not false (drop (s .size .columns) (s .stops)) p in
+      let place : s .size .columns + found .0 + 1 - 1 ≡ s .size .columns + found .0 = omega arith in
+      stop-past-last-column (s .size .columns + found .0 + 1) (omega arith)
+      (rw (place, ← getD-drop (s .size .columns) (s .stops) (found .0) false) (not-false _ (found .2)))
+
+  pen-out : validPen (s .modes .pen) ≡ false → Line2 s page
+  unfolding validPen
+  pen-out p = ⊎-elim (λ q. pen-bit-7 (ltb-false _ _ q)) (λ q. pen-modified (not-false _ q)) (one-fails p)
+
+  message-out : leb (s .locks .message) 1 ≡ false → Line2 s page
+  message-out p = let more = leb-false (s .locks .message) 1 p in message-neither-0-nor-1 (λ e. omega arith) (λ e. omega arith)
+
+  cell-out : every validCharacter (page .characters) ≡ false → Line2 s page
+  cell-out p =
+      let found = some-fails validCharacter 0 (page .characters) p in
+      ⊎-elim (cell-too-low (found .0) (found .1)) (cell-too-high (found .0) (found .1)) (out-of-range _ _ _ (found .2))
+
+  marks-out : every validMark (page .marks) ≡ false → Line2 s page
+  marks-out p = let found = some-fails validMark 0 (page .marks) p in marks-bit-7 (found .0) (found .1) (ltb-false _ _ (found .2))
+
+  line-2-holds : (validState s and validPage page) ≡ false → Line2 s page
+  unfolding validState validPage
+  line-2-holds p =
+      ⊎-elim
+      (λ q. ⊎-elim cursor-off
+      (λ r. ⊎-elim stop-past
+      (λ t. ⊎-elim pen-out
+      (λ u. ⊎-elim message-out half-read-out-of-range (one-fails u))
+      (one-fails t))
+      (one-fails r))
+      (one-fails q))
+      (λ q. ⊎-elim cell-out marks-out (one-fails q))
+      (one-fails p)
+
+-- No clause of line 2 holds of a valid state and a valid page.
+module _ (s : State) (page : Page) (valid : validState s ≡ true) (fine : validPage page ≡ true) where
+  row-is : OneTo (s .size .rows) (s .cursor .row)
+  row-is = row-range (s .size) (s .cursor) (parts s valid .cursor)
+
+  column-is : OneTo (s .size .columns) (s .cursor .column)
+  column-is = column-range (s .size) (s .cursor) (parts s valid .cursor)
+
+  character-is : (cell : ℕ) → cell < length (page .characters) → (0x20 ≤ getD (page .characters) cell 0) × (getD (page .characters) cell 0 ≤ 0x7E)
+  unfolding validPage
+  character-is cell here = range-holds _ _ _ (passes validCharacter (page .characters) (both fine .0) cell here)
+
+  mark-is : (cell : ℕ) → cell < length (page .marks) → getD (page .marks) cell 0 < 0x80
+  unfolding validPage
+  mark-is cell here = ltb-true _ _ (passes validMark (page .marks) (both fine .1) cell here)
+
+  pen-is : (s .modes .pen < 0x80) × (s .modes .pen / 2 % 2 ≡ 0)
+  pen-is = pen-range (s .modes .pen) (parts s valid .pen)
+
+  not-line-2 : Line2 s page → ⊥
+  not-line-2 (above-first-row off) = omega (arith, row-is .0)
+  not-line-2 (below-last-row off) = omega (arith, row-is .1)
+  not-line-2 (before-first-column off) = omega (arith, column-is .0)
+  not-line-2 (past-last-column off) = omega (arith, column-is .1)
+  not-line-2 (cell-too-low cell here low) = omega (arith, character-is cell here .0)
+  not-line-2 (cell-too-high cell here high) = omega (arith, character-is cell here .1)
+  not-line-2 (marks-bit-7 cell here high) = omega (arith, mark-is cell here)
+  not-line-2 (stop-past-last-column column past set) = true-is-not-false (sym set ∙ no-stop-past (s .size .columns) (s .stops) (parts s valid .stops) (column - 1) (omega arith))
+  not-line-2 (pen-bit-7 high) = omega (arith, pen-is .0)
+  not-line-2 (pen-modified set) = omega (arith, pen-is .1, eqb-true (s .modes .pen / 2 % 2) 1 set)
+  not-line-2 (message-neither-0-nor-1 not-0 not-1) = let most = leb-true (s .locks .message) 1 (parts s valid .message) in omega arith
+  not-line-2 (half-read-out-of-range out) = true-is-not-false (sym (parts s valid .half) ∙ out)
+
+pub line-2 : (s : State) (page : Page) → ((validState s and validPage page) ≡ false) ↔ Line2 s page
+line-2 s page = (line-2-holds s page, λ line. refuted _ (λ p. not-line-2 s page (both p .0) (both p .1) line))

@@ -1,0 +1,6 @@
+pub mod State
+pub mod Moves
+pub mod Tabs
+pub mod Pen
+pub mod Validity
+pub mod Lines

@@ -1,0 +1,34 @@
+-- Document 01, "Commands": moves that stop at the edge.
+use Prim.Native.Nat.{ℕ, _+_, _-_}
+use lib.Dec.{ltb, leb}
+use Rattle.words.specs.Choice.{if_then_else_}
+use Rattle.state.specs.declared.State.{State}
+use Rattle.state.specs.State.{withCursor}
+
+-- From a row or column so many back, and so many on; the first is 1.
+unfoldable pub backBy : ℕ → ℕ → ℕ
+backBy n at =
+    if ltb n at then at - n
+    else 1
+
+unfoldable pub onBy : ℕ → ℕ → ℕ → ℕ
+onBy n at last =
+    if leb n (last - at) then at + n
+    else last
+
+-- CUU, CUD, CUF, CUB.
+unfoldable pub upBy : ℕ → State → State
+upBy n s = withCursor s (backBy n (s .cursor .row)) (s .cursor .column)
+
+unfoldable pub downBy : ℕ → State → State
+downBy n s = withCursor s (onBy n (s .cursor .row) (s .size .rows)) (s .cursor .column)
+
+unfoldable pub rightBy : ℕ → State → State
+rightBy n s = withCursor s (s .cursor .row) (onBy n (s .cursor .column) (s .size .columns))
+
+unfoldable pub leftBy : ℕ → State → State
+leftBy n s = withCursor s (s .cursor .row) (backBy n (s .cursor .column))
+
+-- To column 1 of the same row.
+unfoldable pub toMargin : State → State
+toMargin s = withCursor s (s .cursor .row) 1

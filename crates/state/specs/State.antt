@@ -1,0 +1,75 @@
+-- Document 01, "The terminal and its sources": the state that travels by value, and the parts of it that commands and keys replace.
+use mathlib.Core.Bool.{Bool, true, false}
+use mathlib.Core.List.{List}
+use Prim.Native.Nat.{ℕ, _≤_}
+use lib.ListN.{replicate}
+use Rattle.sequence.specs.declared.HalfRead.{HalfRead}
+use Rattle.sequence.specs.Record.{nothingRead}
+use Rattle.state.specs.declared.Size.{Size}
+use Rattle.state.specs.declared.State.{State}
+
+-- The state with one part of it replaced.
+abbrev pub withCursor : State → ℕ → ℕ → State
+withCursor s row column =
+    record { size = s .size; cursor = record { row = row; column = column }; modes = s .modes; locks = s .locks; stops = s .stops; half = s .half }
+
+abbrev pub withModes : State → ℕ → Bool → State
+withModes s pen erasure =
+    record { size = s .size; cursor = s .cursor; modes = record { pen = pen; erasure = erasure }; locks = s .locks; stops = s .stops; half = s .half }
+
+abbrev pub withLocks : State → Bool → Bool → ℕ → State
+withLocks s manual soft message =
+    record { size = s .size; cursor = s .cursor; modes = s .modes; locks = record { manual = manual; soft = soft; message = message }; stops = s .stops; half = s .half }
+
+abbrev pub withStops : State → List Bool → State
+withStops s stops = record { size = s .size; cursor = s .cursor; modes = s .modes; locks = s .locks; stops = stops; half = s .half }
+
+abbrev pub withHalf : State → HalfRead → State
+withHalf s half = record { size = s .size; cursor = s .cursor; modes = s .modes; locks = s .locks; stops = s .stops; half = half }
+
+-- A fresh page's state: cursor 1;1, plain pen, erasure mode reset, no lock or message, no tab stops, nothing half read.
+abbrev pub freshState : Size → State
+freshState size =
+    record {
+      size = size;
+      cursor = record { row = 1; column = 1 };
+      modes = record { pen = 0; erasure = false };
+      locks = record { manual = false; soft = false; message = 0 };
+      stops = replicate 160 false;
+      half = nothingRead;
+    }
+
+-- What a refused start hands back: all zeros.
+abbrev pub zeroState : State
+zeroState =
+    record {
+      size = record { rows = 0; columns = 0 };
+      cursor = record { row = 0; column = 0 };
+      modes = record { pen = 0; erasure = false };
+      locks = record { manual = false; soft = false; message = 0 };
+      stops = replicate 160 false;
+      half = nothingRead;
+    }
+
+-- "Reading host bytes", a refused command: the soft lock and message 1, INVALID CMD, and nothing else.
+unfoldable pub refused : State → State
+refused s = withLocks s (s .locks .manual) true 1
+
+-- "Commands", ESC ` and ESC b; "keys", 268.
+unfoldable pub inputDisabled : State → State
+inputDisabled s = withLocks s true (s .locks .soft) (s .locks .message)
+
+unfoldable pub inputEnabled : State → State
+inputEnabled s = withLocks s false false 0
+
+unfoldable pub unlocked : State → State
+unlocked s = withLocks s (s .locks .manual) false 0
+
+-- The cursor is on a page of no more than 48 x 160 cells.
+pub record OnPage (s : State) : Type 0 where
+  pub row-least : 1 ≤ s .cursor .row
+  pub row-most : s .cursor .row ≤ s .size .rows
+  pub rows-most : s .size .rows ≤ 48
+  pub column-least : 1 ≤ s .cursor .column
+  pub column-most : s .cursor .column ≤ s .size .columns
+  pub columns-most : s .size .columns ≤ 160
