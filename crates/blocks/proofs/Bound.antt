@@ -19,7 +19,7 @@ use Rattle.fields.specs.Fields.{opensStretch, joined, startsField}
 use Rattle.output.specs.Decimal.{decimal}
 use Rattle.blocks.specs.Blocks.{block}
 use Rattle.blocks.proofs.Claims.{Whole, blankForm, firstAndEven}
-use Rattle.blocks.proofs.Listing.{joined-free, joined-starts-not, protected-starts-not}
+use Rattle.blocks.proofs.Listing.{joined-cell-free, joined-starts-not, protected-starts-not}
 use Rattle.blocks.proofs.Weighing.{total, total-append, total-same, opening, weight, block-length, no-longer}
 
 -- A cell by the rows above it and the columns to its left: whether a stretch begins there, and what a field's start needs.
@@ -75,7 +75,7 @@ module _ (free : ℕ → Bool) (columns : ℕ) where
 
   joined-weight : (cell : ℕ) → joined free (placeOf columns cell) ≡ true → weight free columns cell ≡ 1
   unfolding weight if_then_else_
-  joined-weight cell j = rw (joined-starts-not free columns cell j, joined-free free columns cell j)
+  joined-weight cell j = rw (joined-starts-not free columns cell j, joined-cell-free free columns cell j)
 
   any-weight : (cell : ℕ) → weight free columns cell ≤ opening columns cell + 1
   unfolding weight

@@ -9,6 +9,7 @@ use Rattle.words.specs.Choice.{if_then_else_, _and_, _or_}
 use Rattle.words.specs.Lists.{every, each}
 use Rattle.page.specs.Marks.{isModified, validCharacter, unprotected}
 use Rattle.page.specs.Page.{Page}
+use Rattle.page.proofs.Keeping.{SameSize}
 use Rattle.places.specs.Places.{placeOf}
 use Rattle.fields.specs.Fields.{Field, fieldsOf}
 use Rattle.blocks.specs.Blocks.{Entry, entriesSent}
@@ -32,11 +33,7 @@ Whole page = length (page .characters) ≡ length (page .marks)
 abbrev pub fieldsOn : ℕ → Page → List Field
 fieldsOn columns page = fieldsOf (unprotected (page .marks)) columns (length (page .marks))
 
--- Two pages of one size; and with the same unprotected cells.
-pub record SameSize (p q : Page) : Type 0 where
-  pub marks : length (p .marks) ≡ length (q .marks)
-  pub characters : length (p .characters) ≡ length (q .characters)
-
+-- Two pages of one size with the same unprotected cells.
 pub record SameForm (p q : Page) : Type 0 where
   pub size : SameSize p q
   pub unprotected-cells : (k : ℕ) → k < length (q .marks) → unprotected (p .marks) k ≡ unprotected (q .marks) k

@@ -80,7 +80,7 @@ module _ (p q : Page) (same : SameForm p q) where
       (λ h. ap (λ (mark : ℕ). not (isProtected mark)) (List·getD-eq-default (p .marks) 0 (omega (arith, same .size .marks)) ∙ sym (List·getD-eq-default (q .marks) 0 h)))
 
   same-fields : (columns : ℕ) → fieldsOn columns p ≡ fieldsOn columns q
-  same-fields columns = λ i. fieldsOf (λ k. same-unprotected k i) columns (same .size .marks i)
+  same-fields columns = λ i. fieldsOf (λ k. same-unprotected k i) columns (sym (same .size .marks) i)
 
   -- Where each field that is not sent has kept its characters.
   module _ (full : Bool) (columns : ℕ)
@@ -135,5 +135,5 @@ module _ (columns : ℕ) (p q : Page) (sendable-p : Sendable columns p) (sendabl
           let bounds = field-bounds _ _ _ field is in
           let place = placeOf columns (field .start) in
           ap (λ (characters : List ℕ). record { row = place .row; column = place .column; characters = characters })
-          (same-part (p .characters) (q .characters) (field .length) (field .start) (same .size .characters)
+          (same-part (p .characters) (q .characters) (field .length) (field .start) (sym (same .size .characters))
           (λ k l h. unchanged k (omega arith) (field-free _ _ _ field is k l h) (unmodified (q .marks) (field .length) (field .start) k (neither unsent .1) l h)))

@@ -16,7 +16,8 @@ use Rattle.page.specs.Page.{Page}
 use Rattle.places.specs.Places.{placeOf, cellAt}
 use Rattle.fields.specs.Fields.{Field}
 use Rattle.blocks.specs.Blocks.{Entry, entryOf, entriesSent, block}
-use Rattle.blocks.proofs.Claims.{Sendable, Whole, fieldsOn, SameSize, FilledAlike}
+use Rattle.page.proofs.Keeping.{SameSize}
+use Rattle.blocks.proofs.Claims.{Sendable, Whole, fieldsOn, FilledAlike}
 use Rattle.blocks.proofs.Decoding.{encode-injective}
 use Rattle.blocks.proofs.Listing.{listed, field-bounds, cellsOf, free-cells}
 use Rattle.blocks.proofs.Pages.{ListedOn, valid-entries, all-sent}

@@ -24,7 +24,7 @@ module _ (free : ℕ → Bool) (columns : ℕ) where
       record {
         low = omega arith;
         inside = λ k over under. absurd (omega arith);
-        before = are-apart free (placeOf columns zero) (inl (first-opens columns some));
+        before = are-apart free (placeOf columns zero) (inl (first-opens columns));
       }
   start-of some (suc cell) =
       let further = start-of some cell in

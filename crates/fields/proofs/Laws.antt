@@ -1,5 +1,5 @@
 -- Laws of stretches and of joined cells, over any test `free` of which cells are unprotected.
-use mathlib.Core.Path.{_≡_, refl, sym, ap, _∙_}
+use mathlib.Core.Path.{_≡_, refl, ap, _∙_}
 use mathlib.Core.Bool.{Bool, true, false, not}
 use mathlib.Core.Logic.{_⊎_, inl, inr, ⊎-elim}
 use Prim.Native.Nat.{ℕ, zero, suc, _+_, _-_, _*_, _/_, _%_, _<_, _≤_}
@@ -13,11 +13,11 @@ use Rattle.words.proofs.Walking.{once-more}
 use Rattle.fields.specs.Fields.{opensStretch, joined, startsField, fieldStart}
 
 -- Where stretches open. Only this section looks into `opensStretch`.
-module _ (columns : ℕ) (some : 0 < columns) where
-  pub first-opens : opensStretch (placeOf columns 0) ≡ true
-  unfolding opensStretch placeOf
-  first-opens = eq-eqb (0 % columns + 1) 1 (omega (arith, zero-mod columns))
+pub first-opens : (columns : ℕ) → opensStretch (placeOf columns 0) ≡ true
+unfolding opensStretch placeOf
+first-opens columns = eq-eqb (0 % columns + 1) 1 (omega (arith, zero-mod columns))
 
+module _ (columns : ℕ) (some : 0 < columns) where
   -- none opens at a cell that has one of its row before it
   pub none-opens : (start last cell : ℕ) → start / columns ≡ last / columns → start < cell → cell ≤ last → opensStretch (placeOf columns cell) ≡ false
   unfolding opensStretch placeOf

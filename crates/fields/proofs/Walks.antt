@@ -18,7 +18,7 @@ use Rattle.fields.proofs.Laws.{first-opens, joined-within, start-here}
 
 -- The first cell opens a stretch.
 pub at-first-opens : {columns : ℕ} {place : Place} → Counted columns place → place .cell ≡ 0 → opensStretch place ≡ true
-at-first-opens {columns} known first = ap opensStretch (known .right ∙ ap (placeOf columns) first) ∙ first-opens columns (known .some-columns)
+at-first-opens {columns} known first = ap opensStretch (known .right ∙ ap (placeOf columns) first) ∙ first-opens columns
 
 -- where no stretch opens there is a cell before
 pub has-before : (place : Place) → (place .cell ≡ 0 → opensStretch place ≡ true) → opensStretch place ≡ false → 0 < place .cell

@@ -9,7 +9,7 @@ use borrow.Author.Tests.{ltb-true, leb-true, eqb-true, eqb-false, lt-ltb, ne-eqb
 use lib.Dec.{leb, eqb}
 use lib.ListN.{set, replicate}
 use lib.Seq.{drop-set-lt}
-use Rattle.words.specs.Choice.{if_then_else_, _and_, _or_}
+use Rattle.words.specs.Choice.{_and_, _or_}
 use Rattle.words.specs.Lists.{every}
 use Rattle.words.proofs.Choosing.{either-line, both, both-hold, one-holds, range-holds, range-is}
 use Rattle.sequence.specs.declared.HalfRead.{HalfRead}

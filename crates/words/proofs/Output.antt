@@ -9,10 +9,6 @@ use lib.ListN.{length, take, drop, getD, set, length-append, length-take, length
 use lib.Seq.{set-split, take-suc, getD-drop, take-at, drop-at, drop-drop, length-take-le}
 use Rattle.words.specs.Output.{placed, Wrote}
 
-pub length-placed : (at : ℕ) (bytes list : List ℕ) → at + length bytes ≤ length list → length (placed at bytes list) ≡ length list
-unfolding placed
-length-placed at bytes list fits = simp (length-append, length-take, length-drop) (omega arith)
-
 placed-twice : (at : ℕ) (first second list : List ℕ) → at ≤ length list → placed (at + length first) second (placed at first list) ≡ placed at (first ++ second) list
 unfolding placed
 placed-twice at first second list h =
