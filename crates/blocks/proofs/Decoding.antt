@@ -11,8 +11,8 @@ use Rattle.words.specs.Lists.{every}
 use Rattle.words.proofs.Choosing.{then-case, else-case, either-line, both, both-hold, range-is, range-holds}
 use Rattle.words.proofs.Passing.{every-append}
 use Rattle.page.specs.Marks.{validCharacter}
-use Rattle.output.specs.Decimal.{decimal}
-use Rattle.blocks.specs.Blocks.{Entry, headBytes, entryBytes, encode}
+use Rattle.output.specs.Decimal.{decimal, placeBytes}
+use Rattle.blocks.specs.Blocks.{Entry, entryBytes, encode}
 use Rattle.blocks.specs.Decode.{inFront, cut, readNumber, readEntry, decode}
 use Rattle.blocks.proofs.Claims.{validEntry}
 
@@ -53,7 +53,7 @@ runOf : Entry → List ℕ
 runOf entry = 0x5B ∷ (decimal (entry .row) ++ (0x3B ∷ (decimal (entry .column) ++ (0x66 ∷ entry .characters))))
 
 entry-is : (entry : Entry) → entryBytes entry ≡ 0x1B ∷ runOf entry
-unfolding entryBytes headBytes runOf
+unfolding entryBytes placeBytes runOf
 entry-is entry = simp append-assoc
 
 plain-run : (entry : Entry) → every validCharacter (entry .characters) ≡ true → every plain (runOf entry) ≡ true

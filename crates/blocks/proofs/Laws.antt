@@ -15,12 +15,7 @@ use Rattle.places.specs.declared.Place.{Place}
 use Rattle.places.specs.Places.{placeOf}
 use Rattle.fields.specs.Fields.{Field, startsField, fieldEnd, fieldFrom, fieldsFrom, fieldsOf}
 use Rattle.fields.proofs.Bounds.{end-of}
-use Rattle.output.specs.Decimal.{decimal}
 use Rattle.blocks.specs.Blocks.{headBytes, entryBytes, entryOf, encode, someModified, isSent, entriesSent, block, bytesAt}
-
-pub head-length : (row column : ℕ) → length (headBytes row column) ≡ 4 + length (decimal row) + length (decimal column)
-unfolding headBytes
-head-length row column = simp length-append (omega arith)
 
 -- the search for a modified cell, a turn at a time
 module _ (marks : List ℕ) (cell to : ℕ) where

@@ -7,13 +7,14 @@ use native.Mathlib.Omega.{arith}
 use lib.ListN.{length, length-append, length-take, length-drop}
 use Rattle.words.specs.Choice.{if_then_else_}
 use Rattle.words.specs.Lists.{placesFrom, selected}
+use Rattle.words.proofs.Elements.{run-length}
 use Rattle.words.proofs.Choosing.{either-line, either-way}
 use Rattle.page.specs.Marks.{unprotected}
 use Rattle.page.specs.Page.{Page}
 use Rattle.places.specs.Places.{placeOf}
 use Rattle.fields.specs.Fields.{startsField, Field, fieldsFrom, fieldsOf}
-use Rattle.output.specs.Decimal.{decimal}
-use Rattle.blocks.specs.Blocks.{Entry, headBytes, entryBytes, encode, entryOf, isSent, entriesSent, block}
+use Rattle.output.specs.Decimal.{decimal, placeBytes}
+use Rattle.blocks.specs.Blocks.{Entry, entryBytes, encode, entryOf, isSent, entriesSent, block}
 use Rattle.blocks.proofs.Claims.{Whole, fieldsOn}
 use Rattle.blocks.proofs.Listing.{listed, field-bounds, cellsOf, free-cells}
 use Rattle.blocks.proofs.Pages.{all-sent}
@@ -56,13 +57,8 @@ openings columns (field ∷ later) = opening columns (field .start) + openings c
 
 entry-length : (columns : ℕ) (characters : List ℕ) (field : Field) → field .start + field .length ≤ length characters
     → length (entryBytes (entryOf columns characters field)) ≡ opening columns (field .start) + field .length
-unfolding entryBytes headBytes entryOf opening
+unfolding entryBytes placeBytes entryOf opening
 entry-length columns characters field h = simp (length-append, length-take, length-drop) (omega arith)
-
-run-length : (i n : ℕ) → length (placesFrom (λ _. true) i n) ≡ n
-unfolding placesFrom if_then_else_
-run-length i zero = refl
-run-length i (suc n) = ap suc (run-length (i + 1) n)
 
 encode-length : (columns : ℕ) (characters : List ℕ) (fields : List Field) → ((field : Field) → List·Memᴰ field fields → field .start + field .length ≤ length characters)
     → length (encode (map (entryOf columns characters) fields)) ≡ 1 + openings columns fields + length (flatMap cellsOf fields)

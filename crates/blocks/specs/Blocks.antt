@@ -10,7 +10,7 @@ use Rattle.words.specs.Output.{placed}
 use Rattle.page.specs.Marks.{isModified, unprotected}
 use Rattle.page.specs.Page.{Page, modifiedCleared}
 use Rattle.places.specs.Places.{placeOf}
-use Rattle.output.specs.Decimal.{decimal}
+use Rattle.output.specs.Decimal.{placeBytes}
 use Rattle.fields.specs.Fields.{Field, startsField, fieldFrom, fieldsOf}
 use Rattle.blocks.specs.declared.Sent.{Sent}
 use Rattle.blocks.specs.declared.Sent.the-variants.{Bytes, NoRoom}
@@ -22,8 +22,8 @@ pub record Entry : Type 0 where
   pub characters : List ℕ
 
 -- ESC [ row ; column f
-unfoldable pub headBytes : ℕ → ℕ → List ℕ
-headBytes row column = 0x1B ∷ 0x5B ∷ (decimal row ++ (0x3B ∷ (decimal column ++ (0x66 ∷ []))))
+abbrev pub headBytes : ℕ → ℕ → List ℕ
+headBytes row column = placeBytes row column 0x66
 
 -- and the field's characters.
 unfoldable pub entryBytes : Entry → List ℕ

@@ -8,24 +8,12 @@ ghost use lib.ListN.{length, take, drop};
 ghost use Rattle.words.specs.Output.{Wrote};
 ghost use Rattle.page.specs.Page.{pageOf};
 ghost use Rattle.places.specs.Places.{Counted};
-ghost use Rattle.blocks.specs.Blocks.{headBytes, someModified, isSent, bytesAt, block, sending};
+ghost use Rattle.blocks.specs.Blocks.{someModified, isSent, bytesAt, block, sending};
 
 // Whether a block was sent, and how many bytes it has.
 pub enum Sent {
     Bytes(usize),
     NoRoom,
-}
-
-fn put_head(out: &mut [u8], at: usize, row: usize, column: usize) -> usize
-    requires { ⌜ (row < 1000) × (column < 1000) × (at + length (headBytes row column) ≤ length (now out)) ⌝ }
-    ensures { λ r. ⌜ Wrote at (headBytes row column) (now (out .entry)) r (now (out .exit)) ⌝ }
-{
-    let bracket = output::put_byte(out, at, 0x1B);
-    let digits = output::put_byte(out, bracket, 0x5B);
-    let semicolon = output::put_decimal(out, digits, row);
-    let more_digits = output::put_byte(out, semicolon, 0x3B);
-    let end = output::put_decimal(out, more_digits, column);
-    output::put_byte(out, end, 0x66)
 }
 
 fn put_characters(out: &mut [u8], at: usize, characters: &[u8], from: usize, to: usize) -> usize
@@ -65,16 +53,6 @@ fn is_sent(marks: &[u8], full: bool, from: usize, to: usize) -> bool
     has_modified(marks, from, to)
 }
 
-// How many bytes the entry of a field has, from its start to the cell after its end: ESC [ ; f are four of them.
-fn entry_length(place: Place, end: usize) -> usize
-    requires { ⌜ (place .cell ≤ end) × (end ≤ 7680) ⌝ }
-    ensures { λ r. ⌜ r ≡ length (headBytes (place .row) (place .column)) + (end - place .cell) ⌝ }
-{
-    let row = output::decimal_length(place.row);
-    let column = output::decimal_length(place.column);
-    4 + row + column + (end - place.cell)
-}
-
 // How many bytes the block has for a cell.
 fn length_at(marks: &[u8], place: Place, columns: usize, full: bool) -> usize
     requires { ⌜ Counted columns place ⌝ }
@@ -89,7 +67,7 @@ fn length_at(marks: &[u8], place: Place, columns: usize, full: bool) -> usize
     if !is_sent(marks, full, place.cell, end) {
         return 0;
     }
-    entry_length(place, end)
+    output::place_length(place.row, place.column) + (end - place.cell)
 }
 
 // How many bytes the block has.
@@ -129,7 +107,7 @@ fn put_at(
     if !is_sent(marks, full, cell, end) {
         return at;
     }
-    let next = put_head(out, at, place.row, place.column);
+    let next = output::put_place(out, at, place.row, place.column, 0x66);
     put_characters(out, next, characters, cell, end)
 }
 

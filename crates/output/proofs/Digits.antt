@@ -4,9 +4,9 @@ use mathlib.Core.List.{List, [], _∷_, _++_}
 use Prim.Native.Nat.{ℕ, _+_, _/_, _%_, _<_, _≤_}
 use native.Mathlib.Omega.{arith}
 use borrow.Author.Tests.{lt-ltb, le-ltb}
-use lib.ListN.{length}
+use lib.ListN.{length, length-append}
 use Rattle.words.proofs.Choosing.{then-case, else-case, either-line}
-use Rattle.output.specs.Decimal.{decimal}
+use Rattle.output.specs.Decimal.{decimal, placeBytes}
 
 abbrev pub twoDigits : ℕ → List ℕ
 twoDigits number = (0x30 + number / 10) ∷ (0x30 + number % 10) ∷ []
@@ -34,3 +34,7 @@ unfolding decimal
 three-at-most number =
     either-line (λ (digits : List ℕ). length digits ≤ 3) _ _ _ (λ _. omega arith)
     (λ _. either-line (λ (digits : List ℕ). length digits ≤ 3) _ _ _ (λ _. omega arith) (λ _. omega arith))
+
+pub place-long : (row column final : ℕ) → length (placeBytes row column final) ≡ 4 + length (decimal row) + length (decimal column)
+unfolding placeBytes
+place-long row column final = simp length-append (omega arith)

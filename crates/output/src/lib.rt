@@ -4,7 +4,7 @@ ghost use mathlib.Core.List.{[], _∷_};
 ghost use Prim.Native.Nat.{_+_, _/_, _%_, _<_, _≤_};
 ghost use lib.ListN.{length};
 ghost use Rattle.words.specs.Output.{Wrote};
-ghost use Rattle.output.specs.Decimal.{decimal};
+ghost use Rattle.output.specs.Decimal.{decimal, placeBytes};
 
 // How often a unit goes into a number, and what is left.
 struct CountedOff {
@@ -75,4 +75,27 @@ pub fn put_decimal(out: &mut [u8], at: usize, number: usize) -> usize
     let hundreds = count_off(number, 100);
     let next = put_digit(out, at, hundreds.times);
     put_two_digits(out, next, hundreds.left)
+}
+
+// How many bytes a place has: ESC [ ; and the final byte are four of them.
+pub fn place_length(row: usize, column: usize) -> usize
+    ensures { λ r. ⌜ r ≡ length (placeBytes row column 0) ⌝ }
+    ensures { λ r. ⌜ r ≤ 10 ⌝ }
+{
+    let rows = decimal_length(row);
+    let columns = decimal_length(column);
+    4 + rows + columns
+}
+
+// ESC [ row ; column and a final byte.
+pub fn put_place(out: &mut [u8], at: usize, row: usize, column: usize, letter: u8) -> usize
+    requires { ⌜ (row < 1000) × (column < 1000) × (at + length (placeBytes row column letter) ≤ length (now out)) ⌝ }
+    ensures { λ r. ⌜ Wrote at (placeBytes row column letter) (now (out .entry)) r (now (out .exit)) ⌝ }
+{
+    let bracket = put_byte(out, at, 0x1B);
+    let digits = put_byte(out, bracket, 0x5B);
+    let semicolon = put_decimal(out, digits, row);
+    let more_digits = put_byte(out, semicolon, 0x3B);
+    let end = put_decimal(out, more_digits, column);
+    put_byte(out, end, letter)
 }

@@ -36,6 +36,17 @@ module _ (half : HalfRead) (v : Valid half) (not-none : half .kind ≡ 0 → ⊥
   pub arguments-counted : (1 ≤ half .count) × (half .count ≤ 8)
   arguments-counted = (bracket-facts .1, bracket-facts .2)
 
+-- no valid record has more than eight arguments
+pub eight-at-most : (half : HalfRead) → validHalfRead half ≡ true → half .count ≤ 8
+unfolding validHalfRead
+eight-at-most half v =
+    either-line (λ (t : Bool). t ≡ true → half .count ≤ 8) (half .spoilt) _ _
+    (λ _ p. let one = eqb-true (half .count) 1 (both (both p .1) .0) in omega arith)
+    (λ _. either-line (λ (t : Bool). t ≡ true → half .count ≤ 8) (eqb (half .kind) 3) _ _
+    (λ _ p. range-holds _ _ _ (both p .0) .1)
+    (λ _ p. let none = eqb-true (half .count) 0 (both (both p .1) .0) in omega arith))
+    v
+
 -- a fitting value in place of an argument; one more argument reached
 set-fits : (reached i k value : ℕ) (arguments : List ℕ) → value ≤ largestArgument (i + k) reached → argumentsFit reached i arguments ≡ true → argumentsFit reached i (set arguments k value) ≡ true
 unfolding argumentsFit

@@ -5,6 +5,7 @@ use mathlib.Core.List.{List, [], _∷_, map, List·Memᴰ, List·Memᴰ·head, L
 use mathlib.Core.Logic.{⊎-elim}
 use Prim.Native.Nat.{ℕ, zero, suc, _+_, _<_, _≤_}
 use native.Mathlib.Omega.{arith}
+use lib.ListN.{length}
 use Rattle.words.specs.Lists.{every, selected, placesFrom}
 use Rattle.words.proofs.Choosing.{both, both-hold, then-case, else-case, either-line, less-or-not}
 
@@ -73,3 +74,9 @@ module _ (test : ℕ → Bool) where
       (λ q.
       let same : k ≡ i = omega arith in
       subst (λ (list : List ℕ). List·Memᴰ k list) (sym (then-case _ _ _ (rw same at t))) (List·Memᴰ·head same))
+
+-- A run of n places has n of them.
+pub run-length : (i n : ℕ) → length (placesFrom (λ _. true) i n) ≡ n
+unfolding placesFrom
+run-length i zero = refl
+run-length i (suc n) = ap length (then-case true _ _ refl) ∙ ap suc (run-length (i + 1) n)

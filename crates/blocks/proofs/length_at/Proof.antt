@@ -6,9 +6,9 @@ use borrow.Author.Tests.{not-true, not-false}
 use lib.ListN.{length}
 use Rattle.page.specs.Page.{pageOf}
 use Rattle.page.specs.Marks.{unprotected}
-use Rattle.output.proofs.Digits.{three-at-most}
+use Rattle.output.proofs.Digits.{place-long}
 use Rattle.fields.proofs.Walks.{at-first-opens}
-use Rattle.blocks.proofs.Laws.{head-length, end-bounds, unstarted, unsent, sent-length}
+use Rattle.blocks.proofs.Laws.{end-bounds, unstarted, unsent, sent-length}
 use Rattle.blocks.proofs.length_at.Statement.{statement}
 use Rattle.blocks.proofs.length_at.Tie as tie
 
@@ -32,22 +32,34 @@ returns-2 c =
     let none = sym (c .before .is-sent .ensures) ∙ not-true _ (c .if2 .taken) in
     (λ characters same. sym (ap (length {A = ℕ}) (unsent _ _ (pageOf characters (start .args .marks .now)) _ (start .pre .0 .right) _ (c .before .before .field-end .ensures) none)), omega arith)
 
-entry-length-requires : tie.Need-entry-length-requires
-entry-length-requires c κs =
-    let start = c .before .before .before .before .before .before in
-    omega (arith, end-bounds (unprotected (start .args .marks .now)) (start .args .columns) (length (start .args .marks .now)) (start .args .place .cell) (start .pre .1 .0))
-
-returns-3 : tie.Need-returns-3
-returns-3 c =
-    let start = c .before .before .before .before .before .before .before in
+sub-result : tie.Need-sub-result
+sub-result c =
+    let start = c .before .before .before .before .before .before .before .before in
     let place = start .args .place in
     let marks = start .args .marks .now in
     let bounds = end-bounds (unprotected marks) (start .args .columns) (length marks) (place .cell) (start .pre .1 .0) in
-    let starts = sym (c .before .before .before .before .before .starts-field .ensures) ∙ not-false _ (c .before .before .before .before .if1 .left) in
-    let sent = sym (c .before .before .is-sent .ensures) ∙ not-false _ (c .before .if2 .left) in (
+    omega arith
+
+add-result : tie.Need-add-result
+add-result c =
+    let start = c .before .before .before .before .before .before .before .before in
+    let place = start .args .place in
+    let marks = start .args .marks .now in
+    let bounds = end-bounds (unprotected marks) (start .args .columns) (length marks) (place .cell) (start .pre .1 .0) in
+    omega (arith, c .before .place-length .ensures .1)
+
+returns-3 : tie.Need-returns-3
+returns-3 c =
+    let start = c .before .before .before .before .before .before .before .before in
+    let place = start .args .place in
+    let marks = start .args .marks .now in
+    let bounds = end-bounds (unprotected marks) (start .args .columns) (length marks) (place .cell) (start .pre .1 .0) in
+    let starts = sym (c .before .before .before .before .before .before .starts-field .ensures) ∙ not-false _ (c .before .before .before .before .before .if1 .left) in
+    let sent = sym (c .before .before .before .is-sent .ensures) ∙ not-false _ (c .before .before .if2 .left) in
+    let head = c .before .place-length .ensures in (
       λ characters same.
-          c .entry-length .ensures ∙ sym (sent-length _ _ (pageOf characters marks) _ (start .pre .0 .right) _ (c .before .before .before .field-end .ensures) (start .pre .1 .0) same starts sent),
-      omega (arith, head-length (place .row) (place .column), three-at-most (place .row), three-at-most (place .column)),
+          omega (arith, head .0, place-long (place .row) (place .column) 0, place-long (place .row) (place .column) 0x66, sent-length _ _ (pageOf characters marks) _ (start .pre .0 .right) _ (c .before .before .before .before .field-end .ensures) (start .pre .1 .0) same starts sent),
+      omega (arith, head .1),
     )
 
 pub length-at-spec : {M : Type 1} → statement M
@@ -59,5 +71,7 @@ length-at-spec =
     (λ c κs. search needs)
     is-sent-requires
     returns-2
-    entry-length-requires
+    (λ c κs. search needs)
+    sub-result
+    add-result
     returns-3)

@@ -33,8 +33,8 @@ returns-2 c =
     let none = sym (c .before .is-sent .ensures) ∙ not-true _ (c .if2 .taken) in
     rw (unsent _ _ (pageOf (start .args .characters .now) (start .args .marks .now)) _ (start .pre .0 .right) _ (c .before .before .field-end .ensures) none) (wrote-none _ _)
 
-put-head-requires : tie.Need-put-head-requires
-put-head-requires c κs =
+put-place-requires : tie.Need-put-place-requires
+put-place-requires c κs =
     let start = c .before .before .before .before .before .before .before .before .before in
     let place = start .args .place in
     let marks = start .args .marks .now in
@@ -63,7 +63,7 @@ returns-3 c =
     let sent = sym (c .before .before .before .before .before .before .before .before .before .is-sent .ensures) ∙ not-false _ (c .before .before .before .before .before .before .before .before .if2 .left) in
     let room : start .args .at ≤ length (start .args .out .now) = omega arith in
     rw (sent-is (start .args .full) _ (pageOf (start .args .characters .now) marks) _ (start .pre .0 .right) _ (c .before .before .before .before .before .before .before .before .before .before .field-end .ensures) starts sent)
-    (wrote-then room (c .before .before .before .before .before .before .put-head .ensures) (c .before .before .put-characters .ensures))
+    (wrote-then room (c .before .before .before .before .before .before .put-place .ensures) (c .before .before .put-characters .ensures))
 
 pub put-at-spec : {M : Type 1} → statement M
 put-at-spec =
@@ -74,7 +74,7 @@ put-at-spec =
     (λ c κs. search needs)
     is-sent-requires
     returns-2
-    put-head-requires
+    put-place-requires
     put-characters-requires
     (λ c. search needs)
     returns-3)

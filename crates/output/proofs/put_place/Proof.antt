@@ -4,43 +4,43 @@ use native.Mathlib.Omega.{arith}
 use borrow.Author.Needs.{needs}
 use lib.ListN.{length}
 use Rattle.words.proofs.Output.{wrote-then}
-use Rattle.blocks.specs.Blocks.{headBytes}
-use Rattle.blocks.proofs.Laws.{head-length}
-use Rattle.blocks.proofs.put_head.Statement.{statement}
-use Rattle.blocks.proofs.put_head.Tie as tie
+use Rattle.output.specs.Decimal.{placeBytes}
+use Rattle.output.proofs.Digits.{place-long}
+use Rattle.output.proofs.put_place.Statement.{statement}
+use Rattle.output.proofs.put_place.Tie as tie
 
 put-byte-requires : tie.Need-put-byte-requires
 put-byte-requires c κs =
     let start = c .before .before in
-    omega (arith, head-length (start .args .row) (start .args .column), start .pre)
+    omega (arith, place-long (start .args .row) (start .args .column) (start .args .letter), start .pre)
 
 put-byte-requires-2 : tie.Need-put-byte-requires-2
 put-byte-requires-2 c κs =
     let start = c .before .before .before .before .before .before in
-    omega (arith, head-length (start .args .row) (start .args .column), start .pre)
+    omega (arith, place-long (start .args .row) (start .args .column) (start .args .letter), start .pre)
 
 put-decimal-requires : tie.Need-put-decimal-requires
 put-decimal-requires c κs =
     let start = c .before .before .before .before .before .before .before .before .before .before in
-    omega (arith, head-length (start .args .row) (start .args .column), start .pre)
+    omega (arith, place-long (start .args .row) (start .args .column) (start .args .letter), start .pre)
 
 put-byte-requires-3 : tie.Need-put-byte-requires-3
 put-byte-requires-3 c κs =
     let start = c .before .before .before .before .before .before .before .before .before .before .before .before .before .before in
-    omega (arith, head-length (start .args .row) (start .args .column), start .pre)
+    omega (arith, place-long (start .args .row) (start .args .column) (start .args .letter), start .pre)
 
 put-decimal-requires-2 : tie.Need-put-decimal-requires-2
 put-decimal-requires-2 c κs =
     let start = c .before .before .before .before .before .before .before .before .before .before .before .before .before .before .before .before .before .before in
-    omega (arith, head-length (start .args .row) (start .args .column), start .pre)
+    omega (arith, place-long (start .args .row) (start .args .column) (start .args .letter), start .pre)
 
 put-byte-requires-4 : tie.Need-put-byte-requires-4
 put-byte-requires-4 c κs =
     let start = c .before .before .before .before .before .before .before .before .before .before .before .before .before .before .before .before .before .before .before .before .before .before in
-    omega (arith, head-length (start .args .row) (start .args .column), start .pre)
+    omega (arith, place-long (start .args .row) (start .args .column) (start .args .letter), start .pre)
 
 returns : tie.Need-returns
-unfolding headBytes
+unfolding placeBytes
 returns c =
     let start = c .before .before .before .before .before .before .before .before .before .before .before .before .before .before .before .before .before .before .before .before .before .before .before .before .before in
     let room : start .args .at ≤ length (start .args .out .now) = omega (arith, start .pre) in
@@ -53,8 +53,8 @@ returns c =
     simp append-assoc at
     (wrote-then room (wrote-then room (wrote-then room (wrote-then room (wrote-then room esc bracket) row) semicolon) column) f)
 
-pub put-head-spec : {M : Type 1} → statement M
-put-head-spec =
+pub put-place-spec : {M : Type 1} → statement M
+put-place-spec =
     tie.close
     (tie.spec
     put-byte-requires

@@ -1,0 +1,105 @@
+-- Which steps send nothing: all but ESC S and DSR.
+use mathlib.Core.Path.{_≡_, refl, sym, _∙_}
+use mathlib.Core.Bool.{Bool, true, false}
+use mathlib.Core.List.{List, []}
+use Prim.Native.Nat.{ℕ}
+use borrow.Author.Tests.{eqb-false}
+use lib.Dec.{eqb}
+use Rattle.words.proofs.Choosing.{not-both, either-line}
+use Rattle.page.specs.Page.{Page}
+use Rattle.moves.proofs.Letters.{only-z}
+use Rattle.steps.specs.declared.Step.{Step}
+use Rattle.steps.specs.Told.{told, tells, written}
+use Rattle.steps.proofs.Writing.{without-message}
+use Rattle.steps.specs.Steps.{Terminal, Stepped, bytesOf}
+use Rattle.steps.specs.Commands.{textStep, lineDown, lineUp, nextLine, controlStep, freshStep, escStep, isMove, toColumn, toRow, toPlace, tabControl, erasing, erasePart, rendition, setMode, listedStep}
+
+abbrev Silent : Stepped → Type 0
+Silent stepped = bytesOf (stepped .message) ≡ []
+
+pub text-silent : (character : ℕ) (t : Terminal) → Silent (textStep character t)
+unfolding textStep bytesOf
+text-silent character t = refl
+
+line-down-silent : (t : Terminal) → Silent (lineDown t)
+unfolding lineDown bytesOf
+line-down-silent t = either-line Silent _ _ _ (λ _. refl) (λ _. refl)
+
+line-up-silent : (t : Terminal) → Silent (lineUp t)
+unfolding lineUp bytesOf
+line-up-silent t = either-line Silent _ _ _ (λ _. refl) (λ _. refl)
+
+next-line-silent : (t : Terminal) → Silent (nextLine t)
+unfolding nextLine
+next-line-silent t = line-down-silent _
+
+pub control-silent : (byte : ℕ) (t : Terminal) → Silent (controlStep byte t)
+unfolding controlStep bytesOf
+control-silent byte t =
+    either-line Silent _ _ _ (λ _. refl)
+    (λ _. either-line Silent _ _ _ (λ _. refl)
+    (λ _. either-line Silent _ _ _ (λ _. line-down-silent t) (λ _. refl)))
+
+pub esc-silent : (byte : ℕ) (t : Terminal) → eqb byte 0x53 ≡ false → Silent (escStep byte t)
+unfolding escStep freshStep bytesOf
+esc-silent byte t other =
+    either-line Silent _ _ _ (λ _. line-down-silent t)
+    (λ _. either-line Silent _ _ _ (λ _. next-line-silent t)
+    (λ _. either-line Silent _ _ _ (λ _. line-up-silent t)
+    (λ _. either-line Silent _ _ _ (λ _. refl)
+    (λ _. either-line Silent _ _ _ (λ _. refl)
+    (λ _. either-line Silent _ _ _ (λ _. refl)
+    (λ _. either-line Silent _ _ _ (λ is. absurd (not-both is other))
+    (λ _. either-line Silent _ _ _ (λ _. refl)
+    (λ _. either-line Silent _ _ _ (λ _. refl)
+    (λ _. either-line Silent _ _ _ (λ _. refl) (λ _. refl))))))))))
+
+pub tab-silent : (what : ℕ) (t : Terminal) → Silent (tabControl what t)
+unfolding tabControl bytesOf
+tab-silent what t =
+    either-line Silent _ _ _ (λ _. refl)
+    (λ _. either-line Silent _ _ _ (λ _. refl)
+    (λ _. either-line Silent _ _ _ (λ _. refl) (λ _. refl)))
+
+pub erase-silent : (what first end : ℕ) (t : Terminal) → Silent (erasePart what first end t)
+unfolding erasePart erasing bytesOf
+erase-silent what first end t =
+    either-line Silent _ _ _ (λ _. refl)
+    (λ _. either-line Silent _ _ _ (λ _. refl)
+    (λ _. either-line Silent _ _ _ (λ _. refl) (λ _. refl)))
+
+pub rendition-silent : (values : List ℕ) (t : Terminal) → Silent (rendition values t)
+unfolding rendition bytesOf
+rendition-silent values t = either-line Silent _ _ _ (λ _. refl) (λ _. refl)
+
+pub mode-silent : (on : Bool) (values : List ℕ) (t : Terminal) → Silent (setMode on values t)
+unfolding setMode bytesOf
+mode-silent on values t = either-line Silent _ _ _ (λ _. refl) (λ _. refl)
+
+pub move-silent : (final : ℕ) (arguments : List ℕ) (count : ℕ) (t : Terminal) → isMove final ≡ true → Silent (listedStep final arguments count t)
+unfolding listedStep toColumn toRow toPlace bytesOf
+move-silent final arguments count t move =
+    either-line Silent _ _ _ (λ _. refl)
+    (λ a. either-line Silent _ _ _ (λ _. refl)
+    (λ b. either-line Silent _ _ _ (λ _. refl)
+    (λ c. either-line Silent _ _ _ (λ _. refl)
+    (λ d. either-line Silent _ _ _ (λ _. refl)
+    (λ e. either-line Silent _ _ _ (λ _. refl)
+    (λ f. either-line Silent _ _ _ (λ _. either-line Silent _ _ _ (λ _. refl) (λ _. refl))
+    (λ g. either-line Silent _ _ _ (λ _. either-line Silent _ _ _ (λ _. refl) (λ _. refl))
+    (λ vpa. either-line Silent _ _ _ (λ _. either-line Silent _ _ _ (λ _. refl) (λ _. refl))
+    (λ h. either-line Silent _ _ _ (λ _. either-line Silent _ _ _ (λ _. refl) (λ _. refl))
+    (λ hvp. either-line Silent _ _ _ (λ _. refl)
+    (λ i. either-line Silent _ _ _ (λ _. refl)
+    (λ z. either-line Silent _ _ _ (λ _. tab-silent _ t)
+    (λ w. either-line Silent _ _ _ (λ _. erase-silent _ _ _ t)
+    (λ j. either-line Silent _ _ _ (λ _. erase-silent _ _ _ t)
+    (λ k. either-line Silent _ _ _ (λ _. rendition-silent _ t)
+    (λ m. either-line Silent _ _ _ (λ _. mode-silent _ _ t)
+    (λ set. either-line Silent _ _ _ (λ _. mode-silent _ _ t)
+    (λ reset. absurd (eqb-false final 0x5A z (only-z final move (((((((((tt, eqb-false _ _ a), eqb-false _ _ b), eqb-false _ _ c), eqb-false _ _ d), eqb-false _ _ e), eqb-false _ _ f), eqb-false _ _ g), eqb-false _ _ h), eqb-false _ _ i) (eqb-false _ _ vpa) (eqb-false _ _ hvp)))))))))))))))))))))
+
+-- Where the code tells what a silent step does, it tells what is written.
+pub told-silent : (at : ℕ) (output : List ℕ) (before : Terminal) (stepped : Stepped) (step : Step) (page : Page) → told step page ≡ tells stepped → Silent stepped → record { told = told step page; output = output } ≡ written at output before stepped
+told-silent at output before stepped step page is silent =
+    (λ i. record { told = is i; output = output }) ∙ sym (without-message at output before stepped silent)

@@ -1,0 +1,311 @@
+-- Every line of every table is sound, so every table is. The proofs follow the definitions line by line.
+use mathlib.Core.Path.{_≡_, refl, _∙_}
+use mathlib.Core.Bool.{Bool, true, false}
+use mathlib.Core.List.{List}
+use Prim.Native.Nat.{ℕ, _+_, _*_, _<_, _≤_}
+use native.Mathlib.Nat.{mul-le-mul-right}
+use native.Mathlib.Omega.{arith}
+use borrow.Author.Tests.{leb-true, eqb-true}
+use lib.Dec.{eqb}
+use lib.ListN.{length, take}
+use Rattle.words.specs.Choice.{if_then_else_}
+use Rattle.words.proofs.Choosing.{either-line, both}
+use Rattle.sequence.specs.declared.HalfRead.{HalfRead}
+use Rattle.sequence.specs.declared.Event.{Event}
+use Rattle.sequence.specs.declared.Event.the-variants.{Nothing, Text, Control, EscCommand, BracketCommand, Refused}
+use Rattle.sequence.specs.Reading.{advanceOf}
+use Rattle.sequence.proofs.Keeping.{advance-keeps}
+use Rattle.page.specs.Marks.{validCharacter}
+use Rattle.page.specs.Page.{Page}
+use Rattle.blocks.specs.Blocks.{block}
+use Rattle.state.specs.declared.State.{State}
+use Rattle.state.specs.State.{OnPage, withHalf}
+use Rattle.state.specs.Moves.{downBy, toMargin}
+use Rattle.state.specs.Pen.{validPen}
+use Rattle.state.proofs.Keeping.{KeepsValid, size-bounds, on-page, parts, up-keeps-valid, down-keeps-valid, right-keeps-valid, left-keeps-valid, margin-keeps-valid, cursor-keeps-valid, tab-on-keeps-valid, tab-back-keeps-valid, stop-set-keeps-valid, stop-cleared-keeps-valid, stops-cleared-keeps-valid, pen-keeps-valid, protected-keeps-pen, unprotected-keeps-pen, erasure-keeps-valid, disabled-keeps-valid, enabled-keeps-valid, half-keeps-valid, fresh-valid}
+use Rattle.steps.specs.Steps.{Terminal, silent, report, fullBlock, changedBlock, Stepped, withState, goesTo, stores, sends, refusing, cursorCell, Valid, rowStart}
+use Rattle.steps.specs.Claims.{markLeft, Sound}
+use Rattle.steps.proofs.Storing.{Stored, text-stored, blank-stored, up-stored, down-stored, erasing-stored}
+use Rattle.steps.proofs.Soundness.{Sized, sized, row-on-page, cursor-on-page, goes-soundly, refuses-soundly, stores-soundly, reports-soundly, clears-soundly}
+use Rattle.steps.specs.Table.{allowed, valueOf}
+use Rattle.steps.specs.Commands.{textStep, lineDown, lineUp, nextLine, controlStep, freshStep, sendFull, escStep, toColumn, toRow, toPlace, tabControl, erasing, erasePart, rendition, setMode, readyReport, cursorReport, statusReport, listedStep, bracketStep}
+use Rattle.steps.specs.Host.{eventStep, hostStep}
+use Rattle.commands.proofs.Claims.{EndsEscS, Stores, no-cell, text-cell, erased-cells, all-cells, HostSound}
+use Rattle.commands.proofs.Values.{some-value, zero-is-one, some-column, drawn-all-keeps-pen, next-cell-keeps-valid}
+use Rattle.sequence.proofs.Events.{Tells, event-tells}
+
+-- Messages of different kinds differ.
+silent-is-no-full : (bytes : List ℕ) → silent ≡ fullBlock bytes → ⊥
+silent-is-no-full bytes e = let z : _≡_ {A = ℕ} 0 1 = cc in omega arith
+
+silent-is-no-changed : (bytes : List ℕ) → silent ≡ changedBlock bytes → ⊥
+silent-is-no-changed bytes e = let z : _≡_ {A = ℕ} 0 1 = cc in omega arith
+
+report-is-no-full : (said bytes : List ℕ) → report said ≡ fullBlock bytes → ⊥
+report-is-no-full said bytes e = let z : _≡_ {A = ℕ} 0 1 = cc in omega arith
+
+report-is-no-changed : (said bytes : List ℕ) → report said ≡ changedBlock bytes → ⊥
+report-is-no-changed said bytes e = let z : _≡_ {A = ℕ} 0 1 = cc in omega arith
+
+full-is-no-changed : (said bytes : List ℕ) → fullBlock said ≡ changedBlock bytes → ⊥
+full-is-no-changed said bytes e = let z : _≡_ {A = ℕ} 0 1 = cc in omega arith
+
+same-bytes : (said bytes : List ℕ) → fullBlock said ≡ fullBlock bytes → bytes ≡ said
+same-bytes said bytes e = cc
+
+then-keeps : {before between after : State} → KeepsValid before between → KeepsValid between after → KeepsValid before after
+then-keeps first second = record { size = second .size ∙ first .size; valid = second .valid }
+
+module _ (Asked : Type 0) (t : Terminal) (valid : Valid t) where
+  abbrev Holds : Stepped → Type 0
+  Holds step = HostSound Asked t step
+
+  line : {test : Bool} {a b : Stepped} → (test ≡ true → Holds a) → Holds b → Holds (if test then a else b)
+  line {test} {a} {b} first rest = either-line Holds test a b first (λ _. rest)
+
+  -- The kinds of steps.
+  silently : {step : Stepped} → step .message ≡ silent → Stores t (step .cells) → Sound t step → Holds step
+  silently {step} e stored sound = record {
+    sound = sound;
+    stored = stored;
+    full-block = λ bytes f. absurd (silent-is-no-full bytes (cc));
+    no-changed-block = λ bytes f. silent-is-no-changed bytes (cc);
+  }
+
+  goes : (s : State) → KeepsValid (t .state) s → Holds (goesTo s t)
+  goes s keeps = silently refl no-cell (goes-soundly t valid s keeps)
+
+  refuses : Holds (refusing t)
+  refuses = silently refl no-cell (refuses-soundly t valid)
+
+  puts : {cells : List ℕ} {unlocks : Bool} {s : State} {page : Page} → Stores t cells → KeepsValid (t .state) s → Stored (t .page) cells unlocks page → Holds (stores cells unlocks s page)
+  puts {cells} {unlocks} {s} {page} names keeps stored = silently refl names (stores-soundly t valid cells unlocks s page keeps stored)
+
+  reports : (said : List ℕ) → Holds (sends (report said) (t .state) (t .page))
+  reports said = record {
+    sound = reports-soundly t valid said;
+    stored = no-cell;
+    full-block = λ bytes e. absurd (report-is-no-full said bytes e);
+    no-changed-block = λ bytes e. report-is-no-changed said bytes e;
+  }
+
+  full-block-holds : Asked → Holds (sendFull t)
+  unfolding sendFull markLeft
+  full-block-holds asked = let said = block true (t .state .size .columns) (t .page) in record {
+    sound = clears-soundly t valid (fullBlock said) (λ mark. refl);
+    stored = no-cell;
+    full-block = λ bytes e. record { asked = asked; all-fields = same-bytes said bytes e; no-cell = refl };
+    no-changed-block = λ bytes e. full-is-no-changed said bytes e;
+  }
+
+  -- What is known of a valid terminal.
+  stays : KeepsValid (t .state) (t .state)
+  stays = record { size = refl; valid = valid .state }
+
+  page-size : Sized (t .state .size) (t .page)
+  page-size = sized (t .state .size) (t .page) (valid .size)
+
+  cursor : OnPage (t .state)
+  cursor = on-page (t .state) (page-size .listed) (valid .state)
+
+  same-lengths : length (t .page .marks) ≡ length (t .page .characters)
+  same-lengths = let size = page-size in omega arith
+
+  row-fits : t .state .size .columns ≤ length (t .page .characters)
+  row-fits =
+      let size = page-size in
+      let bounds = size-bounds (t .state .size) (size .listed) in
+      let one : 1 * t .state .size .columns ≤ t .state .size .rows * t .state .size .columns = mul-le-mul-right (t .state .size .columns) (bounds .some-rows) in
+      omega arith
+
+  -- Text and control bytes.
+  text-holds : (character : ℕ) → validCharacter character ≡ true → Holds (textStep character t)
+  unfolding textStep validPen
+  text-holds character p =
+      puts text-cell (next-cell-keeps-valid (t .state) (valid .state))
+      (text-stored (t .page) (valid .page) (cursorCell (t .state)) character (t .state .modes .pen) (cursor-on-page t valid) p (both (parts (t .state) (valid .state) .pen) .0))
+
+  line-down-holds : (s : State) → KeepsValid (t .state) s → Holds (lineDown (withState t s))
+  unfolding lineDown
+  line-down-holds s keeps =
+      line (λ _. goes (downBy 1 s) (then-keeps keeps (down-keeps-valid s (keeps .valid) 1)))
+      (puts all-cells keeps (up-stored (t .page) (valid .page) same-lengths (s .size .columns) (rw (keeps .size) row-fits)))
+
+  line-up-holds : Holds (lineUp t)
+  unfolding lineUp
+  line-up-holds =
+      line (λ _. goes _ (up-keeps-valid (t .state) (valid .state) 1))
+      (puts all-cells stays (down-stored (t .page) (valid .page) same-lengths (t .state .size .columns) row-fits))
+
+  control-holds : (byte : ℕ) → Holds (controlStep byte t)
+  unfolding controlStep
+  control-holds byte =
+      line (λ _. goes _ (left-keeps-valid (t .state) (valid .state) 1))
+      (line (λ _. goes _ (tab-on-keeps-valid (t .state) (valid .state) 1))
+      (line (λ _. line-down-holds (t .state) stays)
+      (goes _ (margin-keeps-valid (t .state) (valid .state)))))
+
+  -- Commands after ESC.
+  fresh-holds : Holds (freshStep t)
+  unfolding freshStep
+  fresh-holds =
+      puts all-cells (record { size = refl; valid = fresh-valid (t .state .size) (page-size .listed) })
+      (blank-stored (t .page) (valid .page))
+
+  esc-holds : (byte : ℕ) → (byte ≡ 0x53 → Asked) → Holds (escStep byte t)
+  unfolding escStep nextLine
+  esc-holds byte asked =
+      let s = t .state in
+      let ok = valid .state in
+      let pen = parts s ok .pen in
+      line (λ _. line-down-holds s stays)
+      (line (λ _. line-down-holds (toMargin s) (margin-keeps-valid s ok))
+      (line (λ _. line-up-holds)
+      (line (λ _. goes _ (stop-set-keeps-valid s ok))
+      (line (λ _. goes _ (pen-keeps-valid s ok _ (protected-keeps-pen (s .modes .pen) pen)))
+      (line (λ _. goes _ (pen-keeps-valid s ok _ (unprotected-keeps-pen (s .modes .pen) pen)))
+      (line (λ e. full-block-holds (asked (eqb-true byte 0x53 e)))
+      (line (λ _. fresh-holds)
+      (line (λ _. goes _ (disabled-keeps-valid s ok))
+      (line (λ _. goes _ (enabled-keeps-valid s ok)) refuses)))))))))
+
+  -- Commands after ESC [, where the row or column is 1 at least.
+  column-holds : (column : ℕ) → 1 ≤ column → Holds (toColumn column t)
+  unfolding toColumn
+  column-holds column h =
+      let here = cursor in
+      line (λ e. goes _ (cursor-keeps-valid (t .state) (valid .state) (t .state .cursor .row) column (here .row-least, here .row-most) (h, leb-true column (t .state .size .columns) e)))
+      (goes _ stays)
+
+  row-holds : (row : ℕ) → 1 ≤ row → Holds (toRow row t)
+  unfolding toRow
+  row-holds row h =
+      let here = cursor in
+      line (λ e. goes _ (cursor-keeps-valid (t .state) (valid .state) row (t .state .cursor .column) (h, leb-true row (t .state .size .rows) e) (here .column-least, here .column-most)))
+      refuses
+
+  place-holds : (row column : ℕ) → 1 ≤ row → 1 ≤ column → Holds (toPlace row column t)
+  unfolding toPlace
+  place-holds row column h k =
+      line (λ e. goes _ (cursor-keeps-valid (t .state) (valid .state) row column (h, leb-true row (t .state .size .rows) (both e .0)) (k, leb-true column (t .state .size .columns) (both e .1))))
+      refuses
+
+  tab-control-holds : (what : ℕ) → Holds (tabControl what t)
+  unfolding tabControl
+  tab-control-holds what =
+      line (λ _. goes _ (stop-set-keeps-valid (t .state) (valid .state)))
+      (line (λ _. goes _ (stop-cleared-keeps-valid (t .state) (valid .state)))
+      (line (λ _. goes _ (stops-cleared-keeps-valid (t .state) (valid .state))) refuses))
+
+  -- Erasing a range that has the cursor's cell.
+  erasing-holds : (from to : ℕ) → from ≤ to → to ≤ length (t .page .marks) → Holds (erasing from to t)
+  unfolding erasing
+  erasing-holds from to h fits = puts (erased-cells from to) stays (erasing-stored (t .page) (valid .page) same-lengths (t .state .modes .erasure) from to h fits)
+
+  erase-part-holds : (what first end : ℕ) → first ≤ cursorCell (t .state) → cursorCell (t .state) < end → end ≤ length (t .page .marks) → Holds (erasePart what first end t)
+  unfolding erasePart
+  erase-part-holds what first end low high fits =
+      line (λ _. erasing-holds (cursorCell (t .state)) end (omega arith) fits)
+      (line (λ _. erasing-holds first (cursorCell (t .state) + 1) (omega arith) (omega arith))
+      (line (λ _. erasing-holds first end (omega arith) fits) refuses))
+
+  row-erased-holds : (what : ℕ) → Holds (erasePart what (rowStart (t .state)) (rowStart (t .state) + t .state .size .columns) t)
+  row-erased-holds what =
+      let here = cursor in
+      let row = row-on-page t valid in
+      erase-part-holds what (rowStart (t .state)) (rowStart (t .state) + t .state .size .columns) (omega arith) (omega arith) (omega arith)
+
+  rendition-holds : (values : List ℕ) → Holds (rendition values t)
+  unfolding rendition
+  rendition-holds values =
+      line (λ _. goes _ (pen-keeps-valid (t .state) (valid .state) _ (drawn-all-keeps-pen values (t .state .modes .pen) (parts (t .state) (valid .state) .pen)))) refuses
+
+  mode-holds : (on : Bool) (values : List ℕ) → Holds (setMode on values t)
+  unfolding setMode
+  mode-holds on values = line (λ _. goes _ (erasure-keeps-valid (t .state) (valid .state) on)) refuses
+
+  status-holds : (what : ℕ) → Holds (statusReport what t)
+  unfolding statusReport readyReport cursorReport
+  status-holds what = line (λ _. reports _) (line (λ _. reports _) refuses)
+
+  listed-holds : (final : ℕ) (arguments : List ℕ) (count : ℕ) → Holds (listedStep final arguments count t)
+  unfolding listedStep
+  listed-holds final arguments count =
+      let s = t .state in
+      let ok = valid .state in
+      let here = cursor in
+      let n = valueOf final arguments 0 in
+      let some : (command i : ℕ) → eqb final command ≡ true → allowed command .zero ≡ 1 → 1 ≤ valueOf final arguments i = λ command i. some-value final command arguments i in
+      line (λ _. goes _ (up-keeps-valid s ok n))
+      (line (λ _. goes _ (down-keeps-valid s ok n))
+      (line (λ _. goes _ (right-keeps-valid s ok n))
+      (line (λ _. goes _ (left-keeps-valid s ok n))
+      (line (λ _. let down = down-keeps-valid s ok n in goes _ (then-keeps down (margin-keeps-valid _ (down .valid))))
+      (line (λ _. let up = up-keeps-valid s ok n in goes _ (then-keeps up (margin-keeps-valid _ (up .valid))))
+      (line (λ e. column-holds _ (some 0x47 0 e (zero-is-one .0)))
+      (line (λ e. row-holds _ (some 0x64 0 e (zero-is-one .1)))
+      (line (λ e. place-holds _ _ (some 0x48 0 e (zero-is-one .2)) (some 0x48 1 e (zero-is-one .2)))
+      (line (λ e. place-holds _ _ (some 0x66 0 e (zero-is-one .3)) (some-column _ _ _ _ (some 0x66 1 e (zero-is-one .3)) (here .column-least)))
+      (line (λ _. goes _ (tab-on-keeps-valid s ok n))
+      (line (λ _. goes _ (tab-back-keeps-valid s ok n))
+      (line (λ _. tab-control-holds n)
+      (line (λ _. erase-part-holds n 0 (length (t .page .marks)) (omega arith) (cursor-on-page t valid) (omega arith))
+      (line (λ _. row-erased-holds n)
+      (line (λ _. rendition-holds (take count arguments))
+      (line (λ _. mode-holds true (take count arguments))
+      (line (λ _. mode-holds false (take count arguments)) (status-holds n))))))))))))))))))
+
+  bracket-holds : (final : ℕ) (half : HalfRead) → Holds (bracketStep final half t)
+  unfolding bracketStep
+  bracket-holds final half = line (λ _. refuses) (listed-holds final (half .arguments) (half .count))
+
+-- What an event does; only ESC S asks for a full block.
+event-holds : (half : HalfRead) (byte : ℕ) (event : Event) (t : Terminal) → Valid t → Tells half byte event → HostSound (EndsEscS half byte) t (eventStep half event t)
+unfolding eventStep Tells
+event-holds half byte Nothing t valid _ = goes (EndsEscS half byte) t valid (t .state) (stays (EndsEscS half byte) t valid)
+event-holds half byte (Text character) t valid is = text-holds (EndsEscS half byte) t valid character is
+event-holds half byte (Control control) t valid _ = control-holds (EndsEscS half byte) t valid control
+event-holds half byte (EscCommand command) t valid came = esc-holds (EndsEscS half byte) t valid command (λ e. (came .0, came .1 ∙ e))
+event-holds half byte (BracketCommand final) t valid _ = bracket-holds (EndsEscS half byte) t valid final half
+event-holds half byte Refused t valid _ = refuses (EndsEscS half byte) t valid
+
+-- The claims say nothing of the half-read record before.
+whatever-half-stores : (t : Terminal) (half : HalfRead) {cells : List ℕ} → Stores (withState t (withHalf (t .state) half)) cells → Stores t cells
+whatever-half-stores t half no-cell = no-cell
+whatever-half-stores t half text-cell = text-cell
+whatever-half-stores t half (erased-cells from to) = erased-cells from to
+whatever-half-stores t half all-cells = all-cells
+
+whatever-half-read : (Asked : Type 0) (t : Terminal) (half : HalfRead) (step : Stepped) → HostSound Asked (withState t (withHalf (t .state) half)) step → HostSound Asked t step
+whatever-half-read Asked t half step holds = let sound = holds .sound in record {
+  sound = record {
+    valid = sound .valid;
+    size = sound .size;
+    touches = sound .touches;
+    once = sound .once;
+    refusal = λ e. let refusal = sound .refusal e in record {
+      soft-lock = refusal .soft-lock;
+      invalid-command = refusal .invalid-command;
+      manual-lock = refusal .manual-lock;
+      page = refusal .page;
+      size = refusal .size;
+      cursor = refusal .cursor;
+      modes = refusal .modes;
+      stops = refusal .stops;
+      nothing-sent = refusal .nothing-sent;
+      no-cell = refusal .no-cell;
+    };
+    protection = sound .protection;
+  };
+  stored = whatever-half-stores t half (holds .stored);
+  full-block = λ bytes e. let full = holds .full-block bytes e in record { asked = full .asked; all-fields = full .all-fields; no-cell = full .no-cell };
+  no-changed-block = holds .no-changed-block;
+}
+
+pub host-holds : (byte : ℕ) (t : Terminal) → Valid t → HostSound (EndsEscS (t .state .half) byte) t (hostStep byte t)
+unfolding hostStep
+host-holds byte t valid =
+    let half = advanceOf (t .state .half) byte .half in
+    let keeps = half-keeps-valid (t .state) (valid .state) half (advance-keeps (t .state .half) byte (parts (t .state) (valid .state) .half)) in
+    whatever-half-read _ t half _
+    (event-holds (t .state .half) byte _ (withState t (withHalf (t .state) half)) (record { size = valid .size; state = keeps .valid; page = valid .page }) (event-tells (t .state .half) byte))

@@ -1,0 +1,61 @@
+-- The values that commands work with are as they may be: arguments, the pen, the next cell.
+use mathlib.Core.Path.{_≡_, refl, ap, _∙_}
+use mathlib.Core.Bool.{true}
+use mathlib.Core.List.{List, [], _∷_}
+use Prim.Native.Nat.{ℕ, _≤_}
+use native.Mathlib.Omega.{arith}
+use borrow.Author.Tests.{ltb-true, eqb-true, eqb-false}
+use lib.Dec.{eqb}
+use lib.ListN.{getD}
+use Rattle.words.specs.Choice.{if_then_else_, _and_, _or_, _is_to_}
+use Rattle.words.proofs.Choosing.{either-line}
+use Rattle.state.specs.declared.State.{State}
+use Rattle.state.specs.Pen.{validPen}
+use Rattle.state.specs.Validity.{validState}
+use Rattle.state.proofs.Keeping.{KeepsValid, parts, row-range, column-range, cursor-keeps-valid, plain-keeps-pen, bold-keeps-pen, underlined-keeps-pen, blinking-keeps-pen, reversed-keeps-pen, concealed-keeps-pen}
+use Rattle.steps.specs.Table.{allowed, valueOf}
+use Rattle.steps.specs.Commands.{toNextCell, keptColumn, drawn, drawnAll}
+
+-- Where 0 stands for 1, a value is 1 at least: so for G, d, H and f.
+pub some-value : (final command : ℕ) (arguments : List ℕ) (i : ℕ) → eqb final command ≡ true → allowed command .zero ≡ 1 → 1 ≤ valueOf final arguments i
+unfolding valueOf
+some-value final command arguments i t e =
+    let one : allowed final .zero ≡ 1 = ap (λ (n : ℕ). allowed n .zero) (eqb-true final command t) ∙ e in
+    either-line (λ (n : ℕ). 1 ≤ n) _ _ _ (λ _. omega arith) (λ t. let given = eqb-false (getD arguments i 0) 0 t in omega arith)
+
+pub zero-is-one : (allowed 0x47 .zero ≡ 1) × (allowed 0x64 .zero ≡ 1) × (allowed 0x48 .zero ≡ 1) × (allowed 0x66 .zero ≡ 1)
+unfolding allowed if_then_else_ _and_ _or_ _is_to_
+zero-is-one = (refl, refl, refl, refl)
+
+pub some-column : (row given column present : ℕ) → 1 ≤ column → 1 ≤ present → 1 ≤ keptColumn row given column present
+unfolding keptColumn
+some-column row given column present h k = either-line (λ (n : ℕ). 1 ≤ n) _ _ _ (λ _. k) (λ _. h)
+
+-- The pen after SGR.
+drawn-keeps-pen : (value pen : ℕ) → validPen pen ≡ true → validPen (drawn value pen) ≡ true
+unfolding drawn
+drawn-keeps-pen value pen p =
+    let ok : ℕ → Type 0 = λ n. validPen n ≡ true in
+    either-line ok _ _ _ (λ _. plain-keeps-pen pen p)
+    (λ _. either-line ok _ _ _ (λ _. bold-keeps-pen pen p)
+    (λ _. either-line ok _ _ _ (λ _. underlined-keeps-pen pen p)
+    (λ _. either-line ok _ _ _ (λ _. blinking-keeps-pen pen p)
+    (λ _. either-line ok _ _ _ (λ _. reversed-keeps-pen pen p) (λ _. concealed-keeps-pen pen p)))))
+
+pub drawn-all-keeps-pen : (values : List ℕ) (pen : ℕ) → validPen pen ≡ true → validPen (drawnAll values pen) ≡ true
+unfolding drawnAll
+drawn-all-keeps-pen [] pen p = p
+drawn-all-keeps-pen (value ∷ later) pen p = drawn-all-keeps-pen later (drawn value pen) (drawn-keeps-pen value pen p)
+
+-- The next cell in page order.
+pub next-cell-keeps-valid : (s : State) → validState s ≡ true → KeepsValid s (toNextCell s)
+unfolding toNextCell
+next-cell-keeps-valid s valid =
+    let fits = parts s valid .cursor in
+    let row = row-range (s .size) (s .cursor) fits in
+    let column = column-range (s .size) (s .cursor) fits in
+    either-line (KeepsValid s) _ _ _
+    (λ t. let less = ltb-true (s .cursor .column) (s .size .columns) t in cursor-keeps-valid s valid _ _ row (omega arith, omega arith))
+    (λ _. either-line (KeepsValid s) _ _ _
+    (λ t. let less = ltb-true (s .cursor .row) (s .size .rows) t in cursor-keeps-valid s valid _ 1 (omega arith, omega arith) (omega arith, omega arith))
+    (λ _. cursor-keeps-valid s valid 1 1 (omega arith, omega arith) (omega arith, omega arith)))

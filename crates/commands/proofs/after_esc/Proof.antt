@@ -1,0 +1,28 @@
+use borrow.Author.Needs.{needs}
+use borrow.Author.Tests.{ne-eqb}
+use Rattle.words.specs.Choice.{if_then_else_}
+use Rattle.steps.specs.Commands.{escStep}
+use Rattle.commands.proofs.Silent.{esc-silent, told-silent}
+use Rattle.commands.proofs.after_esc.Statement.{statement}
+use Rattle.commands.proofs.after_esc.Tie as tie
+
+returns : tie.Need-returns
+unfolding escStep if_then_else_
+returns c = rw (c .before .before .before .before .before .before .before .before .if1 .taken) (c .before .before .before .before .send-full .ensures)
+
+returns-2 : tie.Need-returns-2
+returns-2 c = told-silent _ _ _ _ _ _ (c .before .before .before .before .esc-command .ensures) (esc-silent _ _ (ne-eqb _ _ (c .before .before .before .before .before .before .before .if1 .left)))
+
+pub after-esc-spec : {M : Type 1} → statement M
+after-esc-spec =
+    tie.close
+    (tie.spec
+    (λ c κs. search needs)
+    (λ c. search needs)
+    (λ c. search needs)
+    (λ c. search needs)
+    returns
+    (λ c κs. (c .before .before .before .before .before .before .pre .0, c .before .before .if1 .left))
+    (λ c. search needs)
+    (λ c. search needs)
+    returns-2)

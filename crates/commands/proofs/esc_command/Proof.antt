@@ -1,0 +1,77 @@
+use borrow.Author.Needs.{needs}
+use borrow.Author.Tests.{ne-eqb}
+use Rattle.words.specs.Choice.{if_then_else_}
+use Rattle.steps.specs.Commands.{escStep, nextLine}
+use Rattle.commands.proofs.Laws.{measured, margin-valid}
+use Rattle.commands.proofs.esc_command.Statement.{statement}
+use Rattle.commands.proofs.esc_command.Tie as tie
+
+line-down-requires-2 : tie.Need-line-down-requires-2
+line-down-requires-2 c κs = margin-valid (c .before .before .before .before .before .before .pre .0) (c .before .before .to-margin .ensures)
+
+returns-2 : tie.Need-returns-2
+unfolding escStep nextLine if_then_else_
+returns-2 c =
+    let moved = c .before .before .before .before .before .before .before in
+    rw (c .before .before .before .before .line-down2 .ensures, moved .to-margin .ensures, moved .before .match .keys2)
+
+returns-10 : tie.Need-returns-10
+unfolding escStep if_then_else_
+returns-10 c =
+    let none = c .before .match .rest in
+    let start = c .before .before .before .before in
+    rw (c .refuse .ensures _)
+    (simp (
+      ne-eqb _ _ (none .0 .0 .0 .0 .0 .0 .0 .0 .1),
+      ne-eqb _ _ (none .0 .0 .0 .0 .0 .0 .0 .1),
+      ne-eqb _ _ (none .0 .0 .0 .0 .0 .0 .1),
+      ne-eqb _ _ (none .0 .0 .0 .0 .0 .1),
+      ne-eqb _ _ (none .0 .0 .0 .0 .1),
+      ne-eqb _ _ (none .0 .0 .0 .1),
+      ne-eqb _ _ (start .pre .1),
+      ne-eqb _ _ (none .0 .0 .1),
+      ne-eqb _ _ (none .0 .1),
+      ne-eqb _ _ (none .1),
+    ))
+
+pub esc-command-spec : {M : Type 1} → statement M
+unfolding escStep if_then_else_
+esc-command-spec =
+    tie.close
+    (tie.spec
+    (λ c κs. search needs)
+    (λ c κs. search needs)
+    line-down-requires-2
+    (λ c κs. search needs)
+    (λ c κs. measured (c .before .before .before .pre .0) .on-page)
+    (λ c κs. search needs)
+    (λ c κs. search needs)
+    (λ c κs. search needs)
+    (λ c κs. search needs)
+    (λ c κs. search needs)
+    (λ c κs. search needs)
+    (λ c κs. search needs)
+    (λ c κs. search needs)
+    (λ c κs. search needs)
+    (λ c κs. search needs)
+    (λ c κs. search needs)
+    (λ c κs. search needs)
+    (λ c κs. search needs)
+    (λ c. search needs)
+    (λ c. search needs)
+    (λ c. rw (c .before .before .before .before .line-down .ensures, c .before .before .before .before .before .before .before .match .keys1))
+    (λ c. search needs)
+    (λ c. search needs)
+    returns-2
+    (λ c. search needs)
+    (λ c. search needs)
+    (λ c. rw (c .before .before .before .before .line-up .ensures, c .before .before .before .before .before .before .before .match .keys3))
+    (λ c. rw (c .quiet .ensures _, c .before .set-stop .ensures, c .before .before .match .keys4))
+    (λ c. rw (c .quiet2 .ensures _, c .before .with-pen .ensures, c .before .before .pen-protected .ensures, c .before .before .before .match .keys5))
+    (λ c. rw (c .quiet3 .ensures _, c .before .with-pen2 .ensures, c .before .before .pen-unprotected .ensures, c .before .before .before .match .keys6))
+    (λ c. search needs)
+    (λ c. search needs)
+    (λ c. rw (c .before .before .before .before .fresh .ensures, c .before .before .before .before .before .before .before .match .keys7))
+    (λ c. rw (c .quiet4 .ensures _, c .before .disable-input .ensures, c .before .before .match .keys8))
+    (λ c. rw (c .quiet5 .ensures _, c .before .enable-input .ensures, c .before .before .match .keys9))
+    returns-10)

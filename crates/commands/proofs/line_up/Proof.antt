@@ -1,0 +1,41 @@
+use borrow.Author.Needs.{needs}
+use borrow.Author.Tests.{le-ltb}
+use Rattle.words.specs.Choice.{if_then_else_}
+use Rattle.words.proofs.Choosing.{tests}
+use Rattle.page.specs.Page.{pageOf}
+use Rattle.steps.specs.Steps.{allCells}
+use Rattle.steps.specs.Commands.{lineUp}
+use Rattle.commands.proofs.Laws.{measured, all-cells-count}
+use Rattle.commands.proofs.line_up.Statement.{statement}
+use Rattle.commands.proofs.line_up.Tie as tie
+
+scroll-down-requires : tie.Need-scroll-down-requires
+scroll-down-requires c κs =
+    let known = measured (c .before .before .before .before .before .before .pre) in
+    (known .row-fits, known .as-many)
+
+returns : tie.Need-returns
+unfolding lineUp
+returns c = rw (c .quiet .ensures _, c .before .up-by .ensures) (search tests)
+
+returns-2 : tie.Need-returns-2
+unfolding lineUp if_then_else_
+returns-2 c =
+    let scrolled = c .before .before .before .before .before in
+    let tested = scrolled .before .before .before in
+    let start = tested .before .before .before .before in
+    let page = pageOf (start .args .characters .now) (start .args .marks .now) in
+    rw (le-ltb _ _ (tested .if1 .left), c .stored .ensures (allCells page) _ (all-cells-count page), scrolled .scroll-down .ensures)
+
+pub line-up-spec : {M : Type 1} → statement M
+line-up-spec =
+    tie.close
+    (tie.spec
+    (λ c κs. search needs)
+    (λ c κs. search needs)
+    returns
+    scroll-down-requires
+    (λ c κs. search needs)
+    (λ c. search needs)
+    (λ c. search needs)
+    returns-2)

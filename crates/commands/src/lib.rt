@@ -1,0 +1,266 @@
+// Document 01, "Reading host bytes" and "Commands": what text, control bytes and commands do to the page.
+// What each function leaves is defined in specs/Commands.antt and specs/Host.antt of `steps`.
+use sequence::Event;
+use state::State;
+use steps::Step;
+ghost use mathlib.Core.Path.{_≡_};
+ghost use mathlib.Core.List.{List};
+ghost use Prim.Native.Nat.{ℕ, _≤_, _+_};
+ghost use lib.ListN.{length};
+ghost use Rattle.page.specs.Page.{Page, pageOf};
+ghost use Rattle.state.specs.State.{OnPage};
+ghost use Rattle.steps.specs.Steps.{Valid, stores, cursorCell, rowStart};
+ghost use Rattle.steps.specs.Told.{told, tells, written};
+ghost use Rattle.steps.specs.Commands.{toNextCell, textStep, lineDown, lineUp, controlStep, freshStep, escStep, erasing, erasePart, bracketStep};
+ghost use Rattle.steps.specs.Host.{hostStep};
+
+// Cells are stored, and the state changes; `protection` says whether cells may have been protected or unprotected.
+fn stored(state: State, count: usize, protection: bool) -> Step
+    ensures { λ r. ⌜ ((cells : List ℕ) (page : Page) → length cells ≡ count → told r page ≡ tells (stores cells protection state page)) ⌝ }
+{
+    Step {
+        state,
+        stored: count,
+        sent: 0,
+        refused: false,
+        protection,
+        full: false,
+    }
+}
+
+// Text: the next cell in page order, and from the last cell 1;1.
+fn to_next_cell(state: State) -> State
+    requires { ⌜ OnPage state ⌝ }
+    ensures { λ r. ⌜ r ≡ toNextCell state ⌝ }
+{
+    if state.cursor.column < state.size.columns {
+        return state.moved_to(state.cursor.row, state.cursor.column + 1);
+    }
+    if state.cursor.row < state.size.rows {
+        return state.moved_to(state.cursor.row + 1, 1);
+    }
+    state.moved_to(1, 1)
+}
+
+fn text(state: State, characters: &mut [u8], marks: &mut [u8], character: u8) -> Step
+    requires { ⌜ Valid (record { state = state; page = pageOf (now characters) (now marks) }) ⌝ }
+    ensures { λ r. ⌜ told r (pageOf (now (characters .exit)) (now (marks .exit))) ≡ tells (textStep character (record { state = state; page = pageOf (now (characters .entry)) (now (marks .entry)) })) ⌝ }
+{
+    let place = state.place();
+    page::store_text(characters, marks, place.cell, character, state.modes.pen);
+    stored(to_next_cell(state), 1, true)
+}
+
+// IND and LF.
+fn line_down(state: State, characters: &mut [u8], marks: &mut [u8]) -> Step
+    requires { ⌜ Valid (record { state = state; page = pageOf (now characters) (now marks) }) ⌝ }
+    ensures { λ r. ⌜ told r (pageOf (now (characters .exit)) (now (marks .exit))) ≡ tells (lineDown (record { state = state; page = pageOf (now (characters .entry)) (now (marks .entry)) })) ⌝ }
+{
+    if state.cursor.row < state.size.rows {
+        return steps::quiet(state.down_by(1));
+    }
+    let cells = marks.len();
+    page::scroll_up(characters, marks, state.size.columns);
+    stored(state, cells, true)
+}
+
+// RI.
+fn line_up(state: State, characters: &mut [u8], marks: &mut [u8]) -> Step
+    requires { ⌜ Valid (record { state = state; page = pageOf (now characters) (now marks) }) ⌝ }
+    ensures { λ r. ⌜ told r (pageOf (now (characters .exit)) (now (marks .exit))) ≡ tells (lineUp (record { state = state; page = pageOf (now (characters .entry)) (now (marks .entry)) })) ⌝ }
+{
+    if 1 < state.cursor.row {
+        return steps::quiet(state.up_by(1));
+    }
+    let cells = marks.len();
+    page::scroll_down(characters, marks, state.size.columns);
+    stored(state, cells, true)
+}
+
+// RIS: a fresh page is one erased with erasure mode set.
+fn fresh(state: State, characters: &mut [u8], marks: &mut [u8]) -> Step
+    requires { ⌜ Valid (record { state = state; page = pageOf (now characters) (now marks) }) ⌝ }
+    ensures { λ r. ⌜ told r (pageOf (now (characters .exit)) (now (marks .exit))) ≡ tells (freshStep (record { state = state; page = pageOf (now (characters .entry)) (now (marks .entry)) })) ⌝ }
+{
+    let cells = marks.len();
+    page::erase(characters, marks, 0, cells, true);
+    stored(State::fresh(state.size), cells, true)
+}
+
+// BS, HT, LF, CR.
+fn control(state: State, characters: &mut [u8], marks: &mut [u8], byte: u8) -> Step
+    requires { ⌜ Valid (record { state = state; page = pageOf (now characters) (now marks) }) ⌝ }
+    ensures { λ r. ⌜ told r (pageOf (now (characters .exit)) (now (marks .exit))) ≡ tells (controlStep byte (record { state = state; page = pageOf (now (characters .entry)) (now (marks .entry)) })) ⌝ }
+{
+    match byte {
+        0x08 => steps::quiet(state.left_by(1)),
+        0x09 => steps::quiet(state.tab_on(1)),
+        0x0A => line_down(state, characters, marks),
+        _ => steps::quiet(state.to_margin()),
+    }
+}
+
+// After ESC, all but S, which sends.
+fn esc_command(state: State, characters: &mut [u8], marks: &mut [u8], byte: u8) -> Step
+    requires { ⌜ Valid (record { state = state; page = pageOf (now characters) (now marks) }) ⌝ }
+    requires { ⌜ (byte ≡ 0x53 → ⊥) ⌝ }
+    ensures { λ r. ⌜ told r (pageOf (now (characters .exit)) (now (marks .exit))) ≡ tells (escStep byte (record { state = state; page = pageOf (now (characters .entry)) (now (marks .entry)) })) ⌝ }
+{
+    match byte {
+        0x44 => line_down(state, characters, marks),
+        0x45 => line_down(state.to_margin(), characters, marks),
+        0x4D => line_up(state, characters, marks),
+        0x48 => steps::quiet(state.set_stop()),
+        0x56 => steps::quiet(state.with_pen(state::pen_protected(state.modes.pen))),
+        0x57 => steps::quiet(state.with_pen(state::pen_unprotected(state.modes.pen))),
+        0x63 => fresh(state, characters, marks),
+        0x60 => steps::quiet(state.disable_input()),
+        0x62 => steps::quiet(state.enable_input()),
+        _ => steps::refuse(state),
+    }
+}
+
+fn erase_cells(
+    state: State,
+    characters: &mut [u8],
+    marks: &mut [u8],
+    from: usize,
+    to: usize,
+) -> Step
+    requires { ⌜ (from ≤ to) × (to ≤ length (now characters)) × (length (now marks) ≡ length (now characters)) ⌝ }
+    ensures { λ r. ⌜ told r (pageOf (now (characters .exit)) (now (marks .exit))) ≡ tells (erasing from to (record { state = state; page = pageOf (now (characters .entry)) (now (marks .entry)) })) ⌝ }
+{
+    let count = page::erase(characters, marks, from, to, state.modes.erasure);
+    stored(state, count, state.modes.erasure)
+}
+
+// ED and EL, in the cells from `first` to before `end`, among which the cursor's cell is.
+fn erase_part(
+    state: State,
+    characters: &mut [u8],
+    marks: &mut [u8],
+    what: usize,
+    first: usize,
+    end: usize,
+) -> Step
+    requires { ⌜ Valid (record { state = state; page = pageOf (now characters) (now marks) }) ⌝ }
+    requires { ⌜ (first ≤ cursorCell state) × (cursorCell state + 1 ≤ end) × (end ≤ length (now marks)) ⌝ }
+    ensures { λ r. ⌜ told r (pageOf (now (characters .exit)) (now (marks .exit))) ≡ tells (erasePart what first end (record { state = state; page = pageOf (now (characters .entry)) (now (marks .entry)) })) ⌝ }
+{
+    let place = state.place();
+    let cell = place.cell;
+    match what {
+        0 => erase_cells(state, characters, marks, cell, end),
+        1 => erase_cells(state, characters, marks, first, cell + 1),
+        2 => erase_cells(state, characters, marks, first, end),
+        _ => steps::refuse(state),
+    }
+}
+
+// EL.
+fn erase_row(state: State, characters: &mut [u8], marks: &mut [u8], what: usize) -> Step
+    requires { ⌜ Valid (record { state = state; page = pageOf (now characters) (now marks) }) ⌝ }
+    ensures { λ r. ⌜ told r (pageOf (now (characters .exit)) (now (marks .exit))) ≡ tells (erasePart what (rowStart state) (rowStart state + state .size .columns) (record { state = state; page = pageOf (now (characters .entry)) (now (marks .entry)) })) ⌝ }
+{
+    let place = state.place();
+    let first = place.cell - (state.cursor.column - 1);
+    erase_part(
+        state,
+        characters,
+        marks,
+        what,
+        first,
+        first + state.size.columns,
+    )
+}
+
+// After ESC: S sends, and its message may not fit.
+fn after_esc(
+    state: State,
+    before: State,
+    characters: &mut [u8],
+    marks: &mut [u8],
+    out: &mut [u8],
+    at: usize,
+    byte: u8,
+) -> Step
+    requires { ⌜ Valid (record { state = state; page = pageOf (now characters) (now marks) }) ⌝ }
+    requires { ⌜ at ≤ length (now out) ⌝ }
+    ensures { λ r. ⌜ record { told = told r (pageOf (now (characters .exit)) (now (marks .exit))); output = now (out .exit) } ≡ written at (now (out .entry)) (record { state = before; page = pageOf (now (characters .entry)) (now (marks .entry)) }) (escStep byte (record { state = state; page = pageOf (now (characters .entry)) (now (marks .entry)) })) ⌝ }
+{
+    if byte == 0x53 {
+        return sending::send_full(state, before, characters, marks, out, at);
+    }
+    esc_command(state, characters, marks, byte)
+}
+
+// After ESC [: the table is consulted before anything else.
+fn after_bracket(
+    state: State,
+    before: State,
+    characters: &mut [u8],
+    marks: &mut [u8],
+    out: &mut [u8],
+    at: usize,
+    letter: u8,
+) -> Step
+    requires { ⌜ Valid (record { state = state; page = pageOf (now characters) (now marks) }) ⌝ }
+    requires { ⌜ (at ≤ length (now out)) × (0x40 ≤ letter) × (letter ≤ 0x7E) × (before .half .count ≤ 8) ⌝ }
+    ensures { λ r. ⌜ record { told = told r (pageOf (now (characters .exit)) (now (marks .exit))); output = now (out .exit) } ≡ written at (now (out .entry)) (record { state = before; page = pageOf (now (characters .entry)) (now (marks .entry)) }) (bracketStep letter (before .half) (record { state = state; page = pageOf (now (characters .entry)) (now (marks .entry)) })) ⌝ }
+{
+    let half = before.half;
+    let arguments = half.arguments;
+    let count = half.count;
+    if moves::most_arguments(letter) < count {
+        return steps::refuse(state);
+    }
+    if moves::is_move(letter) {
+        return moves::move_command(state, letter, arguments);
+    }
+    let what = moves::value(letter, arguments, 0);
+    let cells = marks.len();
+    match letter {
+        0x57 => moves::tab_control(state, what),
+        0x4A => erase_part(state, characters, marks, what, 0, cells),
+        0x4B => erase_row(state, characters, marks, what),
+        0x6D => moves::rendition(state, arguments, count as usize),
+        0x68 => moves::set_mode(state, true, arguments, count as usize),
+        0x6C => moves::set_mode(state, false, arguments, count as usize),
+        _ => sending::status_report(state, before, out, at, what),
+    }
+}
+
+// The step of a host byte. Its message is written into the output from `at` on; where it does not fit nothing happens.
+pub fn step(
+    state: State,
+    characters: &mut [u8],
+    marks: &mut [u8],
+    out: &mut [u8],
+    at: usize,
+    byte: u8,
+) -> Step
+    requires { ⌜ Valid (record { state = state; page = pageOf (now characters) (now marks) }) ⌝ }
+    requires { ⌜ at ≤ length (now out) ⌝ }
+    ensures { λ r. ⌜ record { told = told r (pageOf (now (characters .exit)) (now (marks .exit))); output = now (out .exit) } ≡ written at (now (out .entry)) (record { state = state; page = pageOf (now (characters .entry)) (now (marks .entry)) }) (hostStep byte (record { state = state; page = pageOf (now (characters .entry)) (now (marks .entry)) })) ⌝ }
+{
+    let half = state.half;
+    let advanced = half.advance(byte);
+    let event = advanced.event;
+    let next = state.with_half(advanced.half);
+    match event {
+        Event::Nothing => steps::quiet(next),
+        Event::Text(character) => text(next, characters, marks, character),
+        Event::Control(other) => control(next, characters, marks, other),
+        Event::EscCommand(letter) => after_esc(next, state, characters, marks, out, at, letter),
+        Event::BracketCommand(letter) => after_bracket(
+            next,
+            state,
+            characters,
+            marks,
+            out,
+            at,
+            letter,
+        ),
+        Event::Refused => steps::refuse(next),
+    }
+}

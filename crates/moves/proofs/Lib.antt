@@ -1,0 +1,3 @@
+pub mod Tables
+pub mod Walking
+pub mod Letters

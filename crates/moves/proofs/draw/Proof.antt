@@ -1,0 +1,30 @@
+use borrow.Author.Needs.{needs}
+use borrow.Author.Tests.{ne-eqb}
+use Rattle.words.specs.Choice.{if_then_else_}
+use Rattle.steps.specs.Commands.{drawn}
+use Rattle.moves.proofs.draw.Statement.{statement}
+use Rattle.moves.proofs.draw.Tie as tie
+
+returns-6 : tie.Need-returns-6
+unfolding drawn if_then_else_
+returns-6 c =
+    let other = c .before .match .rest in
+    rw (c .pen-concealed .ensures) (simp (ne-eqb _ _ (other .1), ne-eqb _ _ (other .0 .1), ne-eqb _ _ (other .0 .0 .1), ne-eqb _ _ (other .0 .0 .0 .1), ne-eqb _ _ (other .0 .0 .0 .0 .1)))
+
+pub draw-spec : {M : Type 1} → statement M
+unfolding drawn if_then_else_
+draw-spec =
+    tie.close
+    (tie.spec
+    (λ c κs. search needs)
+    (λ c κs. search needs)
+    (λ c κs. search needs)
+    (λ c κs. search needs)
+    (λ c κs. search needs)
+    (λ c κs. search needs)
+    (λ c. rw (c .pen-plain .ensures, c .before .match .keys1))
+    (λ c. rw (c .pen-bold .ensures, c .before .match .keys2))
+    (λ c. rw (c .pen-underlined .ensures, c .before .match .keys3))
+    (λ c. rw (c .pen-blinking .ensures, c .before .match .keys4))
+    (λ c. rw (c .pen-reversed .ensures, c .before .match .keys5))
+    returns-6)

@@ -1,0 +1,116 @@
+// Document 01, "Commands": the commands that send, a report or a full block. Where the message doesn't fit nothing happens.
+// `before` is the state before the command's last byte, which is then handed back.
+use state::State;
+use steps::Step;
+ghost use mathlib.Core.Path.{_≡_};
+ghost use mathlib.Core.Bool.{false};
+ghost use Prim.Native.Nat.{_+_, _≤_};
+ghost use lib.ListN.{length};
+ghost use Rattle.words.specs.Output.{Wrote};
+ghost use Rattle.page.specs.Page.{Page, pageOf};
+ghost use Rattle.state.specs.State.{OnPage};
+ghost use Rattle.steps.specs.Steps.{Valid};
+ghost use Rattle.steps.specs.Told.{told, tellsFull, written};
+ghost use Rattle.steps.specs.Commands.{readyBytes, readyReport, cursorReport, statusReport, sendFull};
+
+// A message that doesn't fit: its command has no effect.
+fn no_room(before: State) -> Step
+    ensures { λ r. ⌜ ((page : Page) → told r page ≡ tellsFull (record { state = before; page = page })) ⌝ }
+{
+    Step {
+        state: before,
+        stored: 0,
+        sent: 0,
+        refused: false,
+        protection: false,
+        full: true,
+    }
+}
+
+// A message of so many bytes was sent.
+fn sent(state: State, bytes: usize) -> Step
+    ensures { λ r. ⌜ r ≡ record { state = state; stored = 0; sent = bytes; refused = false; protection = false; full = false } ⌝ }
+{
+    Step {
+        state,
+        stored: 0,
+        sent: bytes,
+        refused: false,
+        protection: false,
+        full: false,
+    }
+}
+
+// ESC [ 0 n.
+fn put_ready(out: &mut [u8], at: usize) -> usize
+    requires { ⌜ at + 4 ≤ length (now out) ⌝ }
+    ensures { λ r. ⌜ Wrote at readyBytes (now (out .entry)) r (now (out .exit)) ⌝ }
+{
+    let bracket = output::put_byte(out, at, 0x1B);
+    let digit = output::put_byte(out, bracket, 0x5B);
+    let end = output::put_byte(out, digit, 0x30);
+    output::put_byte(out, end, 0x6E)
+}
+
+// DSR 5.
+fn ready_report(state: State, before: State, out: &mut [u8], at: usize) -> Step
+    requires { ⌜ at ≤ length (now out) ⌝ }
+    ensures { λ r. ⌜ ((page : Page) → record { told = told r page; output = now (out .exit) } ≡ written at (now (out .entry)) (record { state = before; page = page }) (readyReport (record { state = state; page = page }))) ⌝ }
+{
+    if out.len() - at < 4 {
+        return no_room(before);
+    }
+    put_ready(out, at);
+    sent(state, 4)
+}
+
+// CPR: ESC [ row ; column R.
+fn cursor_report(state: State, before: State, out: &mut [u8], at: usize) -> Step
+    requires { ⌜ OnPage state ⌝ }
+    requires { ⌜ at ≤ length (now out) ⌝ }
+    ensures { λ r. ⌜ ((page : Page) → record { told = told r page; output = now (out .exit) } ≡ written at (now (out .entry)) (record { state = before; page = page }) (cursorReport (record { state = state; page = page }))) ⌝ }
+{
+    let row = state.cursor.row;
+    let column = state.cursor.column;
+    let bytes = output::place_length(row, column);
+    if out.len() - at < bytes {
+        return no_room(before);
+    }
+    output::put_place(out, at, row, column, 0x52);
+    sent(state, bytes)
+}
+
+// DSR.
+pub fn status_report(state: State, before: State, out: &mut [u8], at: usize, what: usize) -> Step
+    requires { ⌜ OnPage state ⌝ }
+    requires { ⌜ at ≤ length (now out) ⌝ }
+    ensures { λ r. ⌜ ((page : Page) → record { told = told r page; output = now (out .exit) } ≡ written at (now (out .entry)) (record { state = before; page = page }) (statusReport what (record { state = state; page = page }))) ⌝ }
+{
+    if what == 5 {
+        return ready_report(state, before, out, at);
+    }
+    if what == 6 {
+        return cursor_report(state, before, out, at);
+    }
+    steps::refuse(state)
+}
+
+// ESC S: a full block.
+pub fn send_full(
+    state: State,
+    before: State,
+    characters: &[u8],
+    marks: &mut [u8],
+    out: &mut [u8],
+    at: usize,
+) -> Step
+    requires { ⌜ Valid (record { state = state; page = pageOf (now characters) (now marks) }) ⌝ }
+    requires { ⌜ at ≤ length (now out) ⌝ }
+    ensures { λ r. ⌜ record { told = told r (pageOf (now (characters .entry)) (now (marks .exit))); output = now (out .exit) } ≡ written at (now (out .entry)) (record { state = before; page = pageOf (now (characters .entry)) (now (marks .entry)) }) (sendFull (record { state = state; page = pageOf (now (characters .entry)) (now (marks .entry)) })) ⌝ }
+{
+    let answer = blocks::send_block(out, at, characters, marks, state.size.columns, true);
+    match answer {
+        blocks::Sent::Bytes(bytes) => sent(state, bytes),
+        blocks::Sent::NoRoom => no_room(before),
+    }
+}

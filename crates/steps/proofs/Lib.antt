@@ -1,0 +1,4 @@
+pub mod Naming
+pub mod Storing
+pub mod Soundness
+pub mod Writing

@@ -1,0 +1,153 @@
+-- Each kind of step is sound: a change of the state alone, a refusal, cells stored, a message sent.
+use mathlib.Core.Path.{_≡_, refl, sym, _∙_}
+use mathlib.Core.Bool.{Bool, true}
+use mathlib.Core.List.{List, []}
+use Prim.Native.Nat.{ℕ, _+_, _*_, _-_, _<_, _≤_}
+use native.Mathlib.Nat.{mul-le-mul-right}
+use native.Mathlib.Omega.{arith}
+use borrow.Author.Tests.{eqb-true}
+use lib.ListN.{length, getD}
+use Rattle.words.proofs.Choosing.{true-is-not-false, both}
+use Rattle.words.proofs.Walking.{once-more}
+use Rattle.page.specs.Page.{Page, pageOf, validPage, sentMark, modifiedCleared}
+use Rattle.page.proofs.Keeping.{SameSize, cleared-same-size, cleared-keeps-valid}
+use Rattle.state.specs.declared.Size.{Size}
+use Rattle.state.specs.declared.State.{State}
+use Rattle.state.specs.State.{refused}
+use Rattle.state.specs.Validity.{listedSize, sizeFits}
+use Rattle.state.proofs.Keeping.{KeepsValid, on-page, refused-keeps-valid}
+use Rattle.steps.specs.Steps.{Terminal, Message, silent, report, Stepped, goesTo, stores, sends, refusing, cursorCell, Valid}
+use Rattle.steps.specs.Claims.{none, markLeft, TouchesOnly, KeepsText, Sound}
+use Rattle.steps.proofs.Naming.{all-stay-protected, same-characters}
+use Rattle.steps.proofs.Storing.{Stored, each-at}
+
+-- A page of the size that the state says.
+pub record Sized (size : Size) (page : Page) : Type 0 where
+  pub listed : listedSize size ≡ true
+  pub characters : length (page .characters) ≡ size .rows * size .columns
+  pub marks : length (page .marks) ≡ size .rows * size .columns
+
+pub sized : (size : Size) (page : Page) → sizeFits size page ≡ true → Sized size page
+unfolding sizeFits
+sized size page fits =
+    let lengths = both (both fits .1) in
+    record { listed = both fits .0; characters = eqb-true _ _ (lengths .0); marks = eqb-true _ _ (lengths .1) }
+
+still-fits : (size after : Size) (page stored : Page) → sizeFits size page ≡ true → after ≡ size → SameSize page stored → sizeFits after stored ≡ true
+unfolding sizeFits
+still-fits size after page stored fits e same = rw (e, same .characters, same .marks) fits
+
+sent-at : (marks : List ℕ) (cell : ℕ) → cell < length marks → getD (modifiedCleared marks) cell 0 ≡ sentMark (getD marks cell 0)
+unfolding modifiedCleared
+sent-at marks cell here = each-at (λ _ mark. sentMark mark) marks cell here
+
+module _ (t : Terminal) (valid : Valid t) where
+  -- The cursor's row and its cell are on the page.
+  pub row-on-page : (t .state .cursor .row - 1) * t .state .size .columns + t .state .size .columns ≤ length (t .page .marks)
+  row-on-page =
+      let size = sized (t .state .size) (t .page) (valid .size) in
+      let cursor = on-page (t .state) (size .listed) (valid .state) in
+      let rows : (t .state .cursor .row - 1 + 1) * t .state .size .columns ≤ t .state .size .rows * t .state .size .columns = mul-le-mul-right (t .state .size .columns) (omega arith) in
+      let last = once-more (t .state .cursor .row - 1) (t .state .size .columns) in
+      omega arith
+
+  pub cursor-on-page : cursorCell (t .state) < length (t .page .marks)
+  cursor-on-page =
+      let size = sized (t .state .size) (t .page) (valid .size) in
+      let cursor = on-page (t .state) (size .listed) (valid .state) in
+      let row = row-on-page in
+      omega arith
+
+  same-size : SameSize (t .page) (t .page)
+  same-size = record { characters = refl; marks = refl }
+
+  stays-valid : (s : State) (page : Page) → KeepsValid (t .state) s → SameSize (t .page) page → validPage page ≡ true → Valid (record { state = s; page = page })
+  stays-valid s page keeps same p =
+      record { size = still-fits (t .state .size) (s .size) (t .page) page (valid .size) (keeps .size) same; state = keeps .valid; page = p }
+
+  untouched : (message : Message) → ((mark : ℕ) → markLeft message mark ≡ mark) → TouchesOnly [] message (t .page) (t .page)
+  untouched message leaves cell here unnamed = record { character = refl; mark = sym (leaves _) }
+
+  pub goes-soundly : (s : State) → KeepsValid (t .state) s → Sound t (goesTo s t)
+  unfolding markLeft
+  goes-soundly s keeps = record {
+    valid = stays-valid s (t .page) keeps same-size (valid .page);
+    size = keeps .size;
+    touches = untouched silent (λ mark. refl);
+    once = none;
+    refusal = λ e. absurd (true-is-not-false (sym e));
+    protection = λ _ cell here. refl;
+  }
+
+  pub refuses-soundly : Sound t (refusing t)
+  unfolding refused markLeft
+  refuses-soundly = let keeps = refused-keeps-valid (t .state) (valid .state) in record {
+    valid = stays-valid (refused (t .state)) (t .page) keeps same-size (valid .page);
+    size = refl;
+    touches = untouched silent (λ mark. refl);
+    once = none;
+    refusal = λ _. record {
+      soft-lock = refl;
+      invalid-command = refl;
+      manual-lock = refl;
+      page = refl;
+      size = refl;
+      cursor = refl;
+      modes = refl;
+      stops = refl;
+      nothing-sent = refl;
+      no-cell = refl;
+    };
+    protection = λ _ cell here. refl;
+  }
+
+  pub stores-soundly : (cells : List ℕ) (unlocks : Bool) (s : State) (page : Page) → KeepsValid (t .state) s → Stored (t .page) cells unlocks page → Sound t (stores cells unlocks s page)
+  stores-soundly cells unlocks s page keeps stored = record {
+    valid = stays-valid s page keeps (stored .size) (stored .valid);
+    size = keeps .size;
+    touches = stored .touches;
+    once = stored .once;
+    refusal = λ e. absurd (true-is-not-false (sym e));
+    protection = stored .protection;
+  }
+
+  -- A message that leaves the marks, and one that clears modified.
+  pub reports-soundly : (bytes : List ℕ) → Sound t (sends (report bytes) (t .state) (t .page))
+  unfolding markLeft
+  reports-soundly bytes = record {
+    valid = valid;
+    size = refl;
+    touches = untouched (report bytes) (λ mark. refl);
+    once = none;
+    refusal = λ e. absurd (true-is-not-false (sym e));
+    protection = λ _ cell here. refl;
+  }
+
+  pub clears-soundly : (message : Message) → ((mark : ℕ) → markLeft message mark ≡ sentMark mark) → Sound t (sends message (t .state) (pageOf (t .page .characters) (modifiedCleared (t .page .marks))))
+  clears-soundly message leaves = record {
+    valid = stays-valid (t .state) cleared (record { size = refl; valid = valid .state }) (cleared-same-size (t .page)) (cleared-keeps-valid (t .page) (valid .page));
+    size = refl;
+    touches = touches;
+    once = none;
+    refusal = λ e. absurd (true-is-not-false (sym e));
+    protection = λ _. all-stay-protected message (t .page) cleared touches;
+  }
+    where
+      cleared : Page
+      cleared = pageOf (t .page .characters) (modifiedCleared (t .page .marks))
+
+      touches : TouchesOnly [] message (t .page) cleared
+      touches cell here unnamed = record { character = refl; mark = sent-at (t .page .marks) cell here ∙ sym (leaves _) }
+
+-- A sound step that names no cell.
+pub names-none : (t : Terminal) (step : Stepped) → Valid t → Sound t step → step .cells ≡ [] → KeepsText (t .page) (step .terminal .page)
+names-none t step valid sound no-cell =
+    let was = sized (t .state .size) (t .page) (valid .size) in
+    let is = sized (t .state .size) (step .terminal .page) (rw (sound .size) at (sound .valid .size)) in
+    let touches = rw no-cell at (sound .touches) in
+    record {
+      characters = same-characters (step .message) (t .page) (step .terminal .page) touches
+          (record { characters = is .characters ∙ sym (was .characters); marks = is .marks ∙ sym (was .marks) })
+          (was .characters ∙ sym (was .marks));
+      protection = all-stay-protected (step .message) (t .page) (step .terminal .page) touches;
+    }

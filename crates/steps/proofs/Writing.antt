@@ -1,0 +1,26 @@
+-- A step with an output: where its message is written, where there is none, and where it doesn't fit.
+use mathlib.Core.Path.{_≡_, sym, ap, _∙_}
+use mathlib.Core.List.{List, []}
+use Prim.Native.Nat.{ℕ, _-_, _<_, _≤_}
+use native.Mathlib.Omega.{arith}
+use borrow.Author.Tests.{le-leb, lt-leb}
+use lib.ListN.{length}
+use Rattle.words.specs.Output.{placed}
+use Rattle.words.proofs.Choosing.{then-case, else-case}
+use Rattle.words.proofs.Output.{wrote-none}
+use Rattle.steps.specs.Steps.{Terminal, Stepped, bytesOf}
+use Rattle.steps.specs.Told.{tells, tellsFull, written}
+
+module _ (at : ℕ) (output : List ℕ) (before : Terminal) (stepped : Stepped) where
+  pub no-room : length output - at < length (bytesOf (stepped .message)) → written at output before stepped ≡ record { told = tellsFull before; output = output }
+  unfolding written
+  no-room little = else-case _ _ _ (lt-leb _ _ little)
+
+  pub with-room : length (bytesOf (stepped .message)) ≤ length output - at → written at output before stepped ≡ record { told = tells stepped; output = placed at (bytesOf (stepped .message)) output }
+  unfolding written
+  with-room enough = then-case _ _ _ (le-leb _ _ enough)
+
+  pub without-message : bytesOf (stepped .message) ≡ [] → written at output before stepped ≡ record { told = tells stepped; output = output }
+  without-message silent =
+      let none : length (bytesOf (stepped .message)) ≡ 0 = ap length silent in
+      with-room (omega arith) ∙ (λ i. record { told = tells stepped; output = (ap (λ (bytes : List ℕ). placed at bytes output) silent ∙ sym (wrote-none at output .left)) i })

@@ -1,0 +1,62 @@
+-- What is claimed of every step, whatever the byte or key.
+use mathlib.Core.Bool.{true, false}
+use mathlib.Core.List.{List, [], _∷_, List·Memᴰ}
+use mathlib.Core.Path.{_≡_}
+use Prim.Native.Nat.{ℕ, _+_, _<_, _≤_}
+use lib.ListN.{length, getD}
+use Rattle.page.specs.Marks.{unprotected}
+use Rattle.page.specs.Page.{Page, sentMark}
+use Rattle.steps.specs.Steps.{Terminal, Message, silent, report, fullBlock, changedBlock, Stepped, Valid}
+
+-- Cells in page order, each named once: none is before `first`, none is as far as `end`.
+pub data Rising (end : ℕ) : ℕ → List ℕ → Type 0 where
+  none : {first : ℕ} → Rising end first []
+  next : {first : ℕ} (cell : ℕ) {later : List ℕ} → first ≤ cell → cell < end → Rising end (cell + 1) later → Rising end first (cell ∷ later)
+
+-- What a message leaves of the mark of a cell that isn't named: a block clears modified, and nothing else does anything.
+unfoldable pub markLeft : Message → ℕ → ℕ
+markLeft silent mark = mark
+markLeft (report bytes) mark = mark
+markLeft (fullBlock bytes) mark = sentMark mark
+markLeft (changedBlock bytes) mark = sentMark mark
+
+-- The cell keeps its character, and its mark but for what a block clears.
+pub record Stays (message : Message) (before after : Page) (cell : ℕ) : Type 0 where
+  pub character : getD (after .characters) cell 0 ≡ getD (before .characters) cell 0
+  pub mark : getD (after .marks) cell 0 ≡ markLeft message (getD (before .marks) cell 0)
+
+-- Every cell of the page that isn't named stays.
+abbrev pub TouchesOnly : List ℕ → Message → Page → Page → Type 0
+TouchesOnly cells message before after =
+    (cell : ℕ) → cell < length (before .marks) → (List·Memᴰ cell cells → ⊥) → Stays message before after cell
+
+-- Every cell of the page is as protected as it was.
+abbrev pub KeepsProtection : Page → Page → Type 0
+KeepsProtection before after = (cell : ℕ) → cell < length (before .marks) → unprotected (after .marks) cell ≡ unprotected (before .marks) cell
+
+-- All characters stay, and all protection.
+pub record KeepsText (before after : Page) : Type 0 where
+  pub characters : after .characters ≡ before .characters
+  pub protection : KeepsProtection before after
+
+-- A refused command sets the soft lock and message 1; all else is as it was, but for the half-read record.
+pub record Refusal (t : Terminal) (step : Stepped) : Type 0 where
+  pub soft-lock : step .terminal .state .locks .soft ≡ true
+  pub invalid-command : step .terminal .state .locks .message ≡ 1
+  pub manual-lock : step .terminal .state .locks .manual ≡ t .state .locks .manual
+  pub page : step .terminal .page ≡ t .page
+  pub size : step .terminal .state .size ≡ t .state .size
+  pub cursor : step .terminal .state .cursor ≡ t .state .cursor
+  pub modes : step .terminal .state .modes ≡ t .state .modes
+  pub stops : step .terminal .state .stops ≡ t .state .stops
+  pub nothing-sent : step .message ≡ silent
+  pub no-cell : step .cells ≡ []
+
+-- All of it, for a step from a terminal.
+pub record Sound (t : Terminal) (step : Stepped) : Type 0 where
+  pub valid : Valid (step .terminal)
+  pub size : step .terminal .state .size ≡ t .state .size
+  pub touches : TouchesOnly (step .cells) (step .message) (t .page) (step .terminal .page)
+  pub once : Rising (length (t .page .marks)) 0 (step .cells)
+  pub refusal : step .wasRefused ≡ true → Refusal t step
+  pub protection : step .protection ≡ false → KeepsProtection (t .page) (step .terminal .page)

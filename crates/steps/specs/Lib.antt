@@ -1,0 +1,6 @@
+pub mod Steps
+pub mod Told
+pub mod Claims
+pub mod Table
+pub mod Commands
+pub mod Host

@@ -1,0 +1,76 @@
+-- One step of the rules: what a host byte or a key does to a terminal.
+use mathlib.Core.Bool.{Bool, true, false}
+use mathlib.Core.List.{List, []}
+use mathlib.Core.Path.{_≡_}
+use Prim.Native.Nat.{ℕ, _-_}
+use lib.ListN.{length}
+use Rattle.words.specs.Lists.{placesFrom}
+use Rattle.page.specs.Page.{Page, validPage}
+use Rattle.places.specs.Places.{cellAt}
+use Rattle.state.specs.declared.State.{State}
+use Rattle.state.specs.State.{refused}
+use Rattle.state.specs.Validity.{sizeFits, validState}
+
+-- All that a call is lent and given: the state, and the characters and marks.
+pub record Terminal : Type 0 where
+  pub state : State
+  pub page : Page
+
+-- What is sent to the host.
+pub data Message : Type 0 where
+  silent : Message
+  report : List ℕ → Message
+  fullBlock : List ℕ → Message
+  changedBlock : List ℕ → Message
+
+unfoldable pub bytesOf : Message → List ℕ
+bytesOf silent = []
+bytesOf (report bytes) = bytes
+bytesOf (fullBlock bytes) = bytes
+bytesOf (changedBlock bytes) = bytes
+
+-- The terminal after a step; the message sent; the cells stored, by their numbers; whether a command was refused;
+-- whether protection may have changed.
+pub record Stepped : Type 0 where
+  pub terminal : Terminal
+  pub message : Message
+  pub cells : List ℕ
+  pub wasRefused : Bool
+  pub protection : Bool
+
+abbrev pub withState : Terminal → State → Terminal
+withState t s = record { state = s; page = t .page }
+
+-- The state changes, and nothing is stored, sent or refused.
+abbrev pub goesTo : State → Terminal → Stepped
+goesTo s t = record { terminal = withState t s; message = silent; cells = []; wasRefused = false; protection = false }
+
+-- Cells are stored, and the state changes.
+abbrev pub stores : List ℕ → Bool → State → Page → Stepped
+stores cells protection s page =
+    record { terminal = record { state = s; page = page }; message = silent; cells = cells; wasRefused = false; protection = protection }
+
+-- A message is sent.
+abbrev pub sends : Message → State → Page → Stepped
+sends message s page = record { terminal = record { state = s; page = page }; message = message; cells = []; wasRefused = false; protection = false }
+
+-- "Reading host bytes", a refused command: it sets the soft lock and message 1 and changes nothing else.
+abbrev pub refusing : Terminal → Stepped
+refusing t =
+    record { terminal = withState t (refused (t .state)); message = silent; cells = []; wasRefused = true; protection = false }
+
+-- The cursor's cell, its row's first, and all cells of the page.
+abbrev pub cursorCell : State → ℕ
+cursorCell s = cellAt (s .size .columns) (s .cursor .row) (s .cursor .column)
+
+abbrev pub rowStart : State → ℕ
+rowStart s = cursorCell s - (s .cursor .column - 1)
+
+abbrev pub allCells : Page → List ℕ
+allCells page = placesFrom (λ _. true) 0 (length (page .marks))
+
+-- A terminal that lines 1 and 2 of the table let pass.
+pub record Valid (t : Terminal) : Type 0 where
+  pub size : sizeFits (t .state .size) (t .page) ≡ true
+  pub state : validState (t .state) ≡ true
+  pub page : validPage (t .page) ≡ true

@@ -1,0 +1,44 @@
+// What the code tells of a step: see specs/.
+use state::State;
+ghost use mathlib.Core.Path.{_≡_};
+ghost use Rattle.page.specs.Page.{Page};
+ghost use Rattle.steps.specs.Steps.{goesTo, refusing};
+ghost use Rattle.steps.specs.Told.{told, tells};
+
+pub struct Step {
+    pub state: State,
+    pub stored: usize,
+    pub sent: usize,
+    pub refused: bool,
+    pub protection: bool,
+    // Its message did not fit, and nothing happened.
+    pub full: bool,
+}
+
+// The state changes, and nothing is stored, sent or refused.
+pub fn quiet(state: State) -> Step
+    ensures { λ r. ⌜ ((page : Page) → told r page ≡ tells (goesTo state (record { state = state; page = page }))) ⌝ }
+{
+    Step {
+        state,
+        stored: 0,
+        sent: 0,
+        refused: false,
+        protection: false,
+        full: false,
+    }
+}
+
+// A refused command: every refusal of a command comes through here.
+pub fn refuse(state: State) -> Step
+    ensures { λ r. ⌜ ((page : Page) → told r page ≡ tells (refusing (record { state = state; page = page }))) ⌝ }
+{
+    Step {
+        state: state.refuse(),
+        stored: 0,
+        sent: 0,
+        refused: true,
+        protection: false,
+        full: false,
+    }
+}
