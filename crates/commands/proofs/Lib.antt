@@ -6,3 +6,4 @@ pub mod Theorems
 pub mod Silent
 pub mod Finals
 pub mod Stepping
+pub mod Examples
