@@ -173,25 +173,25 @@ unfoldable pub listedStep : ℕ → List ℕ → ℕ → Terminal → Stepped
 listedStep final arguments count t =
     let first = valueOf final arguments 0 in
     let second = valueOf final arguments 1 in
-    if eqb final 0x41 then goesTo (upBy first (t .state)) t
-    else if eqb final 0x42 then goesTo (downBy first (t .state)) t
-    else if eqb final 0x43 then goesTo (rightBy first (t .state)) t
-    else if eqb final 0x44 then goesTo (leftBy first (t .state)) t
-    else if eqb final 0x45 then goesTo (toMargin (downBy first (t .state))) t
-    else if eqb final 0x46 then goesTo (toMargin (upBy first (t .state))) t
-    else if eqb final 0x47 then toColumn first t
-    else if eqb final 0x64 then toRow first t
-    else if eqb final 0x48 then toPlace first second t
-    else if eqb final 0x66 then toPlace first (keptColumn (getD arguments 0 0) (getD arguments 1 0) second (t .state .cursor .column)) t
-    else if eqb final 0x49 then goesTo (tabbedOn first (t .state)) t
-    else if eqb final 0x5A then goesTo (tabbedBack first (t .state)) t
-    else if eqb final 0x57 then tabControl first t
-    else if eqb final 0x4A then erasePart first 0 (length (t .page .marks)) t
-    else if eqb final 0x4B then erasePart first (rowStart (t .state)) (rowStart (t .state) + t .state .size .columns) t
-    else if eqb final 0x6D then rendition (take count arguments) t
-    else if eqb final 0x68 then setMode true (take count arguments) t
-    else if eqb final 0x6C then setMode false (take count arguments) t
-    else statusReport first t
+    if eqb final 0x41 then goesTo (upBy first (t .state)) t  -- A
+    else if eqb final 0x42 then goesTo (downBy first (t .state)) t  -- B
+    else if eqb final 0x43 then goesTo (rightBy first (t .state)) t  -- C
+    else if eqb final 0x44 then goesTo (leftBy first (t .state)) t  -- D
+    else if eqb final 0x45 then goesTo (toMargin (downBy first (t .state))) t  -- E
+    else if eqb final 0x46 then goesTo (toMargin (upBy first (t .state))) t  -- F
+    else if eqb final 0x47 then toColumn first t  -- G
+    else if eqb final 0x64 then toRow first t  -- d
+    else if eqb final 0x48 then toPlace first second t  -- H
+    else if eqb final 0x66 then toPlace first (keptColumn (getD arguments 0 0) (getD arguments 1 0) second (t .state .cursor .column)) t  -- f
+    else if eqb final 0x49 then goesTo (tabbedOn first (t .state)) t  -- I
+    else if eqb final 0x5A then goesTo (tabbedBack first (t .state)) t  -- Z
+    else if eqb final 0x57 then tabControl first t  -- W
+    else if eqb final 0x4A then erasePart first 0 (length (t .page .marks)) t  -- J
+    else if eqb final 0x4B then erasePart first (rowStart (t .state)) (rowStart (t .state) + t .state .size .columns) t  -- K
+    else if eqb final 0x6D then rendition (take count arguments) t  -- m
+    else if eqb final 0x68 then setMode true (take count arguments) t  -- h
+    else if eqb final 0x6C then setMode false (take count arguments) t  -- l
+    else statusReport first t  -- n
 
 -- The table is consulted before anything else: a command not listed, or with more arguments, is refused.
 unfoldable pub bracketStep : ℕ → HalfRead → Terminal → Stepped
