@@ -16,7 +16,7 @@ for file in crates/*/src/*.rt; do
         }
         inside && /ensures/ { has = "ensures" }
         inside && /requires/ { needs = "requires" }
-        inside && /^ *{/ { print type name, has, needs; inside = 0 }
+        inside && (/^ *{/ || (/{ *$/ && !/ensures|requires/)) { print type name, has, needs; inside = 0 }
     ' "$file")
     while read -r name has needs; do
         [ -n "$name" ] || continue
