@@ -21,13 +21,13 @@ module _ (values : List ℕ) (count i : ℕ) (counted : count ≤ length values)
   -- A test of each.
   module _ (test : ℕ → Bool) where
     pub next-value-passes : i < count → test (getD values i 0) ≡ true → every test (drop i (take count values)) ≡ every test (drop (i + 1) (take count values))
-    next-value-passes h p = next-passes test (take count values) i (among h) (rw (getD-take count values i 0 h) p)
+    next-value-passes h p = next-passes test 0 (take count values) i (among h) (rw (getD-take count values i 0 h) p)
 
     pub value-fails : i < count → test (getD values i 0) ≡ false → every test (drop i (take count values)) ≡ false
-    value-fails h p = next-fails test (take count values) i (among h) (rw (getD-take count values i 0 h) p)
+    value-fails h p = next-fails test 0 (take count values) i (among h) (rw (getD-take count values i 0 h) p)
 
     pub all-values-pass : count ≤ i → every test (drop i (take count values)) ≡ true
-    all-values-pass h = all-pass test (take count values) i (behind h)
+    all-values-pass h = all-pass test 0 (take count values) i (behind h)
 
   -- A pen that each of them changes.
   pub next-drawn : (pen : ℕ) → i < count → drawnAll (drop i (take count values)) pen ≡ drawnAll (drop (i + 1) (take count values)) (drawn (getD values i 0) pen)

@@ -1,14 +1,13 @@
 -- The loops over tab stops, a turn at a time, and the columns that they end at.
-use mathlib.Core.Path.{_≡_, refl, ap, _∙_}
+use mathlib.Core.Path.{_≡_, refl, ap}
 use mathlib.Core.Bool.{Bool, true, false, not}
 use mathlib.Core.List.{List}
 use Prim.Native.Nat.{ℕ, zero, suc, _+_, _-_, _<_, _≤_}
 use native.Mathlib.Omega.{arith}
-use lib.ListN.{length, getD, drop-of-length-le}
+use lib.ListN.{length, getD}
 use Rattle.words.specs.Choice.{if_then_else_}
-use Rattle.words.specs.Lists.{every}
-use Rattle.words.proofs.Choosing.{either-line, first-decides, first-fails}
-use Rattle.words.proofs.Walking.{next-element}
+use Rattle.words.proofs.Choosing.{either-line}
+use Rattle.words.proofs.Passing.{next-passes, next-fails, all-pass}
 use Rattle.state.specs.Tabs.{stopRight, stopLeft, stopsOn, stopsBack}
 use Rattle.state.specs.Validity.{stopsFit}
 
@@ -19,16 +18,16 @@ OneTo last at = (1 ≤ at) × (at ≤ last)
 -- The stops after the first i columns.
 module _ (stops : List Bool) (i : ℕ) where
   pub no-stop-next : i < length stops → getD stops i false ≡ false → stopsFit i stops ≡ stopsFit (i + 1) stops
-  unfolding stopsFit every
-  no-stop-next here p = ap (every not) (next-element stops i false here) ∙ first-decides _ _ (ap not p)
+  unfolding stopsFit
+  no-stop-next here p = next-passes not false stops i here (ap not p)
 
   pub stop-next : i < length stops → getD stops i false ≡ true → stopsFit i stops ≡ false
-  unfolding stopsFit every
-  stop-next here p = ap (every not) (next-element stops i false here) ∙ first-fails _ _ (ap not p)
+  unfolding stopsFit
+  stop-next here p = next-fails not false stops i here (ap not p)
 
   pub no-stops-left : length stops ≤ i → stopsFit i stops ≡ true
-  unfolding stopsFit every
-  no-stops-left h = rw (drop-of-length-le stops h)
+  unfolding stopsFit
+  no-stops-left h = all-pass not false stops i h
 
 module _ (stops : List Bool) where
   -- One column on, and one back.

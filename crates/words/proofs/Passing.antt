@@ -12,15 +12,15 @@ use Rattle.words.proofs.Choosing.{both, both-hold, first-decides, first
 use Rattle.words.proofs.Walking.{next-element}
 use Rattle.words.proofs.Writing.{length-each, getD-each}
 
--- A loop that asks each element in its turn and has come to i.
-module _ (test : ℕ → Bool) (list : List ℕ) (i : ℕ) where
-  pub next-passes : i < length list → test (getD list i 0) ≡ true → every test (drop i list) ≡ every test (drop (i + 1) list)
+-- A loop that asks each element in its turn and has come to i. (`other` is what `getD` gives past the end.)
+module _ {A : Type 0} (test : A → Bool) (other : A) (list : List A) (i : ℕ) where
+  pub next-passes : i < length list → test (getD list i other) ≡ true → every test (drop i list) ≡ every test (drop (i + 1) list)
   unfolding every
-  next-passes h p = ap (every test) (next-element list i 0 h) ∙ first-decides _ _ p
+  next-passes h p = ap (every test) (next-element list i other h) ∙ first-decides _ _ p
 
-  pub next-fails : i < length list → test (getD list i 0) ≡ false → every test (drop i list) ≡ false
+  pub next-fails : i < length list → test (getD list i other) ≡ false → every test (drop i list) ≡ false
   unfolding every
-  next-fails h p = ap (every test) (next-element list i 0 h) ∙ first-fails _ _ p
+  next-fails h p = ap (every test) (next-element list i other h) ∙ first-fails _ _ p
 
   pub all-pass : length list ≤ i → every test (drop i list) ≡ true
   unfolding every

@@ -21,22 +21,22 @@ returns : tie.Need-returns Inv-loop μ-loop
 unfolding _is_to_
 returns c =
     let turn = c .before .before .before in
-    sym (turn .loop .inv .1 ∙ next-fails _ _ _ (c .before .before .loop-test .taken) (search tests))
+    sym (turn .loop .inv .1 ∙ next-fails _ 0 _ _ (c .before .before .loop-test .taken) (search tests))
 
 returns-2 : tie.Need-returns-2 Inv-loop μ-loop
 unfolding _is_to_
 returns-2 c =
     let turn = c .before .before .before .before in
-    sym (turn .loop .inv .1 ∙ next-fails _ _ _ (c .before .before .before .loop-test .taken) (search tests))
+    sym (turn .loop .inv .1 ∙ next-fails _ 0 _ _ (c .before .before .before .loop-test .taken) (search tests))
 
 loop-again : tie.Need-loop-again Inv-loop μ-loop
 unfolding _is_to_
 loop-again c =
     let turn = c .before .before .before .before in
-    (search needs, turn .loop .inv .1 ∙ next-passes _ _ _ (c .before .before .before .loop-test .taken) (search tests))
+    (search needs, turn .loop .inv .1 ∙ next-passes _ 0 _ _ (c .before .before .before .loop-test .taken) (search tests))
 
 returns-3 : tie.Need-returns-3 Inv-loop μ-loop
-returns-3 c = sym (c .before .loop .inv .1 ∙ all-pass _ _ _ (c .loop-test .left))
+returns-3 c = sym (c .before .loop .inv .1 ∙ all-pass _ 0 _ _ (c .loop-test .left))
 
 pub characters-are-valid-spec : {M : Type 1} → statement M
 characters-are-valid-spec =

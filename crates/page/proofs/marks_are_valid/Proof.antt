@@ -20,16 +20,16 @@ returns : tie.Need-returns Inv-loop μ-loop
 returns c =
     let turn = c .before .before .before in
     let fails = rw (c .before .mark-at .ensures) at (c .if1 .taken) in
-    sym (turn .loop .inv .1 ∙ next-fails _ _ _ (c .before .before .loop-test .taken) (le-ltb _ _ fails))
+    sym (turn .loop .inv .1 ∙ next-fails _ 0 _ _ (c .before .before .loop-test .taken) (le-ltb _ _ fails))
 
 loop-again : tie.Need-loop-again Inv-loop μ-loop
 loop-again c =
     let turn = c .before .before .before in
     let passes = rw (c .before .mark-at .ensures) at (c .if1 .left) in
-    (search needs, turn .loop .inv .1 ∙ next-passes _ _ _ (c .before .before .loop-test .taken) (lt-ltb _ _ passes))
+    (search needs, turn .loop .inv .1 ∙ next-passes _ 0 _ _ (c .before .before .loop-test .taken) (lt-ltb _ _ passes))
 
 returns-2 : tie.Need-returns-2 Inv-loop μ-loop
-returns-2 c = sym (c .before .loop .inv .1 ∙ all-pass _ _ _ (c .loop-test .left))
+returns-2 c = sym (c .before .loop .inv .1 ∙ all-pass _ 0 _ _ (c .loop-test .left))
 
 pub marks-are-valid-spec : {M : Type 1} → statement M
 marks-are-valid-spec =
