@@ -54,19 +54,6 @@ const FREE: Locks = Locks {
     message: 0,
 };
 
-// What a refused start hands back.
-pub const ZERO: State = State {
-    size: Size {
-        rows: 0,
-        columns: 0,
-    },
-    cursor: Cursor { row: 0, column: 0 },
-    modes: PLAIN,
-    locks: FREE,
-    stops: [false; 160],
-    half: sequence::NOTHING_READ,
-};
-
 // From a row or column so many back, not past the first.
 fn back_by(n: usize, at: usize) -> usize
     ensures { λ r. ⌜ r ≡ backBy n at ⌝ }
