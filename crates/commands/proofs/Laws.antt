@@ -1,8 +1,8 @@
--- What a valid terminal tells of its page, that all cells are counted, and what a page erased whole is.
-use mathlib.Core.Path.{_≡_, refl, sym, _∙_}
+-- That all cells are counted, what a page erased whole is, and that the margin keeps a terminal valid.
+use mathlib.Core.Path.{_≡_, refl}
 use mathlib.Core.Bool.{true}
 use mathlib.Core.List.{List, []}
-use Prim.Native.Nat.{ℕ, _<_, _≤_}
+use Prim.Native.Nat.{ℕ}
 use native.Mathlib.Omega.{arith}
 use lib.ListN.{length, replicate}
 use Rattle.words.specs.Choice.{if_then_else_, _and_, _or_}
@@ -12,30 +12,9 @@ use Rattle.words.proofs.Writing.{each-last}
 use Rattle.page.specs.Page.{Page, pageOf, erasable, erased}
 use Rattle.page.proofs.Laws.{erases}
 use Rattle.state.specs.declared.State.{State}
-use Rattle.state.specs.State.{OnPage}
 use Rattle.state.specs.Moves.{toMargin}
-use Rattle.state.proofs.Keeping.{on-page, margin-keeps-valid}
-use Rattle.steps.proofs.Soundness.{sized, row-on-page, cursor-on-page}
-use Rattle.steps.specs.Steps.{Terminal, Valid, cursorCell, allCells, withState}
-
--- What a valid terminal says in numbers: the cursor is on the page, a row fits in it, and both slices have all its cells.
-pub record Measured (t : Terminal) : Type 0 where
-  pub on-page : OnPage (t .state)
-  pub as-many : length (t .page .marks) ≡ length (t .page .characters)
-  pub row-fits : t .state .size .columns ≤ length (t .page .characters)
-  pub cursor-inside : cursorCell (t .state) < length (t .page .characters)
-
-pub measured : {t : Terminal} → Valid t → Measured t
-measured {t} valid =
-    let size = sized (t .state .size) (t .page) (valid .size) in
-    let row = row-on-page t valid in
-    let cursor = cursor-on-page t valid in
-    record {
-      on-page = on-page (t .state) (size .listed) (valid .state);
-      as-many = size .marks ∙ sym (size .characters);
-      row-fits = omega arith;
-      cursor-inside = omega arith;
-    }
+use Rattle.state.proofs.Keeping.{margin-keeps-valid}
+use Rattle.steps.specs.Steps.{Terminal, Valid, allCells, withState}
 
 -- Every cell of the page is counted.
 pub all-cells-count : (page : Page) → length (allCells page) ≡ length (page .marks)

@@ -23,12 +23,12 @@ use Rattle.state.specs.State.{OnPage, withHalf}
 use Rattle.state.specs.Moves.{downBy, toMargin}
 use Rattle.state.specs.Pen.{validPen}
 use Rattle.state.proofs.Keeping.{KeepsValid, size-bounds, on-page, parts, up-keeps-valid, down-keeps-valid, right-keeps-valid, left-keeps-valid, margin-keeps-valid, cursor-keeps-valid, tab-on-keeps-valid, tab-back-keeps-valid, stop-set-keeps-valid, stop-cleared-keeps-valid, stops-cleared-keeps-valid, pen-keeps-valid, protected-keeps-pen, unprotected-keeps-pen, erasure-keeps-valid, disabled-keeps-valid, enabled-keeps-valid, half-keeps-valid, fresh-valid}
-use Rattle.steps.specs.Steps.{Terminal, silent, report, fullBlock, changedBlock, Stepped, withState, goesTo, stores, sends, refusing, cursorCell, Valid, rowStart}
+use Rattle.steps.specs.Steps.{Terminal, silent, report, fullBlock, changedBlock, blockMessage, Stepped, withState, goesTo, stores, sends, refusing, cursorCell, Valid, rowStart}
 use Rattle.steps.specs.Claims.{markLeft, Sound}
 use Rattle.steps.proofs.Storing.{Stored, text-stored, blank-stored, up-stored, down-stored, erasing-stored}
 use Rattle.steps.proofs.Soundness.{Sized, sized, row-on-page, cursor-on-page, goes-soundly, refuses-soundly, stores-soundly, reports-soundly, clears-soundly}
 use Rattle.steps.specs.Table.{allowed, valueOf}
-use Rattle.steps.specs.Commands.{textStep, lineDown, lineUp, nextLine, controlStep, freshStep, sendFull, escStep, toColumn, toRow, toPlace, tabControl, erasing, erasePart, rendition, setMode, readyReport, cursorReport, statusReport, listedStep, bracketStep}
+use Rattle.steps.specs.Commands.{textStep, lineDown, lineUp, nextLine, controlStep, freshStep, sendBlock, escStep, toColumn, toRow, toPlace, tabControl, erasing, erasePart, rendition, setMode, readyReport, cursorReport, statusReport, listedStep, bracketStep}
 use Rattle.steps.specs.Host.{eventStep, hostStep}
 use Rattle.commands.proofs.Claims.{EndsEscS, Stores, no-cell, text-cell, erased-cells, all-cells, HostSound}
 use Rattle.commands.proofs.Values.{some-value, zero-is-one, some-column, drawn-all-keeps-pen, next-cell-keeps-valid}
@@ -89,8 +89,8 @@ module _ (Asked : Type 0) (t : Terminal) (valid : Valid t) where
     no-changed-block = λ bytes e. report-is-no-changed said bytes e;
   }
 
-  full-block-holds : Asked → Holds (sendFull t)
-  unfolding sendFull markLeft
+  full-block-holds : Asked → Holds (sendBlock true t)
+  unfolding sendBlock blockMessage markLeft
   full-block-holds asked = let said = block true (t .state .size .columns) (t .page) in record {
     sound = clears-soundly t valid (fullBlock said) (λ mark. refl);
     stored = no-cell;

@@ -14,20 +14,6 @@ ghost use Rattle.steps.specs.Told.{told, tells, written};
 ghost use Rattle.steps.specs.Commands.{toNextCell, textStep, lineDown, lineUp, controlStep, freshStep, escStep, erasing, erasePart, bracketStep};
 ghost use Rattle.steps.specs.Host.{hostStep};
 
-// Cells are stored, and the state changes; `protection` says whether cells may have been protected or unprotected.
-fn stored(state: State, count: usize, protection: bool) -> Step
-    ensures { λ r. ⌜ ((cells : List ℕ) (page : Page) → length cells ≡ count → told r page ≡ tells (stores cells protection state page)) ⌝ }
-{
-    Step {
-        state,
-        stored: count,
-        sent: 0,
-        refused: false,
-        protection,
-        full: false,
-    }
-}
-
 // Text: the next cell in page order, and from the last cell 1;1.
 fn to_next_cell(state: State) -> State
     requires { ⌜ OnPage state ⌝ }
@@ -48,7 +34,7 @@ fn text(state: State, characters: &mut [u8], marks: &mut [u8], character: u8) ->
 {
     let place = state.place();
     page::store_text(characters, marks, place.cell, character, state.modes.pen);
-    stored(to_next_cell(state), 1, true)
+    steps::stored(to_next_cell(state), 1, true)
 }
 
 // IND and LF.
@@ -61,7 +47,7 @@ fn line_down(state: State, characters: &mut [u8], marks: &mut [u8]) -> Step
     }
     let cells = marks.len();
     page::scroll_up(characters, marks, state.size.columns);
-    stored(state, cells, true)
+    steps::stored(state, cells, true)
 }
 
 // RI.
@@ -74,7 +60,7 @@ fn line_up(state: State, characters: &mut [u8], marks: &mut [u8]) -> Step
     }
     let cells = marks.len();
     page::scroll_down(characters, marks, state.size.columns);
-    stored(state, cells, true)
+    steps::stored(state, cells, true)
 }
 
 // RIS: a fresh page is one erased with erasure mode set.
@@ -84,7 +70,7 @@ fn fresh(state: State, characters: &mut [u8], marks: &mut [u8]) -> Step
 {
     let cells = marks.len();
     page::erase(characters, marks, 0, cells, true);
-    stored(State::fresh(state.size), cells, true)
+    steps::stored(State::fresh(state.size), cells, true)
 }
 
 // BS, HT, LF, CR.
@@ -131,7 +117,7 @@ fn erase_cells(
     ensures { λ r. ⌜ told r (pageOf (now (characters .exit)) (now (marks .exit))) ≡ tells (erasing from to (record { state = state; page = pageOf (now (characters .entry)) (now (marks .entry)) })) ⌝ }
 {
     let count = page::erase(characters, marks, from, to, state.modes.erasure);
-    stored(state, count, state.modes.erasure)
+    steps::stored(state, count, state.modes.erasure)
 }
 
 // ED and EL, in the cells from `first` to before `end`, among which the cursor's cell is.
@@ -189,7 +175,7 @@ fn after_esc(
     ensures { λ r. ⌜ record { told = told r (pageOf (now (characters .exit)) (now (marks .exit))); output = now (out .exit) } ≡ written at (now (out .entry)) (record { state = before; page = pageOf (now (characters .entry)) (now (marks .entry)) }) (escStep byte (record { state = state; page = pageOf (now (characters .entry)) (now (marks .entry)) })) ⌝ }
 {
     if byte == 0x53 {
-        return sending::send_full(state, before, characters, marks, out, at);
+        return sending::send_block(state, before, characters, marks, out, at, true);
     }
     esc_command(state, characters, marks, byte)
 }

@@ -11,7 +11,7 @@ ghost use Rattle.page.specs.Page.{Page, pageOf};
 ghost use Rattle.state.specs.State.{OnPage};
 ghost use Rattle.steps.specs.Steps.{Valid};
 ghost use Rattle.steps.specs.Told.{told, tellsFull, written};
-ghost use Rattle.steps.specs.Commands.{readyBytes, readyReport, cursorReport, statusReport, sendFull};
+ghost use Rattle.steps.specs.Commands.{readyBytes, readyReport, cursorReport, statusReport, sendBlock};
 
 // A message that doesn't fit: its command has no effect.
 fn no_room(before: State) -> Step
@@ -95,20 +95,21 @@ pub fn status_report(state: State, before: State, out: &mut [u8], at: usize, wha
     steps::refuse(state)
 }
 
-// ESC S: a full block.
-pub fn send_full(
+// A full block, for ESC S and key 267, or a changed one, for key 266.
+pub fn send_block(
     state: State,
     before: State,
     characters: &[u8],
     marks: &mut [u8],
     out: &mut [u8],
     at: usize,
+    full: bool,
 ) -> Step
     requires { ⌜ Valid (record { state = state; page = pageOf (now characters) (now marks) }) ⌝ }
     requires { ⌜ at ≤ length (now out) ⌝ }
-    ensures { λ r. ⌜ record { told = told r (pageOf (now (characters .entry)) (now (marks .exit))); output = now (out .exit) } ≡ written at (now (out .entry)) (record { state = before; page = pageOf (now (characters .entry)) (now (marks .entry)) }) (sendFull (record { state = state; page = pageOf (now (characters .entry)) (now (marks .entry)) })) ⌝ }
+    ensures { λ r. ⌜ record { told = told r (pageOf (now (characters .entry)) (now (marks .exit))); output = now (out .exit) } ≡ written at (now (out .entry)) (record { state = before; page = pageOf (now (characters .entry)) (now (marks .entry)) }) (sendBlock full (record { state = state; page = pageOf (now (characters .entry)) (now (marks .entry)) })) ⌝ }
 {
-    let answer = blocks::send_block(out, at, characters, marks, state.size.columns, true);
+    let answer = blocks::send_block(out, at, characters, marks, state.size.columns, full);
     match answer {
         blocks::Sent::Bytes(bytes) => sent(state, bytes),
         blocks::Sent::NoRoom => no_room(before),

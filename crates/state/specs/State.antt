@@ -39,6 +39,18 @@ freshState size =
       half = nothingRead;
     }
 
+-- "Numbers a call gives back": the state of a refused start, all zeros.
+abbrev pub zeroState : State
+zeroState =
+    record {
+      size = record { rows = 0; columns = 0 };
+      cursor = record { row = 0; column = 0 };
+      modes = record { pen = 0; erasure = false };
+      locks = record { manual = false; soft = false; message = 0 };
+      stops = replicate 160 false;
+      half = nothingRead;
+    }
+
 -- "Reading host bytes", a refused command: the soft lock and message 1, INVALID CMD, and nothing else.
 unfoldable pub refused : State → State
 refused s = withLocks s (s .locks .manual) true 1

@@ -5,7 +5,7 @@ ghost use mathlib.Core.Path.{_≡_};
 ghost use Prim.Native.Nat.{_-_, _≤_};
 ghost use Rattle.page.specs.Page.{pageOf};
 ghost use Rattle.places.specs.Places.{placeOf, cellAt};
-ghost use Rattle.state.specs.State.{OnPage, withCursor, withLocks, withHalf, freshState, refused, inputDisabled, inputEnabled, unlocked};
+ghost use Rattle.state.specs.State.{OnPage, withCursor, withLocks, withHalf, freshState, zeroState, refused, inputDisabled, inputEnabled, unlocked};
 ghost use Rattle.state.specs.Moves.{backBy, onBy, upBy, downBy, rightBy, leftBy, toMargin};
 ghost use Rattle.state.specs.Tabs.{stopSet, stopCleared, stopsCleared, stopRight, stopLeft, stopsOn, stopsBack, tabbedOn, tabbedBack};
 ghost use Rattle.state.specs.Pen.{penProtected, penUnprotected, penPlain, penBold, penUnderlined, penBlinking, penReversed, penConcealed, withPen, withErasure, validPen};
@@ -40,6 +40,13 @@ pub struct State {
     pub stops: [bool; 160],
     pub half: HalfRead,
 }
+
+const NO_SIZE: Size = Size {
+    rows: 0,
+    columns: 0,
+};
+
+const NOWHERE: Cursor = Cursor { row: 0, column: 0 };
 
 const HOME: Cursor = Cursor { row: 1, column: 1 };
 
@@ -272,6 +279,20 @@ impl State {
         State {
             size,
             cursor: HOME,
+            modes: PLAIN,
+            locks: FREE,
+            stops: [false; 160],
+            half: sequence::NOTHING_READ,
+        }
+    }
+
+    // What a refused start hands back.
+    pub fn zero() -> Self
+        ensures { λ r. ⌜ r ≡ zeroState ⌝ }
+    {
+        State {
+            size: NO_SIZE,
+            cursor: NOWHERE,
             modes: PLAIN,
             locks: FREE,
             stops: [false; 160],

@@ -2,3 +2,4 @@ pub mod Naming
 pub mod Storing
 pub mod Soundness
 pub mod Writing
+pub mod Measuring

@@ -1,5 +1,6 @@
 -- A step with an output: where its message is written, where there is none, and where it doesn't fit.
-use mathlib.Core.Path.{_≡_, sym, ap, _∙_}
+use mathlib.Core.Path.{_≡_, refl, sym, ap, _∙_}
+use mathlib.Core.Bool.{Bool, true, false}
 use mathlib.Core.List.{List, []}
 use Prim.Native.Nat.{ℕ, _-_, _<_, _≤_}
 use native.Mathlib.Omega.{arith}
@@ -8,8 +9,14 @@ use lib.ListN.{length}
 use Rattle.words.specs.Output.{placed}
 use Rattle.words.proofs.Choosing.{then-case, else-case}
 use Rattle.words.proofs.Output.{wrote-none}
-use Rattle.steps.specs.Steps.{Terminal, Stepped, bytesOf}
+use Rattle.steps.specs.Steps.{Terminal, Stepped, bytesOf, blockMessage}
 use Rattle.steps.specs.Told.{tells, tellsFull, written}
+
+-- The bytes of a block are those that were put in.
+pub block-bytes : (full : Bool) (bytes : List ℕ) → bytesOf (blockMessage full bytes) ≡ bytes
+unfolding bytesOf blockMessage
+block-bytes true bytes = refl
+block-bytes false bytes = refl
 
 module _ (at : ℕ) (output : List ℕ) (before : Terminal) (stepped : Stepped) where
   pub no-room : length output - at < length (bytesOf (stepped .message)) → written at output before stepped ≡ record { told = tellsFull before; output = output }

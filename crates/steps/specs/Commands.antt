@@ -15,7 +15,7 @@ use Rattle.state.specs.State.{withCursor, freshState, inputDisabled, inputEnabl
 use Rattle.state.specs.Moves.{upBy, downBy, rightBy, leftBy, toMargin}
 use Rattle.state.specs.Tabs.{stopSet, stopCleared, stopsCleared, tabbedOn, tabbedBack}
 use Rattle.state.specs.Pen.{penProtected, penUnprotected, penPlain, penBold, penUnderlined, penBlinking, penReversed, penConcealed, withPen, withErasure}
-use Rattle.steps.specs.Steps.{Terminal, report, fullBlock, Stepped, withState, goesTo, stores, sends, refusing, cursorCell, rowStart, allCells}
+use Rattle.steps.specs.Steps.{Terminal, report, blockMessage, Stepped, withState, goesTo, stores, sends, refusing, cursorCell, rowStart, allCells}
 use Rattle.steps.specs.Table.{allowed, valueOf}
 
 -- Text: stored at the cursor with the pen's marks; the cursor goes to the next cell in page order, and from the last to 1;1.
@@ -56,10 +56,10 @@ unfoldable pub freshStep : Terminal → Stepped
 freshStep t =
     stores (allCells (t .page)) true (freshState (t .state .size)) (pageOf (replicate (length (t .page .characters)) 0x20) (replicate (length (t .page .marks)) 0))
 
--- ESC S: a full block; sending clears modified.
-unfoldable pub sendFull : Terminal → Stepped
-sendFull t =
-    sends (fullBlock (block true (t .state .size .columns) (t .page))) (t .state) (pageOf (t .page .characters) (modifiedCleared (t .page .marks)))
+-- A block is sent, full or changed; sending clears modified. ESC S sends a full one.
+unfoldable pub sendBlock : Bool → Terminal → Stepped
+sendBlock full t =
+    sends (blockMessage full (block full (t .state .size .columns) (t .page))) (t .state) (pageOf (t .page .characters) (modifiedCleared (t .page .marks)))
 
 -- After ESC: D E M H V W S c ` b.
 unfoldable pub escStep : ℕ → Terminal → Stepped
@@ -70,7 +70,7 @@ escStep byte t =
     else if eqb byte 0x48 then goesTo (stopSet (t .state)) t  -- H: HTS
     else if eqb byte 0x56 then goesTo (withPen (t .state) (penProtected (t .state .modes .pen))) t  -- V: SPA
     else if eqb byte 0x57 then goesTo (withPen (t .state) (penUnprotected (t .state .modes .pen))) t  -- W: EPA
-    else if eqb byte 0x53 then sendFull t  -- S: STS
+    else if eqb byte 0x53 then sendBlock true t  -- S: STS
     else if eqb byte 0x63 then freshStep t  -- c: RIS
     else if eqb byte 0x60 then goesTo (inputDisabled (t .state)) t  -- `: DMI
     else if eqb byte 0x62 then goesTo (inputEnabled (t .state)) t  -- b: EMI

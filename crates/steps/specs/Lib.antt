@@ -4,3 +4,4 @@ pub mod Claims
 pub mod Table
 pub mod Commands
 pub mod Host
+pub mod Keys

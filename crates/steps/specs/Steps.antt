@@ -29,6 +29,11 @@ bytesOf (report bytes) = bytes
 bytesOf (fullBlock bytes) = bytes
 bytesOf (changedBlock bytes) = bytes
 
+-- The message that a block is.
+unfoldable pub blockMessage : Bool → List ℕ → Message
+blockMessage true bytes = fullBlock bytes
+blockMessage false bytes = changedBlock bytes
+
 -- The terminal after a step; the message sent; the cells stored, by their numbers; whether a command was refused;
 -- whether protection may have changed.
 pub record Stepped : Type 0 where

@@ -1,8 +1,11 @@
 // What the code tells of a step: see specs/.
 use state::State;
 ghost use mathlib.Core.Path.{_≡_};
+ghost use mathlib.Core.List.{List};
+ghost use Prim.Native.Nat.{ℕ};
+ghost use lib.ListN.{length};
 ghost use Rattle.page.specs.Page.{Page};
-ghost use Rattle.steps.specs.Steps.{goesTo, refusing};
+ghost use Rattle.steps.specs.Steps.{goesTo, refusing, stores};
 ghost use Rattle.steps.specs.Told.{told, tells};
 
 pub struct Step {
@@ -39,6 +42,20 @@ pub fn refuse(state: State) -> Step
         sent: 0,
         refused: true,
         protection: false,
+        full: false,
+    }
+}
+
+// Cells are stored, and the state changes; `protection` says whether cells may have been protected or unprotected.
+pub fn stored(state: State, count: usize, protection: bool) -> Step
+    ensures { λ r. ⌜ ((cells : List ℕ) (page : Page) → length cells ≡ count → told r page ≡ tells (stores cells protection state page)) ⌝ }
+{
+    Step {
+        state,
+        stored: count,
+        sent: 0,
+        refused: false,
+        protection,
         full: false,
     }
 }

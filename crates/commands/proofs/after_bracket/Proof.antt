@@ -3,7 +3,7 @@ use native.Mathlib.Omega.{arith}
 use borrow.Author.Needs.{needs}
 use Rattle.page.specs.Page.{pageOf}
 use Rattle.steps.specs.Steps.{Terminal, bytesOf}
-use Rattle.commands.proofs.Laws.{measured}
+use Rattle.steps.proofs.Measuring.{measured}
 use Rattle.commands.proofs.Silent.{move-silent, tab-silent, erase-silent, rendition-silent, mode-silent, told-silent}
 use Rattle.commands.proofs.Finals.{too-many, not-too-many, final-W, final-J, final-K, final-m, final-h, final-l, final-n}
 use Rattle.commands.proofs.after_bracket.Statement.{statement}

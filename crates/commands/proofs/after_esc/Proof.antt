@@ -8,7 +8,7 @@ use Rattle.commands.proofs.after_esc.Tie as tie
 
 returns : tie.Need-returns
 unfolding escStep if_then_else_
-returns c = rw (c .before .before .before .before .before .before .before .before .if1 .taken) (c .before .before .before .before .send-full .ensures)
+returns c = rw (c .before .before .before .before .before .before .before .before .if1 .taken) (c .before .before .before .before .send-block .ensures)
 
 returns-2 : tie.Need-returns-2
 returns-2 c = told-silent _ _ _ _ _ _ (c .before .before .before .before .esc-command .ensures) (esc-silent _ _ (ne-eqb _ _ (c .before .before .before .before .before .before .before .if1 .left)))

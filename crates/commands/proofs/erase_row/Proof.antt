@@ -7,7 +7,7 @@ use Rattle.places.proofs.Counting.{cell-is}
 use Rattle.steps.specs.Told.{tells}
 use Rattle.steps.specs.Commands.{erasePart}
 use Rattle.steps.proofs.Soundness.{row-on-page}
-use Rattle.commands.proofs.Laws.{measured}
+use Rattle.steps.proofs.Measuring.{measured}
 use Rattle.commands.proofs.erase_row.Statement.{statement}
 use Rattle.commands.proofs.erase_row.Tie as tie
 

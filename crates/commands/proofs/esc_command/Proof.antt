@@ -2,7 +2,8 @@ use borrow.Author.Needs.{needs}
 use borrow.Author.Tests.{ne-eqb}
 use Rattle.words.specs.Choice.{if_then_else_}
 use Rattle.steps.specs.Commands.{escStep, nextLine}
-use Rattle.commands.proofs.Laws.{measured, margin-valid}
+use Rattle.steps.proofs.Measuring.{measured}
+use Rattle.commands.proofs.Laws.{margin-valid}
 use Rattle.commands.proofs.esc_command.Statement.{statement}
 use Rattle.commands.proofs.esc_command.Tie as tie
 

@@ -3,7 +3,8 @@ use borrow.Author.Needs.{needs}
 use Rattle.page.specs.Page.{pageOf}
 use Rattle.steps.specs.Steps.{allCells}
 use Rattle.steps.specs.Commands.{freshStep}
-use Rattle.commands.proofs.Laws.{measured, all-cells-count, erased-is-fresh}
+use Rattle.steps.proofs.Measuring.{measured}
+use Rattle.commands.proofs.Laws.{all-cells-count, erased-is-fresh}
 use Rattle.commands.proofs.fresh.Statement.{statement}
 use Rattle.commands.proofs.fresh.Tie as tie
 

@@ -5,7 +5,8 @@ use Rattle.words.proofs.Choosing.{tests}
 use Rattle.page.specs.Page.{pageOf}
 use Rattle.steps.specs.Steps.{allCells}
 use Rattle.steps.specs.Commands.{lineDown}
-use Rattle.commands.proofs.Laws.{measured, all-cells-count}
+use Rattle.steps.proofs.Measuring.{measured}
+use Rattle.commands.proofs.Laws.{all-cells-count}
 use Rattle.commands.proofs.line_down.Statement.{statement}
 use Rattle.commands.proofs.line_down.Tie as tie
 

@@ -5,7 +5,8 @@ use Rattle.words.proofs.Choosing.{tests}
 use Rattle.page.specs.Page.{pageOf}
 use Rattle.steps.specs.Steps.{allCells}
 use Rattle.steps.specs.Commands.{lineUp}
-use Rattle.commands.proofs.Laws.{measured, all-cells-count}
+use Rattle.steps.proofs.Measuring.{measured}
+use Rattle.commands.proofs.Laws.{all-cells-count}
 use Rattle.commands.proofs.line_up.Statement.{statement}
 use Rattle.commands.proofs.line_up.Tie as tie
 

@@ -7,8 +7,8 @@ use Rattle.state.proofs.Keeping.{size-bounds}
 use Rattle.steps.specs.Told.{told}
 use Rattle.steps.proofs.Soundness.{sized}
 use Rattle.sending.proofs.Laws.{toldOf, told-of}
-use Rattle.sending.proofs.send_full.Statement.{statement}
-use Rattle.sending.proofs.send_full.Tie as tie
+use Rattle.sending.proofs.send_block.Statement.{statement}
+use Rattle.sending.proofs.send_block.Tie as tie
 
 send-block-requires : tie.Need-send-block-requires
 send-block-requires c κs =
@@ -30,7 +30,7 @@ returns c =
     let answer = sym (c .before .before .answer .given .1) in
     (λ i. record { told = told (c .sent .ensures i) (pageOf (page .characters) marks); output = out })
     ∙ (λ i. record { told = toldOf (start .args .state) (start .args .before) (page .characters) (answer i) marks; output = out })
-    ∙ told-of (start .args .state) (start .args .before) page (start .args .at) (start .args .out .now) _ _ _ (block .ensures)
+    ∙ told-of (start .args .full) (start .args .state) (start .args .before) page (start .args .at) (start .args .out .now) _ _ _ (block .ensures)
 
 returns-2 : tie.Need-returns-2
 returns-2 c =
@@ -42,10 +42,10 @@ returns-2 c =
     let answer = sym (c .before .enum-told .given .1) in
     (λ i. record { told = c .no-room .ensures (pageOf (page .characters) marks) i; output = out })
     ∙ (λ i. record { told = toldOf (start .args .state) (start .args .before) (page .characters) (answer i) marks; output = out })
-    ∙ told-of (start .args .state) (start .args .before) page (start .args .at) (start .args .out .now) _ _ _ (block .ensures)
+    ∙ told-of (start .args .full) (start .args .state) (start .args .before) page (start .args .at) (start .args .out .now) _ _ _ (block .ensures)
 
-pub send-full-spec : {M : Type 1} → statement M
-send-full-spec =
+pub send-block-spec : {M : Type 1} → statement M
+send-block-spec =
     tie.close
     (tie.spec
     send-block-requires
