@@ -5,19 +5,12 @@ use mathlib.Core.Path.{_≡_}
 use Prim.Native.Nat.{ℕ}
 use Rattle.sequence.specs.declared.HalfRead.{HalfRead}
 use Rattle.page.specs.Page.{cellsErased}
-use Rattle.blocks.specs.Blocks.{block}
 use Rattle.steps.specs.Steps.{Terminal, fullBlock, changedBlock, Stepped, cursorCell, allCells}
-use Rattle.steps.specs.Claims.{Sound}
+use Rattle.steps.specs.Claims.{SendsBlock, Sound}
 
 -- The byte ends ESC S.
 abbrev pub EndsEscS : HalfRead → ℕ → Type 0
 EndsEscS half byte = (half .kind ≡ 1) × (byte ≡ 0x53)
-
--- A full block is sent because it was asked for; it has all fields of the page as it was, and no cell is named.
-pub record SendsFull (Asked : Type 0) (t : Terminal) (step : Stepped) (bytes : List ℕ) : Type 0 where
-  pub asked : Asked
-  pub all-fields : bytes ≡ block true (t .state .size .columns) (t .page)
-  pub no-cell : step .cells ≡ []
 
 -- The cells that a step may store: none; one, for text; those that it erases; all R x C, for a scroll and ESC c.
 pub data Stores (t : Terminal) : List ℕ → Type 0 where
@@ -30,5 +23,5 @@ pub data Stores (t : Terminal) : List ℕ → Type 0 where
 pub record HostSound (Asked : Type 0) (t : Terminal) (step : Stepped) : Type 0 where
   pub sound : Sound t step
   pub stored : Stores t (step .cells)
-  pub full-block : (bytes : List ℕ) → step .message ≡ fullBlock bytes → SendsFull Asked t step bytes
+  pub full-block : (bytes : List ℕ) → step .message ≡ fullBlock bytes → SendsBlock true Asked t step bytes
   pub no-changed-block : (bytes : List ℕ) → step .message ≡ changedBlock bytes → ⊥

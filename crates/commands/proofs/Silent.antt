@@ -1,21 +1,15 @@
 -- Which steps send nothing: all but ESC S and DSR.
-use mathlib.Core.Path.{_≡_, refl, sym, _∙_}
+use mathlib.Core.Path.{_≡_, refl}
 use mathlib.Core.Bool.{Bool, true, false}
-use mathlib.Core.List.{List, []}
+use mathlib.Core.List.{List}
 use Prim.Native.Nat.{ℕ}
 use borrow.Author.Tests.{eqb-false}
 use lib.Dec.{eqb}
 use Rattle.words.proofs.Choosing.{not-both, either-line}
-use Rattle.page.specs.Page.{Page}
 use Rattle.moves.proofs.Letters.{only-z}
-use Rattle.steps.specs.declared.Step.{Step}
-use Rattle.steps.specs.Told.{told, tells, written}
-use Rattle.steps.proofs.Writing.{without-message}
-use Rattle.steps.specs.Steps.{Terminal, Stepped, bytesOf}
+use Rattle.steps.proofs.Writing.{Silent}
+use Rattle.steps.specs.Steps.{Terminal, bytesOf}
 use Rattle.steps.specs.Commands.{textStep, lineDown, lineUp, nextLine, controlStep, freshStep, escStep, isMove, toColumn, toRow, toPlace, tabControl, erasing, erasePart, rendition, setMode, listedStep}
-
-abbrev Silent : Stepped → Type 0
-Silent stepped = bytesOf (stepped .message) ≡ []
 
 pub text-silent : (character : ℕ) (t : Terminal) → Silent (textStep character t)
 unfolding textStep bytesOf
@@ -98,8 +92,3 @@ move-silent final arguments count t move =
     (λ m. either-line Silent _ _ _ (λ _. mode-silent _ _ t)
     (λ set. either-line Silent _ _ _ (λ _. mode-silent _ _ t)
     (λ reset. absurd (eqb-false final 0x5A z (only-z final move (((((((((tt, eqb-false _ _ a), eqb-false _ _ b), eqb-false _ _ c), eqb-false _ _ d), eqb-false _ _ e), eqb-false _ _ f), eqb-false _ _ g), eqb-false _ _ h), eqb-false _ _ i) (eqb-false _ _ vpa) (eqb-false _ _ hvp)))))))))))))))))))))
-
--- Where the code tells what a silent step does, it tells what is written.
-pub told-silent : (at : ℕ) (output : List ℕ) (before : Terminal) (stepped : Stepped) (step : Step) (page : Page) → told step page ≡ tells stepped → Silent stepped → record { told = told step page; output = output } ≡ written at output before stepped
-told-silent at output before stepped step page is silent =
-    (λ i. record { told = is i; output = output }) ∙ sym (without-message at output before stepped silent)

@@ -23,9 +23,10 @@ use Rattle.state.specs.State.{OnPage, withHalf}
 use Rattle.state.specs.Moves.{downBy, toMargin}
 use Rattle.state.specs.Pen.{validPen}
 use Rattle.state.proofs.Keeping.{KeepsValid, size-bounds, on-page, parts, up-keeps-valid, down-keeps-valid, right-keeps-valid, left-keeps-valid, margin-keeps-valid, cursor-keeps-valid, tab-on-keeps-valid, tab-back-keeps-valid, stop-set-keeps-valid, stop-cleared-keeps-valid, stops-cleared-keeps-valid, pen-keeps-valid, protected-keeps-pen, unprotected-keeps-pen, erasure-keeps-valid, disabled-keeps-valid, enabled-keeps-valid, half-keeps-valid, fresh-valid}
-use Rattle.steps.specs.Steps.{Terminal, silent, report, fullBlock, changedBlock, blockMessage, Stepped, withState, goesTo, stores, sends, refusing, cursorCell, Valid, rowStart}
+use Rattle.steps.specs.Steps.{Terminal, silent, report, fullBlock, blockMessage, Stepped, withState, goesTo, stores, sends, refusing, cursorCell, Valid, rowStart}
 use Rattle.steps.specs.Claims.{markLeft, Sound}
 use Rattle.steps.proofs.Storing.{Stored, text-stored, blank-stored, up-stored, down-stored, erasing-stored}
+use Rattle.steps.proofs.Messages.{silent-is-no-full, silent-is-no-changed, report-is-no-full, report-is-no-changed, full-is-no-changed, same-full}
 use Rattle.steps.proofs.Soundness.{Sized, sized, row-on-page, cursor-on-page, goes-soundly, refuses-soundly, stores-soundly, reports-soundly, clears-soundly}
 use Rattle.steps.specs.Table.{allowed, valueOf}
 use Rattle.steps.specs.Commands.{textStep, lineDown, lineUp, nextLine, controlStep, freshStep, sendBlock, escStep, toColumn, toRow, toPlace, tabControl, erasing, erasePart, rendition, setMode, readyReport, cursorReport, statusReport, listedStep, bracketStep}
@@ -33,25 +34,6 @@ use Rattle.steps.specs.Host.{eventStep, hostStep}
 use Rattle.commands.proofs.Claims.{EndsEscS, Stores, no-cell, text-cell, erased-cells, all-cells, HostSound}
 use Rattle.commands.proofs.Values.{some-value, zero-is-one, some-column, drawn-all-keeps-pen, next-cell-keeps-valid}
 use Rattle.sequence.proofs.Events.{Tells, event-tells}
-
--- Messages of different kinds differ.
-silent-is-no-full : (bytes : List ℕ) → silent ≡ fullBlock bytes → ⊥
-silent-is-no-full bytes e = let z : _≡_ {A = ℕ} 0 1 = cc in omega arith
-
-silent-is-no-changed : (bytes : List ℕ) → silent ≡ changedBlock bytes → ⊥
-silent-is-no-changed bytes e = let z : _≡_ {A = ℕ} 0 1 = cc in omega arith
-
-report-is-no-full : (said bytes : List ℕ) → report said ≡ fullBlock bytes → ⊥
-report-is-no-full said bytes e = let z : _≡_ {A = ℕ} 0 1 = cc in omega arith
-
-report-is-no-changed : (said bytes : List ℕ) → report said ≡ changedBlock bytes → ⊥
-report-is-no-changed said bytes e = let z : _≡_ {A = ℕ} 0 1 = cc in omega arith
-
-full-is-no-changed : (said bytes : List ℕ) → fullBlock said ≡ changedBlock bytes → ⊥
-full-is-no-changed said bytes e = let z : _≡_ {A = ℕ} 0 1 = cc in omega arith
-
-same-bytes : (said bytes : List ℕ) → fullBlock said ≡ fullBlock bytes → bytes ≡ said
-same-bytes said bytes e = cc
 
 then-keeps : {before between after : State} → KeepsValid before between → KeepsValid between after → KeepsValid before after
 then-keeps first second = record { size = second .size ∙ first .size; valid = second .valid }
@@ -94,7 +76,7 @@ module _ (Asked : Type 0) (t : Terminal) (valid : Valid t) where
   full-block-holds asked = let said = block true (t .state .size .columns) (t .page) in record {
     sound = clears-soundly t valid (fullBlock said) (λ mark. refl);
     stored = no-cell;
-    full-block = λ bytes e. record { asked = asked; all-fields = same-bytes said bytes e; no-cell = refl };
+    full-block = λ bytes e. record { asked = asked; of-page = same-full said bytes e; no-cell = refl };
     no-changed-block = λ bytes e. full-is-no-changed said bytes e;
   }
 
@@ -298,7 +280,7 @@ whatever-half-read Asked t half step holds = let sound = holds .sound in record 
     protection = sound .protection;
   };
   stored = whatever-half-stores t half (holds .stored);
-  full-block = λ bytes e. let full = holds .full-block bytes e in record { asked = full .asked; all-fields = full .all-fields; no-cell = full .no-cell };
+  full-block = λ bytes e. let full = holds .full-block bytes e in record { asked = full .asked; of-page = full .of-page; no-cell = full .no-cell };
   no-changed-block = holds .no-changed-block;
 }
 

@@ -13,12 +13,12 @@ use Rattle.page.specs.Page.{Page, erasable, cellsErased}
 use Rattle.state.specs.declared.State.{State}
 use Rattle.state.specs.Moves.{toMargin}
 use Rattle.steps.specs.Steps.{Terminal, Message, fullBlock, changedBlock, Stepped, goesTo, sends, refusing, allCells, Valid}
-use Rattle.steps.specs.Claims.{Rising, TouchesOnly, KeepsProtection, KeepsText, Refusal}
+use Rattle.steps.specs.Claims.{Rising, TouchesOnly, KeepsProtection, KeepsText, Refusal, SendsBlock}
 use Rattle.steps.proofs.Naming.{named-between, places-rise}
 use Rattle.steps.proofs.Soundness.{sized, names-none}
 use Rattle.steps.specs.Commands.{textStep, lineDown, lineUp, nextLine, freshStep, erasing}
 use Rattle.steps.specs.Host.{hostStep}
-use Rattle.commands.proofs.Claims.{EndsEscS, SendsFull, Stores}
+use Rattle.commands.proofs.Claims.{EndsEscS, Stores}
 use Rattle.commands.proofs.Tables.{host-holds}
 
 module _ (byte : ℕ) (t : Terminal) (valid : Valid t) where
@@ -53,7 +53,7 @@ module _ (byte : ℕ) (t : Terminal) (valid : Valid t) where
   step-refused refused = host-holds byte t valid .sound .refusal refused
 
   -- Only ESC S sends a full block, and it has all fields of the page; no byte sends a changed block.
-  pub step-sends-full : (bytes : List ℕ) → hostStep byte t .message ≡ fullBlock bytes → SendsFull (EndsEscS (t .state .half) byte) t (hostStep byte t) bytes
+  pub step-sends-full : (bytes : List ℕ) → hostStep byte t .message ≡ fullBlock bytes → SendsBlock true (EndsEscS (t .state .half) byte) t (hostStep byte t) bytes
   step-sends-full bytes sent = host-holds byte t valid .full-block bytes sent
 
   pub step-sends-no-changed : (bytes : List ℕ) → hostStep byte t .message ≡ changedBlock bytes → ⊥

@@ -1,5 +1,5 @@
 -- A field's bounds: a field is a longest run of joined cells, and such a run is around each cell.
-use mathlib.Core.Path.{_≡_, ap}
+use mathlib.Core.Path.{_≡_, refl, ap}
 use mathlib.Core.Bool.{Bool, true, false}
 use mathlib.Core.Logic.{_⊎_, inl, inr, ⊎-elim}
 use Prim.Native.Nat.{ℕ, zero, suc, _+_, _-_, _<_, _≤_}
@@ -8,7 +8,7 @@ use native.Mathlib.Omega.{arith}
 use Rattle.words.proofs.Choosing.{either-line, le-or-lt, not-both}
 use Rattle.places.specs.Places.{placeOf}
 use Rattle.fields.specs.Fields.{Field, joined, fieldStart, endFrom, fieldEnd}
-use Rattle.fields.proofs.Claims.{IsField, endOf, _has_, fieldAround, IsAround}
+use Rattle.fields.proofs.Claims.{IsField, endOf, _has_, fieldAround, IsAround, FreeAround}
 use Rattle.fields.proofs.Laws.{first-opens, none-opens, one-row, are-joined, are-apart, why-apart, joined-free, joined-within}
 
 -- What is known of the start and of the end that are found from a cell.
@@ -18,16 +18,16 @@ module _ (free : ℕ → Bool) (columns : ℕ) where
     pub inside : (k : ℕ) → start < k → k ≤ cell → joined free (placeOf columns k) ≡ true
     pub before : joined free (placeOf columns start) ≡ false
 
-  pub start-of : 0 < columns → (cell : ℕ) → IsStart cell (fieldStart free columns cell)
+  pub start-of : (cell : ℕ) → IsStart cell (fieldStart free columns cell)
   unfolding fieldStart
-  start-of some zero =
+  start-of zero =
       record {
         low = omega arith;
         inside = λ k over under. absurd (omega arith);
         before = are-apart free (placeOf columns zero) (inl (first-opens columns));
       }
-  start-of some (suc cell) =
-      let further = start-of some cell in
+  start-of (suc cell) =
+      let further = start-of cell in
       either-line (IsStart (suc cell)) _ _ _
       (λ j. record {
         low = omega arith;
@@ -57,9 +57,38 @@ module _ (free : ℕ → Bool) (columns : ℕ) where
       })
       (λ j. record { high = omega arith; on-page = omega arith; inside = λ k over under. absurd (omega arith); after = inr j })
 
-  pub end-of : (cells cell : ℕ) → cell < cells → IsEnd cells cell (fieldEnd free columns cells cell)
+  -- the page has so many cells, or the cell is past it
+  pub end-anywhere : (cells cell : ℕ) → IsEnd (cell + 1 + (cells - (cell + 1))) cell (fieldEnd free columns cells cell)
   unfolding fieldEnd
-  end-of cells cell here = end-from cells (cells - (cell + 1)) cell (omega arith)
+  end-anywhere cells cell = end-from (cell + 1 + (cells - (cell + 1))) (cells - (cell + 1)) cell refl
+
+  pub end-of : (cells cell : ℕ) → cell < cells → IsEnd cells cell (fieldEnd free columns cells cell)
+  end-of cells cell here = let all : cell + 1 + (cells - (cell + 1)) ≡ cells = omega arith in rw all at (end-anywhere cells cell)
+
+  joined-around : (cells cell k : ℕ) → fieldStart free columns cell < k → k < fieldEnd free columns cells cell → joined free (placeOf columns k) ≡ true
+  joined-around cells cell k over under =
+      ⊎-elim (λ back. start-of cell .inside k over back) (λ on. end-anywhere cells cell .inside k on under) (le-or-lt k cell)
+
+  -- cells that are joined, each to the one before it, are free if one of them is
+  run-free : (first end : ℕ) → ((k : ℕ) → first < k → k < end → joined free (placeOf columns k) ≡ true) → (cell : ℕ) → first ≤ cell → cell < end → free cell ≡ true → (k : ℕ) → first ≤ k → k < end → free k ≡ true
+  unfolding placeOf
+  run-free first end inside cell from to is-free k low high =
+      ⊎-elim
+      (λ back. ⊎-elim (λ same. rw same is-free)
+      (λ less. let again : k + 1 - 1 ≡ k = omega arith in rw (← again) (joined-free free (placeOf columns (k + 1)) (inside (k + 1) (omega arith) (omega arith)) .0))
+      (eq-or-lt-of-le back))
+      (λ on. joined-free free (placeOf columns k) (inside k (omega arith) high) .1)
+      (le-or-lt k cell)
+
+  pub all-free-around : (cells cell : ℕ) → free cell ≡ true → FreeAround free columns cells cell
+  all-free-around cells cell is-free =
+      let low = start-of cell .low in
+      let high = end-anywhere cells cell .high in
+      record {
+        low = low;
+        high = high;
+        all-free = run-free (fieldStart free columns cell) (fieldEnd free columns cells cell) (joined-around cells cell) cell low high is-free;
+      }
 
 -- A longest run of joined cells.
 module _ (free : ℕ → Bool) (columns cells : ℕ) where
@@ -70,15 +99,15 @@ module _ (free : ℕ → Bool) (columns cells : ℕ) where
     pub before : joined free (placeOf columns (field .start)) ≡ false
     pub after : (endOf field ≡ cells) ⊎ (joined free (placeOf columns (endOf field)) ≡ false)
 
-  run-around : 0 < columns → (cell : ℕ) → cell < cells → IsRun (fieldAround free columns cells cell)
-  run-around some cell here =
-      let left = start-of free columns some cell in
+  run-around : (cell : ℕ) → cell < cells → IsRun (fieldAround free columns cells cell)
+  run-around cell here =
+      let left = start-of free columns cell in
       let right = end-of free columns cells cell here in
       let end : endOf (fieldAround free columns cells cell) ≡ fieldEnd free columns cells cell = omega arith in
       record {
         some-cells = omega arith;
         on-page = omega arith;
-        inside = λ k over under. ⊎-elim (λ back. left .inside k over back) (λ on. right .inside k on (omega arith)) (le-or-lt k cell);
+        inside = λ k over under. joined-around free columns cells cell k over (omega arith);
         before = left .before;
         after = rw end (right .after);
       }
@@ -105,14 +134,7 @@ module _ (free : ℕ → Bool) (columns cells : ℕ) where
   -- a run that has a free cell is a field, and a field is a run
   module _ {field : Field} (run : IsRun field) (cell : ℕ) (here : field has cell) (is-free : free cell ≡ true) where
     all-free : (k : ℕ) → field has k → free k ≡ true
-    unfolding placeOf
-    all-free k within =
-        ⊎-elim
-        (λ back. ⊎-elim (λ same. rw same is-free)
-        (λ less. let again : k + 1 - 1 ≡ k = omega arith in rw (← again) (joined-free free (placeOf columns (k + 1)) (run .inside (k + 1) (omega arith) (omega arith)) .0))
-        (eq-or-lt-of-le back))
-        (λ on. joined-free free (placeOf columns k) (run .inside k (omega arith) (omega arith)) .1)
-        (le-or-lt k cell)
+    all-free k within = run-free free columns (field .start) (endOf field) (run .inside) cell (here .0) (here .1) is-free k (within .0) (within .1)
 
     field-of : 0 < columns → IsField free columns cells field
     unfolding placeOf
@@ -154,13 +176,13 @@ module _ (free : ℕ → Bool) (columns cells : ℕ) where
     pub around : (cell : ℕ) → cell < cells → free cell ≡ true → IsAround free columns cells cell
     around cell here is-free =
         let start = fieldStart free columns cell in
-        let left = start-of free columns some cell in
+        let left = start-of free columns cell in
         let right = end-of free columns cells cell here in
-        let left′ = start-of free columns some start in
+        let left′ = start-of free columns start in
         let right′ = end-of free columns cells start (omega arith) in
-        let run = run-around some cell here in
+        let run = run-around cell here in
         let same : fieldAround free columns cells start ≡ fieldAround free columns cells cell =
-        one-run (run-around some start (omega arith)) run start (omega arith) (omega arith) in
+        one-run (run-around start (omega arith)) run start (omega arith) (omega arith) in
         record {
           is-field = field-of run cell (omega arith) is-free some;
           has-cell = (left .low, right .high);

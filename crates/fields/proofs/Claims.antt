@@ -41,6 +41,12 @@ pub record IsAround (free : ℕ → Bool) (columns cells cell : ℕ) : Type 0 wh
   pub has-cell : (fieldStart free columns cell ≤ cell) × (cell < fieldEnd free columns cells cell)
   pub one-end : fieldEnd free columns cells (fieldStart free columns cell) ≡ fieldEnd free columns cells cell
 
+-- From the one bound to the other all cells are unprotected. This asks nothing of the numbers: the cell may be past the page.
+pub record FreeAround (free : ℕ → Bool) (columns cells cell : ℕ) : Type 0 where
+  pub low : fieldStart free columns cell ≤ cell
+  pub high : cell < fieldEnd free columns cells cell
+  pub all-free : (k : ℕ) → fieldStart free columns cell ≤ k → k < fieldEnd free columns cells cell → free k ≡ true
+
 -- Page order: each field ends at or before the start of every later one. (By membership: no claim needs a field's index in the list.)
 pub data InOrder : List Field → Type 0 where
   none : InOrder []
@@ -79,3 +85,8 @@ pub data Finds (columns : ℕ) (Prefers : ℕ → ℕ → Type 0) (Wanted : ℕ 
 pub record GoesRound (columns : ℕ) (Prefers : ℕ → ℕ → Type 0) (Wanted Ahead : ℕ → Type 0) (sought : Sought) : Type 0 where
   pub ahead : (cell : ℕ) → Wanted cell → Ahead cell → Finds columns Prefers (λ k. Wanted k × Ahead k) sought
   pub round : ((cell : ℕ) → Wanted cell → Ahead cell → ⊥) → Finds columns Prefers Wanted sought
+
+-- What was found, if anything was, is a cell of the page.
+pub data Lands (columns cells : ℕ) : Sought → Type 0 where
+  on-cell : (cell : ℕ) → cell < cells → Lands columns cells (At (placeOf columns cell))
+  not-found : Lands columns cells Nowhere

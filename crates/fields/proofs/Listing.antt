@@ -77,7 +77,7 @@ module _ (free : ℕ → Bool) (columns cells : ℕ) where
     every-cell cell here is-free =
         let start = fieldStart free columns cell in
         let whole = around free columns cells some cell here is-free in
-        let starts = is-start free columns start (whole .is-field .all-free start (omega arith)) (start-of free columns some cell .before) in
+        let starts = is-start free columns start (whole .is-field .all-free start (omega arith)) (start-of free columns cell .before) in
         (fieldFrom free columns cells start, start-listed cells 0 cells (omega arith) start (omega arith, omega arith, starts), (omega arith, omega arith))
 
     every-field : (field : Field) → IsField free columns cells field → List·Memᴰ field (fieldsOf free columns cells)

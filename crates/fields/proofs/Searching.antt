@@ -13,7 +13,7 @@ use Rattle.fields.specs.declared.Sought.{Sought}
 use Rattle.fields.specs.declared.Sought.the-variants.{At, Nowhere}
 use Rattle.fields.specs.Fields.{Field, fieldFrom, fieldsFrom, fieldsOf}
 use Rattle.fields.specs.Searches.{orElse, firstField, lastField, firstAfter, lastBefore, firstFree}
-use Rattle.fields.proofs.Claims.{endOf, InOrder, none, one-more, StartsAt, Passes, First, Last, Finds, found, nothing, GoesRound}
+use Rattle.fields.proofs.Claims.{endOf, InOrder, none, one-more, StartsAt, Passes, First, Last, Finds, found, nothing, GoesRound, Lands, on-cell, not-found}
 use Rattle.fields.proofs.Listing.{startsAt, listed-starts, start-listed, in-order}
 
 module _ (columns : ℕ) where
@@ -52,6 +52,16 @@ module _ (columns : ℕ) where
     pub finds-something : {Wanted Ahead : ℕ → Type 0} {sought : Sought} → GoesRound columns Prefers Wanted Ahead sought → (cell : ℕ) → Wanted cell → sought ≡ Nowhere → ⊥
     finds-something goes cell w is =
         none-wanted (goes .round (λ k w′ ahead. none-wanted (goes .ahead k w′ ahead) is k (w′, ahead))) is cell w
+
+    -- What is found is on the page, if all that is wanted is.
+    pub finds-on-page : (cells : ℕ) {Wanted : ℕ → Type 0} {sought : Sought} → ((k : ℕ) → Wanted k → k < cells) → Finds columns Prefers Wanted sought → Lands columns cells sought
+    finds-on-page cells within (found cell w best) = on-cell cell (within cell w)
+    finds-on-page cells within (nothing nowhere) = not-found
+
+  pub either-lands : {cells : ℕ} {one other : Sought} → Lands columns cells one → Lands columns cells other → Lands columns cells (orElse one other)
+  unfolding orElse
+  either-lands (on-cell cell here) second = on-cell cell here
+  either-lands not-found second = second
 
   -- Where fields of a list start: at the first one's start, or where later ones start, which is after it.
   first-starts : {field : Field} {later : List Field} → StartsAt (field ∷ later) (field .start)

@@ -8,10 +8,10 @@ use native.Mathlib.Omega.{arith}
 use Rattle.fields.specs.declared.Sought.the-variants.{Nowhere}
 use Rattle.fields.specs.Fields.{Field, fieldsOf}
 use Rattle.fields.specs.Searches.{firstField, lastField, firstAfter, lastBefore, nextField, previousField, firstFree, firstUnprotected, nextUnprotected}
-use Rattle.fields.proofs.Claims.{IsField, _has_, IsAround, InOrder, Lists, StartsAt, Passes, First, Last, Finds, GoesRound}
-use Rattle.fields.proofs.Bounds.{around, same-field}
-use Rattle.fields.proofs.Listing.{in-order, lists-fields}
-use Rattle.fields.proofs.Searching.{in-other-words, goes-round, finds-something, first-of, last-of, first-after, last-before, first-free}
+use Rattle.fields.proofs.Claims.{IsField, _has_, IsAround, InOrder, Lists, StartsAt, Passes, First, Last, Finds, GoesRound, FreeAround, Lands}
+use Rattle.fields.proofs.Bounds.{around, same-field, all-free-around}
+use Rattle.fields.proofs.Listing.{in-order, lists-fields, listed-starts}
+use Rattle.fields.proofs.Searching.{in-other-words, goes-round, finds-something, first-of, last-of, first-after, last-before, first-free, finds-on-page, either-lands}
 
 module _ (free : ℕ → Bool) (columns cells : ℕ) (some-columns : 0 < columns) where
   -- Around an unprotected cell there is a field, and `fieldStart` and `fieldEnd` are its bounds.
@@ -25,6 +25,10 @@ module _ (free : ℕ → Bool) (columns cells : ℕ) (some-columns : 0 < columns
   -- `fieldsOf` lists the page's fields, all of them and nothing else, in page order.
   pub all-fields-listed : Lists free columns cells (fieldsOf free columns cells)
   all-fields-listed = lists-fields free columns cells some-columns
+
+-- Whatever the page and the columns, no bound reaches over a protected cell.
+pub free-around : (free : ℕ → Bool) (columns cells cell : ℕ) → free cell ≡ true → FreeAround free columns cells cell
+free-around = all-free-around
 
 module _ (free : ℕ → Bool) (columns cells : ℕ) where
   abbrev fields : List Field
@@ -81,3 +85,29 @@ module _ (free : ℕ → Bool) (columns cells : ℕ) where
   -- If any cell of the page is unprotected, one is found after a typed character.
   pub after-typing-found : (cell other : ℕ) → cell < cells → other < cells → free other ≡ true → nextUnprotected free columns cells cell ≡ Nowhere → ⊥
   after-typing-found cell other here there is-free = finds-something columns (after-typing cell here) other (omega arith, there, is-free)
+
+  -- All that these searches find is on the page.
+  starts-on-page : (k : ℕ) → StartsAt fields k → k < cells
+  unfolding fieldsOf
+  starts-on-page k s = rw (← s .here) (listed-starts free columns cells cells 0 cells (omega arith) (s .listed) .0 .1)
+
+  pub next-field-lands : (cell : ℕ) → Lands columns cells (nextField columns cell fields)
+  unfolding nextField
+  next-field-lands cell =
+      either-lands columns (finds-on-page columns cells (λ k w. starts-on-page k (w .0)) (after-found cell))
+      (finds-on-page columns cells starts-on-page first-found)
+
+  pub previous-field-lands : (cell : ℕ) → Lands columns cells (previousField columns cell fields)
+  unfolding previousField
+  previous-field-lands cell =
+      either-lands columns (finds-on-page columns cells (λ k w. starts-on-page k (w .0)) (before-found cell))
+      (finds-on-page columns cells starts-on-page last-found)
+
+  pub first-unprotected-lands : Lands columns cells (firstUnprotected free columns cells)
+  first-unprotected-lands = finds-on-page columns cells (λ k w. w .1) key-262
+
+  pub next-unprotected-lands : (cell : ℕ) → cell < cells → Lands columns cells (nextUnprotected free columns cells cell)
+  unfolding nextUnprotected
+  next-unprotected-lands cell here =
+      either-lands columns (finds-on-page columns cells (λ k w. omega (arith, w .1)) (free-found (cells - (cell + 1)) (cell + 1)))
+      first-unprotected-lands

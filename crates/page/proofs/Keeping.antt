@@ -1,5 +1,5 @@
 -- What each operation keeps: the size of the page, and that its characters and marks are as they may be.
-use mathlib.Core.Path.{_≡_, refl, _∙_}
+use mathlib.Core.Path.{_≡_, refl}
 use mathlib.Core.Bool.{Bool, true}
 use mathlib.Core.List.{List, [], _∷_}
 use Prim.Native.Nat.{ℕ, _-_, _<_, _≤_}
@@ -50,23 +50,6 @@ module _ (page : Page) (columns : ℕ) (fits : columns ≤ length (page .charact
     marks = simp (length-append, length-take, length-replicate) (omega arith);
   }
 
-module _ (page : Page) (from to : ℕ) (fits : to ≤ length (page .characters)) where
-  part-same-size : (change : List ℕ → List ℕ) → from ≤ to → ((part : List ℕ) → length part ≡ to - from → length (change part) ≡ to - from) → SameSize page (partStored change from to page)
-  unfolding tagged
-  part-same-size change h keeps = record { characters = length-onPart from to change (page .characters) h fits keeps; marks = length-each _ _ _ }
-
-  pub blanked-same-size : from ≤ to → SameSize page (partStored blanked from to page)
-  unfolding blanked
-  blanked-same-size h = part-same-size blanked h (λ part n. length-replicate _ _ ∙ n)
-
-  pub closed-up-same-size : from < to → SameSize page (partStored closedUp from to page)
-  unfolding closedUp
-  closed-up-same-size h = part-same-size closedUp (omega arith) (λ part n. simp (length-append, length-drop) (omega arith))
-
-  pub moved-right-same-size : from < to → SameSize page (partStored movedRight from to page)
-  unfolding movedRight
-  moved-right-same-size h = part-same-size movedRight (omega arith) (λ part n. simp length-take (omega arith))
-
 -- The marks that the keys and sending leave, and the blanks, are as they may be.
 modified-valid : (mark : ℕ) → validMark mark ≡ true → validMark (withModified mark) ≡ true
 modified-valid mark p = lt-ltb (withModified mark) 0x80 (omega (arith, ltb-true mark 0x80 p))
@@ -79,9 +62,36 @@ sent-valid mark p =
 blank-valid : validCharacter 0x20 ≡ true
 blank-valid = range-is 0x20 0x20 0x7E (omega arith) (omega arith)
 
-blanked-valid : (part : List ℕ) → every validCharacter (blanked part) ≡ true
+-- A change of a part of the characters keeps its length, if it has any, and its characters as they may be.
+pub record KeepsPart (change : List ℕ → List ℕ) : Type 0 where
+  pub size : (part : List ℕ) → 0 < length part → length (change part) ≡ length part
+  pub valid : (part : List ℕ) → every validCharacter part ≡ true → every validCharacter (change part) ≡ true
+
+pub blanked-keeps : KeepsPart blanked
 unfolding blanked
-blanked-valid part = every-replicate _ (length part) 0x20 blank-valid
+blanked-keeps = record {
+  size = λ part some. length-replicate _ _;
+  valid = λ part p. every-replicate _ (length part) 0x20 blank-valid;
+}
+
+pub closed-up-keeps : KeepsPart closedUp
+unfolding closedUp
+closed-up-keeps = record {
+  size = λ part some. simp (length-append, length-drop) (omega arith);
+  valid = λ part p. every-append _ (drop 1 part) (0x20 ∷ []) (every-drop _ 1 part p) (every-replicate _ 1 0x20 blank-valid);
+}
+
+pub moved-right-keeps : KeepsPart movedRight
+unfolding movedRight
+moved-right-keeps = record {
+  size = λ part some. simp length-take (omega arith);
+  valid = λ part p. every-append _ (0x20 ∷ []) (take (length part - 1) part) (every-replicate _ 1 0x20 blank-valid) (every-take _ (length part - 1) part p);
+}
+
+pub part-same-size : (page : Page) {change : List ℕ → List ℕ} → KeepsPart change → (from to : ℕ) → from < to → to ≤ length (page .characters) → SameSize page (partStored change from to page)
+unfolding tagged
+part-same-size page {change} keeps from to some fits =
+    record { characters = length-onPart from to change (page .characters) some (keeps .size) fits; marks = length-each _ _ _ }
 
 -- A valid page stays valid.
 module _ (page : Page) (valid : validPage page ≡ true) where
@@ -126,25 +136,12 @@ module _ (page : Page) (valid : validPage page ≡ true) where
       (every-append _ (replicate columns 0x20) _ (every-replicate _ columns 0x20 blank-valid) (every-take _ (length (page .characters) - columns) _ characters-valid))
       (every-append _ (replicate columns 0) _ (every-replicate _ columns 0 refl) (every-take _ (length (page .marks) - columns) _ marks-valid))
 
-  part-keeps-valid : (change : List ℕ → List ℕ) (from to : ℕ) → ((part : List ℕ) → every validCharacter part ≡ true → every validCharacter (change part) ≡ true) → validPage (partStored change from to page) ≡ true
+  pub part-keeps-valid : {change : List ℕ → List ℕ} → KeepsPart change → (from to : ℕ) → validPage (partStored change from to page) ≡ true
   unfolding validPage tagged
-  part-keeps-valid change from to keeps =
+  part-keeps-valid {change} keeps from to =
       both-hold _ _
-      (every-onPart _ from to change (page .characters) keeps characters-valid)
+      (every-onPart _ from to change (page .characters) (keeps .valid) characters-valid)
       (every-each _ _ 0 _ (λ cell x p. either-line (λ y. validMark y ≡ true) _ _ _ (λ _. modified-valid x p) (λ _. p)) marks-valid)
-
-  pub blanked-keeps-valid : (from to : ℕ) → validPage (partStored blanked from to page) ≡ true
-  blanked-keeps-valid from to = part-keeps-valid blanked from to (λ part p. blanked-valid part)
-
-  pub closed-up-keeps-valid : (from to : ℕ) → validPage (partStored closedUp from to page) ≡ true
-  unfolding closedUp
-  closed-up-keeps-valid from to =
-      part-keeps-valid closedUp from to (λ part p. every-append _ (drop 1 part) (0x20 ∷ []) (every-drop _ 1 part p) (every-replicate _ 1 0x20 blank-valid))
-
-  pub moved-right-keeps-valid : (from to : ℕ) → validPage (partStored movedRight from to page) ≡ true
-  unfolding movedRight
-  moved-right-keeps-valid from to =
-      part-keeps-valid movedRight from to (λ part p. every-append _ (0x20 ∷ []) (take (length part - 1) part) (every-replicate _ 1 0x20 blank-valid) (every-take _ (length part - 1) part p))
 
   pub cleared-keeps-valid : validPage (pageOf (page .characters) (modifiedCleared (page .marks))) ≡ true
   unfolding validPage modifiedCleared

@@ -1,2 +1,3 @@
 pub mod Laws
 pub mod Keeping
+pub mod Protecting

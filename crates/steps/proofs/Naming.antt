@@ -3,15 +3,16 @@ use mathlib.Core.Path.{_≡_, refl, ap, _∙_}
 use mathlib.Core.Bool.{Bool, not}
 use mathlib.Core.List.{List, [], List·Memᴰ, List·Memᴰ·not-nil, List·Memᴰ·cases-cons}
 use mathlib.Core.Logic.{⊎-elim}
-use Prim.Native.Nat.{ℕ, zero, suc, _+_, _*_, _/_, _%_, _<_, _≤_}
+use Prim.Native.Nat.{ℕ, zero, suc, _+_, _-_, _<_, _≤_}
 use native.Mathlib.Omega.{arith}
 use lib.ListN.{length, getD}
 use lib.Seq.{ext-getD}
 use Rattle.words.specs.Lists.{placesFrom}
 use Rattle.words.proofs.Choosing.{either-line}
 use Rattle.page.specs.Marks.{isProtected, unprotected}
-use Rattle.page.specs.Page.{Page, sentMark}
+use Rattle.page.specs.Page.{Page}
 use Rattle.page.proofs.Keeping.{SameSize}
+use Rattle.page.proofs.Protecting.{sent-protection}
 use Rattle.steps.specs.Steps.{Message, silent, report, fullBlock, changedBlock}
 use Rattle.steps.specs.Claims.{Rising, none, next, markLeft, Stays, TouchesOnly, KeepsProtection}
 
@@ -28,19 +29,17 @@ module _ (test : ℕ → Bool) (end : ℕ) where
       let later = places-rise (i + 1) n (omega arith) in
       either-line (Rising end i) (test i) _ _ (λ _. next i (omega arith) (omega arith) later) (λ _. from-earlier (omega arith) later)
 
+-- Cells named once are no more than there are.
+pub named-count : {end first : ℕ} {cells : List ℕ} → Rising end first cells → length cells ≤ end - first
+named-count none = omega arith
+named-count (next cell low high later) = let rest = named-count later in omega arith
+
 pub named-between : {end first : ℕ} {cells : List ℕ} → Rising end first cells → (cell : ℕ) → List·Memᴰ cell cells → (first ≤ cell) × (cell < end)
 named-between none cell m = absurd (List·Memᴰ·not-nil m)
 named-between {first} (next named h k rest) cell m =
     ⊎-elim (λ same. (rw same h, rw same k)) (λ found. let later = named-between rest cell found in (omega arith, later .1)) (List·Memᴰ·cases-cons m)
 
--- Sending leaves a cell as protected as it was.
-sent-protection : (mark : ℕ) → isProtected (sentMark mark) ≡ isProtected mark
-unfolding sentMark
-sent-protection mark =
-    either-line (λ (m : ℕ). isProtected m ≡ isProtected mark) _ _ _
-    (λ _. refl)
-    (λ _. let bit : (mark / 4 * 4 + mark % 2) % 2 ≡ mark % 2 = omega arith in rw bit)
-
+-- A message leaves a cell as protected as it was.
 left-protection : (message : Message) (mark : ℕ) → isProtected (markLeft message mark) ≡ isProtected mark
 unfolding markLeft
 left-protection silent mark = refl

@@ -9,6 +9,7 @@ use borrow.Author.Tests.{eqb-true}
 use lib.ListN.{length, getD}
 use Rattle.words.proofs.Choosing.{true-is-not-false, both}
 use Rattle.words.proofs.Walking.{once-more}
+use Rattle.words.proofs.Writing.{each-at}
 use Rattle.page.specs.Page.{Page, pageOf, validPage, sentMark, modifiedCleared}
 use Rattle.page.proofs.Keeping.{SameSize, cleared-same-size, cleared-keeps-valid}
 use Rattle.state.specs.declared.Size.{Size}
@@ -19,7 +20,7 @@ use Rattle.state.proofs.Keeping.{KeepsValid, on-page, refused-keeps-valid}
 use Rattle.steps.specs.Steps.{Terminal, Message, silent, report, Stepped, goesTo, stores, sends, refusing, cursorCell, Valid}
 use Rattle.steps.specs.Claims.{none, markLeft, TouchesOnly, KeepsText, Sound}
 use Rattle.steps.proofs.Naming.{all-stay-protected, same-characters}
-use Rattle.steps.proofs.Storing.{Stored, each-at}
+use Rattle.steps.proofs.Storing.{Stored}
 
 -- A page of the size that the state says.
 pub record Sized (size : Size) (page : Page) : Type 0 where

@@ -2,27 +2,24 @@
 use mathlib.Core.Path.{_≡_, refl, sym, ap, _∙_}
 use mathlib.Core.Bool.{Bool, true, false, not}
 use mathlib.Core.List.{List, [], _∷_, List·Memᴰ, List·Memᴰ·head}
-use Prim.Native.Nat.{ℕ, _+_, _-_, _<_, _≤_}
+use Prim.Native.Nat.{ℕ, _-_, _<_, _≤_}
 use native.Mathlib.Omega.{arith}
 use borrow.Author.Tests.{leb-true, ltb-true}
-use lib.ListN.{length, getD, replicate, length-replicate}
+use lib.ListN.{length, getD, set, replicate, length-replicate}
 use lib.Seq.{getD-set-other}
 use Rattle.words.specs.Choice.{_and_, _or_}
-use Rattle.words.specs.Lists.{within, each}
+use Rattle.words.specs.Lists.{within, placesFrom}
 use Rattle.words.proofs.Choosing.{true-is-not-false, else-case, either-line, either-way, both, both-hold, range-is}
-use Rattle.words.proofs.Writing.{getD-each}
+use Rattle.words.proofs.Writing.{each-at, outside-part}
 use Rattle.words.proofs.Passing.{every-replicate}
 use Rattle.words.proofs.Elements.{place-listed}
-use Rattle.page.specs.Marks.{validCharacter, validMark, isProtected, unprotected}
-use Rattle.page.specs.Page.{Page, pageOf, validPage, textStored, erasable, erased, cellsErased, scrolledUp, scrolledDown}
-use Rattle.page.proofs.Keeping.{SameSize, text-same-size, erased-same-size, scrolled-up-same-size, scrolled-down-same-size, text-keeps-valid, erased-keeps-valid, scrolled-up-keeps-valid, scrolled-down-keeps-valid}
+use Rattle.page.specs.Marks.{withModified, validCharacter, validMark, isProtected, unprotected}
+use Rattle.page.specs.Page.{Page, pageOf, validPage, textStored, typed, erasable, erased, cellsErased, scrolledUp, scrolledDown, partStored}
+use Rattle.page.proofs.Keeping.{SameSize, KeepsPart, text-same-size, typed-same-size, erased-same-size, scrolled-up-same-size, scrolled-down-same-size, part-same-size, text-keeps-valid, typed-keeps-valid, erased-keeps-valid, scrolled-up-keeps-valid, scrolled-down-keeps-valid, part-keeps-valid}
+use Rattle.page.proofs.Protecting.{typed-protection, untagged, tagged-protection}
 use Rattle.steps.specs.Steps.{silent, allCells}
 use Rattle.steps.specs.Claims.{Rising, none, next, markLeft, TouchesOnly, KeepsProtection}
 use Rattle.steps.proofs.Naming.{from-earlier, places-rise}
-
--- An element of a list whose elements were changed by their places.
-pub each-at : (f : ℕ → ℕ → ℕ) (list : List ℕ) (k : ℕ) → k < length list → getD (each f list) k 0 ≡ f k (getD list k 0)
-each-at f list k here = let n : 0 + k ≡ k = omega arith in rw n at (getD-each f 0 list k here)
 
 -- Cells were stored; `unlocks` says whether protection may have changed.
 pub record Stored (before : Page) (cells : List ℕ) (unlocks : Bool) (after : Page) : Type 0 where
@@ -33,18 +30,32 @@ pub record Stored (before : Page) (cells : List ℕ) (unlocks : Bool) (after : P
   pub protection : unlocks ≡ false → KeepsProtection before after
 
 module _ (page : Page) (valid : validPage page ≡ true) where
-  -- text
+  -- one cell
+  set-touches : (cell character mark : ℕ) → TouchesOnly (cell ∷ []) silent page (pageOf (set (page .characters) cell character) (set (page .marks) cell mark))
+  unfolding markLeft
+  set-touches cell character mark other _ unnamed = record {
+    character = getD-set-other (page .characters) cell other character 0 (λ e. unnamed (List·Memᴰ·head e));
+    mark = getD-set-other (page .marks) cell other mark 0 (λ e. unnamed (List·Memᴰ·head e));
+  }
+
   pub text-stored : (cell character pen : ℕ) → cell < length (page .marks) → validCharacter character ≡ true → validMark pen ≡ true → Stored page (cell ∷ []) true (textStored cell character pen page)
-  unfolding textStored markLeft
+  unfolding textStored
   text-stored cell character pen here p q = record {
     size = text-same-size page cell character pen;
     valid = text-keeps-valid page valid cell character pen p q;
-    touches = λ other _ unnamed. record {
-      character = getD-set-other (page .characters) cell other character 0 (λ e. unnamed (List·Memᴰ·head e));
-      mark = getD-set-other (page .marks) cell other pen 0 (λ e. unnamed (List·Memᴰ·head e));
-    };
+    touches = set-touches cell character pen;
     once = next {first = 0} cell (omega arith) here none;
     protection = λ e. absurd (true-is-not-false e);
+  }
+
+  pub typed-stored : (cell character : ℕ) → cell < length (page .marks) → validCharacter character ≡ true → Stored page (cell ∷ []) false (typed cell character page)
+  unfolding typed
+  typed-stored cell character here p = record {
+    size = typed-same-size page cell character;
+    valid = typed-keeps-valid page valid cell character here p;
+    touches = set-touches cell character (withModified (getD (page .marks) cell 0));
+    once = next {first = 0} cell (omega arith) here none;
+    protection = λ _ other _. typed-protection page cell character other;
   }
 
   -- all cells
@@ -72,6 +83,22 @@ module _ (page : Page) (valid : validPage page ≡ true) where
 
     pub down-stored : (columns : ℕ) → columns ≤ length (page .characters) → Stored page (allCells page) true (scrolledDown columns page)
     down-stored columns fits = all-stored (scrolledDown columns page) (scrolled-down-same-size page columns fits same) (scrolled-down-keeps-valid page valid columns)
+
+    -- a part, by any change that keeps its length and validity
+    pub part-stored : {change : List ℕ → List ℕ} → KeepsPart change → (from to : ℕ) → from < to → to ≤ length (page .marks) → Stored page (placesFrom (λ _. true) from (to - from)) false (partStored change from to page)
+    unfolding markLeft
+    part-stored {change} keeps from to some fits = record {
+      size = part-same-size page keeps from to some (omega arith);
+      valid = part-keeps-valid page valid keeps from to;
+      touches = λ cell here unnamed.
+          let outside : from ≤ cell → cell < to → ⊥ = λ low high. unnamed (place-listed (λ _. true) cell from (to - from) low (omega arith) refl) in
+          record {
+            character = outside-part from to change (page .characters) some (keeps .size) cell (omega arith) outside;
+            mark = untagged from to (page .marks) cell outside;
+          };
+      once = from-earlier (omega arith) (places-rise _ _ from (to - from) (omega arith));
+      protection = λ _ cell _. tagged-protection from to (page .marks) cell;
+    }
 
     -- erasing
     module _ (mode : Bool) (from to : ℕ) where

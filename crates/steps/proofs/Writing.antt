@@ -9,8 +9,10 @@ use lib.ListN.{length}
 use Rattle.words.specs.Output.{placed}
 use Rattle.words.proofs.Choosing.{then-case, else-case}
 use Rattle.words.proofs.Output.{wrote-none}
+use Rattle.page.specs.Page.{Page}
+use Rattle.steps.specs.declared.Step.{Step}
 use Rattle.steps.specs.Steps.{Terminal, Stepped, bytesOf, blockMessage}
-use Rattle.steps.specs.Told.{tells, tellsFull, written}
+use Rattle.steps.specs.Told.{told, tells, tellsFull, written}
 
 -- The bytes of a block are those that were put in.
 pub block-bytes : (full : Bool) (bytes : List ℕ) → bytesOf (blockMessage full bytes) ≡ bytes
@@ -27,7 +29,15 @@ module _ (at : ℕ) (output : List ℕ) (before : Terminal) (stepped : Stepped) 
   unfolding written
   with-room enough = then-case _ _ _ (le-leb _ _ enough)
 
-  pub without-message : bytesOf (stepped .message) ≡ [] → written at output before stepped ≡ record { told = tells stepped; output = output }
+  without-message : bytesOf (stepped .message) ≡ [] → written at output before stepped ≡ record { told = tells stepped; output = output }
   without-message silent =
       let none : length (bytesOf (stepped .message)) ≡ 0 = ap length silent in
       with-room (omega arith) ∙ (λ i. record { told = tells stepped; output = (ap (λ (bytes : List ℕ). placed at bytes output) silent ∙ sym (wrote-none at output .left)) i })
+
+-- A step that sends nothing: where the code tells what it does, it tells what is written.
+abbrev pub Silent : Stepped → Type 0
+Silent stepped = bytesOf (stepped .message) ≡ []
+
+pub told-silent : (at : ℕ) (output : List ℕ) (before : Terminal) (stepped : Stepped) (step : Step) (page : Page) → told step page ≡ tells stepped → Silent stepped → record { told = told step page; output = output } ≡ written at output before stepped
+told-silent at output before stepped step page is silent =
+    (λ i. record { told = is i; output = output }) ∙ sym (without-message at output before stepped silent)

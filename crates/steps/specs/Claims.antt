@@ -1,11 +1,12 @@
 -- What is claimed of every step, whatever the byte or key.
-use mathlib.Core.Bool.{true, false}
+use mathlib.Core.Bool.{Bool, true, false}
 use mathlib.Core.List.{List, [], _∷_, List·Memᴰ}
 use mathlib.Core.Path.{_≡_}
 use Prim.Native.Nat.{ℕ, _+_, _<_, _≤_}
 use lib.ListN.{length, getD}
 use Rattle.page.specs.Marks.{unprotected}
 use Rattle.page.specs.Page.{Page, sentMark}
+use Rattle.blocks.specs.Blocks.{block}
 use Rattle.steps.specs.Steps.{Terminal, Message, silent, report, fullBlock, changedBlock, Stepped, Valid}
 
 -- Cells in page order, each named once: none is before `first`, none is as far as `end`.
@@ -50,6 +51,12 @@ pub record Refusal (t : Terminal) (step : Stepped) : Type 0 where
   pub modes : step .terminal .state .modes ≡ t .state .modes
   pub stops : step .terminal .state .stops ≡ t .state .stops
   pub nothing-sent : step .message ≡ silent
+  pub no-cell : step .cells ≡ []
+
+-- A block, full or changed, is sent because it was asked for; it is that of the page as it was, and no cell is named.
+pub record SendsBlock (full : Bool) (Asked : Type 0) (t : Terminal) (step : Stepped) (bytes : List ℕ) : Type 0 where
+  pub asked : Asked
+  pub of-page : bytes ≡ block full (t .state .size .columns) (t .page)
   pub no-cell : step .cells ≡ []
 
 -- All of it, for a step from a terminal.

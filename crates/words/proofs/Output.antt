@@ -28,6 +28,11 @@ placed-twice at first second list h =
     ∙ append-assoc (take at list) first (second ++ drop (at + length (first ++ second)) list)
     ∙ ap (λ (l : List ℕ). take at list ++ l) (sym (append-assoc first second (drop (at + length (first ++ second)) list)))
 
+-- What is written does not change how long the output is.
+pub placed-length : (at : ℕ) (bytes list : List ℕ) → at + length bytes ≤ length list → length (placed at bytes list) ≡ length list
+unfolding placed
+placed-length at bytes list fits = simp (length-append, length-take, length-drop) (omega arith)
+
 -- nothing, one byte, and one write after another
 pub wrote-none : (at : ℕ) (list : List ℕ) → Wrote at [] list at list
 unfolding placed

@@ -7,10 +7,10 @@ use native.Mathlib.Nat.{le-of-suc-le-suc, not-suc-le-zero, add-comm}
 use native.Mathlib.Numerals.{add-one}
 use native.Mathlib.Omega.{arith}
 use borrow.Author.Tests.{lt-ltb, le-ltb, le-leb, lt-leb}
-use lib.ListN.{length, take, drop, getD, set, replicate, length-append, length-take, length-drop, drop-of-length-le, List·getD-append}
+use lib.ListN.{length, take, drop, getD, set, replicate, length-append, length-take, length-drop, drop-of-length-le, List·getD-append, List·getD-eq-default}
 use lib.Seq.{set-getD, set-at, take-suc, drop-cons, append-snoc, take-all, getD-take, getD-drop, getD-append-add, drop-at, length-take-le}
 use Rattle.words.specs.Lists.{within, eachFrom, each, onPart}
-use Rattle.words.proofs.Choosing.{both-hold, first-fails, second-fails}
+use Rattle.words.proofs.Choosing.{both-hold, first-fails, second-fails, less-or-not}
 
 -- What a loop has made that writes `target` over `start` from the front and has come to i. From the back the two change places.
 abbrev pub upTo : ℕ → List ℕ → List ℕ → List ℕ
@@ -140,6 +140,25 @@ module _ (f : ℕ → ℕ → ℕ) where
   stays (suc to) i [] same = refl
   stays (suc to) i (x ∷ rest) same = ap (λ (list : List ℕ). f i x ∷ list) (stays to (i + 1) rest (λ k y h. same k y (omega arith)))
 
+-- The element at a place, on the list or past its end: what is seen of it stays, if f leaves that.
+module _ (f : ℕ → ℕ → ℕ) (list : List ℕ) (k : ℕ) where
+  pub each-at : k < length list → getD (each f list) k 0 ≡ f k (getD list k 0)
+  each-at here = let n : 0 + k ≡ k = omega arith in rw n at (getD-each f 0 list k here)
+
+  pub each-keeps : {A : Type 0} (see : ℕ → A) → see (f k (getD list k 0)) ≡ see (getD list k 0) → see (getD (each f list) k 0) ≡ see (getD list k 0)
+  each-keeps see same =
+      less-or-not k (length list)
+      (λ here. ap see (each-at here) ∙ same)
+      (λ past. ap see (List·getD-eq-default (each f list) 0 (simp length-each past) ∙ sym (List·getD-eq-default list 0 past)))
+
+-- The same of one element that is set.
+pub set-keeps : {A : Type 0} (see : ℕ → A) (list : List ℕ) (i v k : ℕ) → see v ≡ see (getD list i 0) → see (getD (set list i v) k 0) ≡ see (getD list k 0)
+set-keeps see [] i v k same = refl
+set-keeps see (x ∷ rest) zero v zero same = same
+set-keeps see (x ∷ rest) zero v (suc k) same = refl
+set-keeps see (x ∷ rest) (suc i) v zero same = refl
+set-keeps see (x ∷ rest) (suc i) v (suc k) same = set-keeps see rest i v k same
+
 -- A loop that changes each element in its turn and has come to i.
 module _ (f : ℕ → ℕ → ℕ) (start now : List ℕ) (i : ℕ) (so-far : now ≡ upTo i (each f start) start) where
   pub all-changed : ((k x : ℕ) → i ≤ k → f k x ≡ x) → now ≡ each f start
@@ -174,10 +193,35 @@ module _ (from to k : ℕ) where
   unfolding within
   after-range h = second-fails _ _ (le-ltb k to h)
 
-pub length-onPart : (from to : ℕ) (change : List ℕ → List ℕ) (list : List ℕ) → from ≤ to → to ≤ length list → ((part : List ℕ) → length part ≡ to - from → length (change part) ≡ to - from) → length (onPart from to change list) ≡ length list
-unfolding onPart
-length-onPart from to change list h k keeps =
-    let part = take (to - from) (drop from list) in
-    let n : length part ≡ to - from = simp (length-take, length-drop) (omega arith) in
-    let m : length (change part) ≡ to - from = keeps part n in
-    simp (length-append, length-take, length-drop) (omega arith)
+  pub outside-range : (from ≤ k → k < to → ⊥) → within from to k ≡ false
+  outside-range outside = less-or-not k from before-range (λ after. let late = outside after in let past : to ≤ k = omega arith in after-range past)
+
+-- A change of the part from `from` to before `to` that keeps the part's length keeps the list's, and every element outside the part.
+module _ (from to : ℕ) (change : List ℕ → List ℕ) (list : List ℕ) (some : from < to) (keeps : (part : List ℕ) → 0 < length part → length (change part) ≡ length part) where
+  part-kept : to ≤ length list → length (change (take (to - from) (drop from list))) ≡ to - from
+  part-kept fits =
+      let part = take (to - from) (drop from list) in
+      let n : length part ≡ to - from = simp (length-take, length-drop) (omega arith) in
+      keeps part (omega arith) ∙ n
+
+  pub length-onPart : to ≤ length list → length (onPart from to change list) ≡ length list
+  unfolding onPart
+  length-onPart fits =
+      let m = part-kept fits in
+      simp (length-append, length-take, length-drop) (omega arith)
+
+  pub outside-part : (k : ℕ) → k < length list → (from ≤ k → k < to → ⊥) → getD (onPart from to change list) k 0 ≡ getD list k 0
+  unfolding onPart
+  outside-part k here outside =
+      less-or-not k from
+      (λ before. List·getD-append (take from list) _ 0 k (simp length-take (omega arith)) ∙ getD-take from list k 0 before)
+      (λ after.
+      let past : to ≤ k = let late = outside after in omega arith in
+      let part = change (take (to - from) (drop from list)) in
+      let n : length (take from list) ≡ from = length-take-le from list (omega arith) in
+      let m : length part ≡ to - from = part-kept (omega arith) in
+      let at-rest : length (take from list) + (length part + (k - to)) ≡ k = omega arith in
+      let at-end : to + (k - to) ≡ k = omega arith in
+      rw at-rest at (getD-append-add (take from list) (part ++ drop to list) (length part + (k - to)) 0)
+      ∙ getD-append-add part (drop to list) (k - to) 0
+      ∙ rw at-end at (getD-drop to list (k - to) 0))

@@ -4,7 +4,8 @@ use borrow.Author.Needs.{needs}
 use Rattle.page.specs.Page.{pageOf}
 use Rattle.steps.specs.Steps.{Terminal, bytesOf}
 use Rattle.steps.proofs.Measuring.{measured}
-use Rattle.commands.proofs.Silent.{move-silent, tab-silent, erase-silent, rendition-silent, mode-silent, told-silent}
+use Rattle.steps.proofs.Writing.{told-silent}
+use Rattle.commands.proofs.Silent.{move-silent, tab-silent, erase-silent, rendition-silent, mode-silent}
 use Rattle.commands.proofs.Finals.{too-many, not-too-many, final-W, final-J, final-K, final-m, final-h, final-l, final-n}
 use Rattle.commands.proofs.after_bracket.Statement.{statement}
 use Rattle.commands.proofs.after_bracket.Tie as tie

@@ -2,7 +2,8 @@ use borrow.Author.Needs.{needs}
 use borrow.Author.Tests.{ne-eqb}
 use Rattle.words.specs.Choice.{if_then_else_}
 use Rattle.steps.specs.Commands.{escStep}
-use Rattle.commands.proofs.Silent.{esc-silent, told-silent}
+use Rattle.steps.proofs.Writing.{told-silent}
+use Rattle.commands.proofs.Silent.{esc-silent}
 use Rattle.commands.proofs.after_esc.Statement.{statement}
 use Rattle.commands.proofs.after_esc.Tie as tie
 

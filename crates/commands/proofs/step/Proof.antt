@@ -6,7 +6,8 @@ use Rattle.sequence.proofs.Keeping.{eight-at-most}
 use Rattle.state.proofs.Keeping.{parts}
 use Rattle.steps.specs.Steps.{Terminal, bytesOf}
 use Rattle.steps.specs.Host.{eventStep}
-use Rattle.commands.proofs.Silent.{text-silent, control-silent, told-silent}
+use Rattle.steps.proofs.Writing.{told-silent}
+use Rattle.commands.proofs.Silent.{text-silent, control-silent}
 use Rattle.commands.proofs.Stepping.{next-valid, host-is, tells-of}
 use Rattle.commands.proofs.step.Statement.{statement}
 use Rattle.commands.proofs.step.Tie as tie

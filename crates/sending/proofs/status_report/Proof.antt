@@ -4,7 +4,7 @@ use borrow.Author.Tests.{eq-eqb, ne-eqb}
 use Rattle.words.proofs.Choosing.{then-case, else-case}
 use Rattle.steps.specs.Steps.{bytesOf}
 use Rattle.steps.specs.Commands.{statusReport}
-use Rattle.steps.proofs.Writing.{without-message}
+use Rattle.steps.proofs.Writing.{told-silent}
 use Rattle.sending.proofs.status_report.Statement.{statement}
 use Rattle.sending.proofs.status_report.Tie as tie
 
@@ -23,7 +23,7 @@ unfolding statusReport bytesOf
 returns-3 c =
     λ page.
     rw (else-case _ _ _ (ne-eqb _ _ (c .before .before .if1 .left)), else-case _ _ _ (ne-eqb _ _ (c .before .if2 .left)))
-    ((λ i. record { told = c .refuse .ensures page i; output = c .before .before .before .before .args .out .now }) ∙ sym (without-message _ _ _ _ refl))
+    (told-silent _ _ _ _ _ _ (c .refuse .ensures page) refl)
 
 pub status-report-spec : {M : Type 1} → statement M
 status-report-spec =

@@ -1,0 +1,150 @@
+-- Every line of the keys' table keeps what is claimed of a key in any state. The proofs follow the definitions line by line.
+use mathlib.Core.Path.{_≡_, refl, ap, _∙_}
+use mathlib.Core.Bool.{Bool, true, false}
+use mathlib.Core.List.{List}
+use mathlib.Core.Logic.{_⊎_, inl, inr}
+use Prim.Native.Nat.{ℕ, _<_, _≤_}
+use native.Mathlib.Omega.{arith}
+use borrow.Author.Tests.{eqb-true}
+use lib.ListN.{length}
+use lib.Seq.{getD-set-other}
+use Rattle.words.specs.Choice.{if_then_else_}
+use Rattle.words.proofs.Choosing.{not-both, either-line}
+use Rattle.words.proofs.Writing.{outside-part}
+use Rattle.page.specs.Marks.{unprotected}
+use Rattle.page.specs.Page.{Page, typed, partStored}
+use Rattle.page.proofs.Keeping.{KeepsPart, blanked-keeps, closed-up-keeps, moved-right-keeps}
+use Rattle.page.proofs.Protecting.{typed-protection, untagged, tagged-protection, cleared-protection, protected-uncleared}
+use Rattle.fields.specs.declared.Sought.{Sought}
+use Rattle.fields.specs.declared.Sought.the-variants.{At, Nowhere}
+use Rattle.fields.proofs.Claims.{FreeAround}
+use Rattle.fields.proofs.Theorems.{free-around}
+use Rattle.state.specs.declared.State.{State}
+use Rattle.state.specs.State.{unlocked}
+use Rattle.state.specs.Moves.{upBy, downBy, rightBy, leftBy}
+use Rattle.blocks.specs.Blocks.{block}
+use Rattle.steps.specs.Steps.{Terminal, Stepped, goesTo, stores, cursorCell}
+use Rattle.steps.specs.Commands.{sendBlock}
+use Rattle.steps.specs.Keys.{isTyping, free, run, startHere, endHere, goneTo, typedStep, toNextField, toPreviousField, toFirstCell, fieldBlanked, restShifted, keyStep}
+use Rattle.steps.proofs.Messages.{silent-is-no-full, silent-is-no-changed, told-full, told-changed}
+use Rattle.keys.proofs.Claims.{KeyStores, no-cell, typed-cell, whole-field, rest-of-field, ProtectedKept, KeyAlways}
+
+-- A move to what was found leaves the locks.
+gone-keeps-locks : (sought : Sought) (s : State) → goneTo sought s .locks ≡ s .locks
+unfolding goneTo
+gone-keeps-locks (At place) s = refl
+gone-keeps-locks Nowhere s = refl
+
+-- The key that asks for a full block, and for a changed one.
+abbrev blockKey : Bool → ℕ
+blockKey true = 267
+blockKey false = 266
+
+-- The cursor's field, in any state.
+pub field-free : (t : Terminal) → free t (cursorCell (t .state)) ≡ true → FreeAround (free t) (t .state .size .columns) (length (t .page .marks)) (cursorCell (t .state))
+field-free t = free-around (free t) (t .state .size .columns) (length (t .page .marks)) (cursorCell (t .state))
+
+module _ (key : ℕ) (t : Terminal) where
+  abbrev Always : Stepped → Type 0
+  Always step = KeyAlways key t step
+
+  line : {test : Bool} {a b : Stepped} → (test ≡ true → Always a) → Always b → Always (if test then a else b)
+  line {test} {a} {b} first rest = either-line Always test a b first (λ _. rest)
+
+  -- The kinds of steps.
+  puts : {cells : List ℕ} (s : State) (page : Page) → KeyStores key t cells → ((key ≡ 268 → ⊥) → s .locks ≡ t .state .locks) → ((cell : ℕ) → free t cell ≡ false → ProtectedKept (t .page) page cell) → ((cell : ℕ) → unprotected (page .marks) cell ≡ free t cell) → Always (stores cells false s page)
+  puts s page names locks protected protection = record {
+    stored = names;
+    full-block = λ bytes e. absurd (silent-is-no-full bytes e);
+    changed-block = λ bytes e. absurd (silent-is-no-changed bytes e);
+    not-refused = refl;
+    locks = locks;
+    protected = protected;
+    protection = protection;
+  }
+
+  goes : (s : State) → ((key ≡ 268 → ⊥) → s .locks ≡ t .state .locks) → Always (goesTo s t)
+  goes s locks = puts s (t .page) no-cell locks (λ cell p. record { character = λ _. refl; mark = refl }) (λ cell. refl)
+
+  goes-to : (sought : Sought) → Always (goesTo (goneTo sought (t .state)) t)
+  goes-to sought = goes (goneTo sought (t .state)) (λ _. gone-keeps-locks sought (t .state))
+
+  stays : Always (goesTo (t .state) t)
+  stays = goes (t .state) (λ _. refl)
+
+  clears : (full : Bool) → key ≡ blockKey full → Always (sendBlock full t)
+  unfolding sendBlock
+  clears full asked =
+      let columns = t .state .size .columns in
+      let said = block full columns (t .page) in
+      record {
+        stored = no-cell;
+        full-block = λ bytes e.
+            let told = told-full said bytes full e in
+            record { asked = asked ∙ ap blockKey (told .0); of-page = told .1 ∙ ap (λ (f : Bool). block f columns (t .page)) (told .0); no-cell = refl };
+        changed-block = λ bytes e.
+            let told = told-changed said bytes full e in
+            record { asked = asked ∙ ap blockKey (told .0); of-page = told .1 ∙ ap (λ (f : Bool). block f columns (t .page)) (told .0); no-cell = refl };
+        not-refused = refl;
+        locks = λ _. refl;
+        protected = λ cell p. record { character = λ _. refl; mark = protected-uncleared (t .page .marks) cell p };
+        protection = cleared-protection (t .page .marks);
+      }
+
+  -- Storing: no cell that is stored is protected.
+  puts-part : {change : List ℕ → List ℕ} → KeepsPart change → (from to : ℕ) → from < to → ((cell : ℕ) → from ≤ cell → cell < to → free t cell ≡ true) → KeyStores key t (run from to) → (s : State) → s .locks ≡ t .state .locks → Always (stores (run from to) false s (partStored change from to (t .page)))
+  puts-part {change} keeps from to some all-free names s locks =
+      puts s (partStored change from to (t .page)) names (λ _. locks)
+      (λ cell p.
+      let outside : from ≤ cell → cell < to → ⊥ = λ low high. not-both (all-free cell low high) p in
+      record {
+        character = λ here. outside-part from to change (t .page .characters) some (keeps .size) cell here outside;
+        mark = untagged from to (t .page .marks) cell outside;
+      })
+      (tagged-protection from to (t .page .marks))
+
+  typed-always : isTyping key ≡ true → Always (typedStep key t)
+  unfolding typedStep typed
+  typed-always typing =
+      line (λ here.
+      let cursor = cursorCell (t .state) in
+      puts _ (typed cursor key (t .page)) (typed-cell here typing) (λ _. gone-keeps-locks _ (t .state))
+      (λ cell p.
+      let other : cell ≡ cursor → ⊥ = λ e. not-both here (rw e at p) in
+      record { character = λ _. getD-set-other (t .page .characters) cursor cell key 0 other; mark = getD-set-other (t .page .marks) cursor cell _ 0 other })
+      (typed-protection (t .page) cursor key))
+      stays
+
+  blanked-always : key ≡ 263 → Always (fieldBlanked t)
+  unfolding fieldBlanked
+  blanked-always asked =
+      line (λ here.
+      let field = field-free t here in
+      puts-part blanked-keeps (startHere t) (endHere t) (omega arith) (field .all-free) (whole-field here asked) _ (gone-keeps-locks _ (t .state)))
+      stays
+
+  shifted-always : {change : List ℕ → List ℕ} → KeepsPart change → (key ≡ 264) ⊎ (key ≡ 265) → Always (restShifted change t)
+  unfolding restShifted
+  shifted-always keeps asked =
+      line (λ here.
+      let field = field-free t here in
+      puts-part keeps (cursorCell (t .state)) (endHere t) (field .high) (λ cell low high. field .all-free cell (omega arith) high) (rest-of-field here asked) (t .state) refl)
+      stays
+
+  pub key-always : KeyAlways key t (keyStep key t)
+  unfolding keyStep upBy downBy leftBy rightBy toNextField toPreviousField toFirstCell
+  key-always =
+      line typed-always
+      (line (λ _. goes _ (λ _. refl))
+      (line (λ _. goes _ (λ _. refl))
+      (line (λ _. goes _ (λ _. refl))
+      (line (λ _. goes _ (λ _. refl))
+      (line (λ _. goes-to _)
+      (line (λ _. goes-to _)
+      (line (λ _. goes-to _)
+      (line (λ e. blanked-always (eqb-true key 263 e))
+      (line (λ e. shifted-always closed-up-keeps (inl (eqb-true key 264 e)))
+      (line (λ e. shifted-always moved-right-keeps (inr (eqb-true key 265 e)))
+      (line (λ e. clears false (eqb-true key 266 e))
+      (line (λ e. clears true (eqb-true key 267 e))
+      (line (λ e. goes (unlocked (t .state)) (λ other. absurd (other (eqb-true key 268 e)))) stays)))))))))))))

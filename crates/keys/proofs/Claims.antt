@@ -1,0 +1,45 @@
+-- What is claimed of a key's step beside what is claimed of every step.
+use mathlib.Core.Bool.{true, false}
+use mathlib.Core.List.{List, [], _∷_, List·Memᴰ}
+use mathlib.Core.Logic.{_⊎_}
+use mathlib.Core.Path.{_≡_}
+use Prim.Native.Nat.{ℕ, _<_}
+use lib.ListN.{length, getD}
+use Rattle.page.specs.Marks.{isModified, unprotected}
+use Rattle.page.specs.Page.{Page}
+use Rattle.steps.specs.Steps.{Terminal, fullBlock, changedBlock, Stepped, cursorCell}
+use Rattle.steps.specs.Claims.{SendsBlock, Sound}
+use Rattle.steps.specs.Keys.{isTyping, free, run, startHere, endHere}
+
+-- The cells that a key may store: none; and where the cursor's cell is unprotected, that cell, for a typed character;
+-- its field, for 263; from the cursor to its field's end, for 264 and 265.
+pub data KeyStores (key : ℕ) (t : Terminal) : List ℕ → Type 0 where
+  no-cell : KeyStores key t []
+  typed-cell : free t (cursorCell (t .state)) ≡ true → isTyping key ≡ true → KeyStores key t (cursorCell (t .state) ∷ [])
+  whole-field : free t (cursorCell (t .state)) ≡ true → key ≡ 263 → KeyStores key t (run (startHere t) (endHere t))
+  rest-of-field : free t (cursorCell (t .state)) ≡ true → (key ≡ 264) ⊎ (key ≡ 265) → KeyStores key t (run (cursorCell (t .state)) (endHere t))
+
+-- The cell keeps its character, if the lent characters have it, and its mark.
+pub record ProtectedKept (before after : Page) (cell : ℕ) : Type 0 where
+  pub character : cell < length (before .characters) → getD (after .characters) cell 0 ≡ getD (before .characters) cell 0
+  pub mark : getD (after .marks) cell 0 ≡ getD (before .marks) cell 0
+
+-- In any state, valid or not, whatever the lengths of the two slices.
+pub record KeyAlways (key : ℕ) (t : Terminal) (step : Stepped) : Type 0 where
+  pub stored : KeyStores key t (step .cells)
+  pub full-block : (bytes : List ℕ) → step .message ≡ fullBlock bytes → SendsBlock true (key ≡ 267) t step bytes
+  pub changed-block : (bytes : List ℕ) → step .message ≡ changedBlock bytes → SendsBlock false (key ≡ 266) t step bytes
+  pub not-refused : step .wasRefused ≡ false
+  pub locks : (key ≡ 268 → ⊥) → step .terminal .state .locks ≡ t .state .locks
+  pub protected : (cell : ℕ) → unprotected (t .page .marks) cell ≡ false → ProtectedKept (t .page) (step .terminal .page) cell
+  pub protection : (cell : ℕ) → unprotected (step .terminal .page .marks) cell ≡ unprotected (t .page .marks) cell
+
+-- Every cell named was unprotected and is modified.
+abbrev pub Tags : Page → List ℕ → Page → Type 0
+Tags before cells after = (cell : ℕ) → List·Memᴰ cell cells → (unprotected (before .marks) cell ≡ true) × (isModified (getD (after .marks) cell 0) ≡ true)
+
+-- All of it, for a key's step from a valid terminal.
+pub record KeySound (key : ℕ) (t : Terminal) (step : Stepped) : Type 0 where
+  pub always : KeyAlways key t step
+  pub sound : Sound t step
+  pub tags : Tags (t .page) (step .cells) (step .terminal .page)

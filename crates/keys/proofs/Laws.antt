@@ -1,0 +1,103 @@
+-- The cursor's cell and the rest of its field as the code finds them, and what a search of the fields says of their list.
+use mathlib.Core.Path.{_≡_, refl, sym, ap, _∙_}
+use mathlib.Core.Bool.{Bool, true, false, not}
+use mathlib.Core.List.{List, [], _∷_}
+use Prim.Native.Nat.{ℕ, _-_, _<_, _≤_}
+use native.Mathlib.Omega.{arith}
+use borrow.Author.Tests.{not-true, not-false}
+use lib.ListN.{length}
+use Rattle.words.specs.Choice.{if_then_else_}
+use Rattle.words.proofs.Elements.{run-length}
+use Rattle.page.specs.Marks.{unprotected}
+use Rattle.page.specs.Page.{Page, partStored}
+use Rattle.places.specs.declared.Place.{Place}
+use Rattle.places.specs.Places.{placeOf, Counted}
+use Rattle.places.proofs.Counting.{cell-is, counted}
+use Rattle.fields.specs.declared.Sought.{Sought}
+use Rattle.fields.specs.declared.Sought.the-variants.{At, Nowhere}
+use Rattle.fields.specs.Fields.{Field, fieldStart, fieldEnd}
+use Rattle.fields.specs.Searches.{orElse, firstField, firstAfter, nextField}
+use Rattle.fields.proofs.Bounds.{start-of, end-of}
+use Rattle.steps.specs.declared.Step.{Step}
+use Rattle.steps.specs.Steps.{Terminal, Stepped, Valid, goesTo, stores, cursorCell}
+use Rattle.steps.specs.Told.{told, tells}
+use Rattle.steps.specs.Keys.{noField, free, run, startHere, endHere, ifFree, restShifted}
+use Rattle.steps.proofs.Measuring.{measured}
+
+-- The cursor's place, as the code finds it on a valid terminal.
+pub record Found (t : Terminal) (place : Place) : Type 0 where
+  pub cell : place .cell ≡ cursorCell (t .state)
+  pub counted : Counted (t .state .size .columns) place
+  pub inside : place .cell < length (t .page .marks)
+  pub most : length (t .page .marks) ≤ 7680
+  pub as-many : length (t .page .marks) ≡ length (t .page .characters)
+
+pub found : {t : Terminal} {place : Place} → Valid t → place ≡ placeOf (t .state .size .columns) (cursorCell (t .state)) → Found t place
+found valid is =
+    let known = measured valid in
+    let here = cell-is _ _ is in
+    record {
+      cell = here;
+      counted = counted _ (known .some-columns) is (omega arith);
+      inside = omega arith;
+      most = known .most;
+      as-many = known .as-many;
+    }
+
+-- The cells of a run are as many as the code counts.
+pub run-counted : (from end : ℕ) {here after : ℕ} → here ≡ from → after ≡ end → length (run from end) ≡ after - here
+run-counted from end starts ends = run-length from (end - from) ∙ sym (λ i. ends i - starts i)
+
+module _ {t : Terminal} {place : Place} (here : Found t place) where
+  -- What the code was told of the cursor's cell.
+  pub asked : {answer : Bool} → answer ≡ free t (place .cell) → free t (cursorCell (t .state)) ≡ answer
+  asked told = ap (free t) (sym (here .cell)) ∙ sym told
+
+  pub is-free : {answer : Bool} → answer ≡ free t (place .cell) → not answer ≡ false → free t (cursorCell (t .state)) ≡ true
+  is-free told is = asked told ∙ not-false _ is
+
+  -- On a protected cell a key that stores does nothing.
+  pub stays : (stepped : Stepped) {answer : Bool} {step : Step} → answer ≡ free t (place .cell) → not answer ≡ true → told step (t .page) ≡ tells (goesTo (t .state) t) → told step (t .page) ≡ tells (ifFree t stepped)
+  unfolding if_then_else_
+  stays stepped told is quiet = rw (asked told ∙ not-true _ is) quiet
+
+  -- The start of the cursor's field.
+  module _ {start : Place} (is : start ≡ placeOf (t .state .size .columns) (fieldStart (unprotected (t .page .marks)) (t .state .size .columns) (place .cell))) where
+    pub starts-before : start .cell ≤ place .cell
+    starts-before =
+        let bounds = start-of (unprotected (t .page .marks)) (t .state .size .columns) (place .cell) in
+        let starts = cell-is _ _ is in
+        omega arith
+
+    pub start-is : start ≡ placeOf (t .state .size .columns) (startHere t)
+    start-is = is ∙ ap (λ (cell : ℕ). placeOf (t .state .size .columns) (fieldStart (unprotected (t .page .marks)) (t .state .size .columns) cell)) (here .cell)
+
+  -- The rest of the cursor's field, from the cursor on.
+  module _ {end : ℕ} (is : end ≡ fieldEnd (unprotected (t .page .marks)) (t .state .size .columns) (length (t .page .marks)) (place .cell)) where
+    pub rest-on-page : (place .cell < end) × (end ≤ length (t .page .characters)) × (length (t .page .marks) ≡ length (t .page .characters))
+    rest-on-page =
+        let bounds = end-of (unprotected (t .page .marks)) (t .state .size .columns) (length (t .page .marks)) (place .cell) (here .inside) in
+        (omega arith, omega arith, here .as-many)
+
+    pub end-is : end ≡ endHere t
+    end-is = is ∙ ap (fieldEnd (unprotected (t .page .marks)) (t .state .size .columns) (length (t .page .marks))) (here .cell)
+
+    pub rest-shifted : (change : List ℕ → List ℕ) {step : Step} {page : Page} → free t (cursorCell (t .state)) ≡ true → ((cells : List ℕ) (page : Page) → length cells ≡ end - place .cell → told step page ≡ tells (stores cells false (t .state) page)) → page ≡ partStored change (place .cell) end (t .page) → told step page ≡ tells (restShifted change t)
+    unfolding restShifted if_then_else_
+    rest-shifted change is-free stored left =
+        rw (is-free, stored (run (cursorCell (t .state)) (endHere t)) _ (run-counted _ _ (here .cell) end-is), left, here .cell, end-is)
+
+-- A search of the fields, going round, finds nothing exactly where there is none.
+pub none-sought : (columns cell : ℕ) (fields : List Field) → nextField columns cell fields ≡ Nowhere → noField fields ≡ true
+unfolding nextField firstField orElse noField
+none-sought columns cell [] is = refl
+none-sought columns cell (field ∷ later) is = go (firstAfter columns cell (field ∷ later)) is
+  where
+    go : (sought : Sought) → orElse sought (At (placeOf columns (field .start))) ≡ Nowhere → false ≡ true
+    go (At place) is = cc
+    go Nowhere is = cc
+
+pub one-sought : (columns cell : ℕ) (fields : List Field) {place : Place} → nextField columns cell fields ≡ At place → noField fields ≡ false
+unfolding nextField firstField firstAfter orElse noField
+one-sought columns cell [] is = cc
+one-sought columns cell (field ∷ later) is = refl

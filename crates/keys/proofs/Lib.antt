@@ -1,0 +1,6 @@
+pub mod Laws
+pub mod Silent
+pub mod Claims
+pub mod Always
+pub mod Tables
+pub mod Theorems

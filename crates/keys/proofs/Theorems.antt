@@ -1,0 +1,125 @@
+-- What holds of the step of every key.
+use mathlib.Core.Path.{_≡_, refl, ap, _∙_}
+use mathlib.Core.Bool.{true, false}
+use mathlib.Core.List.{List, [], List·Memᴰ}
+use mathlib.Core.Logic.{_⊎_, inl, inr, ⊎-elim}
+use Prim.Native.Nat.{ℕ, _-_, _<_}
+use lib.ListN.{length, getD}
+use Rattle.words.specs.Choice.{if_then_else_, _and_, _or_, _is_to_}
+use Rattle.words.proofs.Choosing.{not-both, then-case, first-holds}
+use Rattle.words.proofs.Elements.{run-length}
+use Rattle.page.specs.Marks.{isModified, unprotected}
+use Rattle.state.specs.State.{withLocks, unlocked}
+use Rattle.steps.specs.Steps.{Terminal, fullBlock, changedBlock, Stepped, goesTo, cursorCell, Valid}
+use Rattle.steps.specs.Claims.{Rising, TouchesOnly, KeepsProtection, KeepsText, SendsBlock}
+use Rattle.steps.specs.Keys.{isTyping, isEditing, free, startHere, endHere, typedStep, fieldBlanked, restShifted, keyStep}
+use Rattle.steps.proofs.Naming.{named-between}
+use Rattle.steps.proofs.Soundness.{names-none}
+use Rattle.keys.proofs.Claims.{KeyStores, no-cell, typed-cell, whole-field, rest-of-field, ProtectedKept}
+use Rattle.keys.proofs.Always.{key-always}
+use Rattle.keys.proofs.Tables.{key-holds}
+
+-- From every valid terminal.
+module _ (key : ℕ) (t : Terminal) (valid : Valid t) where
+  -- The terminal stays valid, and its size the same.
+  pub key-keeps-valid : Valid (keyStep key t .terminal)
+  key-keeps-valid = key-holds key t valid .sound .valid
+
+  pub key-keeps-size : keyStep key t .terminal .state .size ≡ t .state .size
+  key-keeps-size = key-holds key t valid .sound .size
+
+  -- No character and no mark changes outside the cells named, but for modified where a block is sent.
+  pub key-touches-only : TouchesOnly (keyStep key t .cells) (keyStep key t .message) (t .page) (keyStep key t .terminal .page)
+  key-touches-only = key-holds key t valid .sound .touches
+
+  -- Each cell is named once, and is on the page.
+  pub key-names-once : Rising (length (t .page .marks)) 0 (keyStep key t .cells)
+  key-names-once = key-holds key t valid .sound .once
+
+  pub key-names-on-page : (cell : ℕ) → List·Memᴰ cell (keyStep key t .cells) → cell < length (t .page .marks)
+  key-names-on-page cell named = named-between key-names-once cell named .1
+
+  -- Each cell named was unprotected, and is modified, also where it had the character that was stored.
+  pub key-tags : (cell : ℕ) → List·Memᴰ cell (keyStep key t .cells) → (unprotected (t .page .marks) cell ≡ true) × (isModified (getD (keyStep key t .terminal .page .marks) cell 0) ≡ true)
+  key-tags = key-holds key t valid .tags
+
+  -- Where no cell is named, all characters stay, and all protection.
+  pub key-names-none : keyStep key t .cells ≡ [] → KeepsText (t .page) (keyStep key t .terminal .page)
+  key-names-none none = names-none t (keyStep key t) valid (key-holds key t valid .sound) none
+
+-- In any state, valid or not, whatever the lengths of the two slices.
+module _ (key : ℕ) (t : Terminal) where
+  -- The cells named are none, the cursor's, its field's, or those from the cursor to its field's end; their counts stand below.
+  pub key-stores : KeyStores key t (keyStep key t .cells)
+  key-stores = key-always key t .stored
+
+  -- Only 267 sends a full block, and only 266 a changed one; either is that of the page as it was.
+  pub key-sends-full : (bytes : List ℕ) → keyStep key t .message ≡ fullBlock bytes → SendsBlock true (key ≡ 267) t (keyStep key t) bytes
+  key-sends-full = key-always key t .full-block
+
+  pub key-sends-changed : (bytes : List ℕ) → keyStep key t .message ≡ changedBlock bytes → SendsBlock false (key ≡ 266) t (keyStep key t) bytes
+  key-sends-changed = key-always key t .changed-block
+
+  -- No key refuses a command.
+  pub key-never-refuses : keyStep key t .wasRefused ≡ false
+  key-never-refuses = key-always key t .not-refused
+
+  -- No key changes what a protected cell has, nor which cells are protected.
+  pub no-key-changes-protected : (cell : ℕ) → unprotected (t .page .marks) cell ≡ false → ProtectedKept (t .page) (keyStep key t .terminal .page) cell
+  no-key-changes-protected = key-always key t .protected
+
+  pub no-key-changes-protection : (cell : ℕ) → unprotected (keyStep key t .terminal .page .marks) cell ≡ unprotected (t .page .marks) cell
+  no-key-changes-protection = key-always key t .protection
+
+  pub key-keeps-protection : KeepsProtection (t .page) (keyStep key t .terminal .page)
+  key-keeps-protection cell _ = no-key-changes-protection cell
+
+  -- Only 268 changes a lock or the message.
+  pub only-268-unlocks : (key ≡ 268 → ⊥) → keyStep key t .terminal .state .locks ≡ t .state .locks
+  only-268-unlocks = key-always key t .locks
+
+-- 268 clears the soft lock and the message, and does nothing else.
+pub unlocked-step : (t : Terminal) → keyStep 268 t ≡ goesTo (withLocks (t .state) (t .state .locks .manual) false 0) t
+unfolding keyStep isTyping _is_to_ _and_ if_then_else_ unlocked
+unlocked-step t = refl
+
+-- A key that stores types or edits, on an unprotected cell.
+stores-where : (key : ℕ) (t : Terminal) {cells : List ℕ} → KeyStores key t cells → (cells ≡ []) ⊎ ((free t (cursorCell (t .state)) ≡ true) × ((isTyping key or isEditing key) ≡ true))
+unfolding isTyping isEditing _is_to_ _and_ _or_
+stores-where key t no-cell = inl refl
+stores-where key t (typed-cell here typing) = inr (here, first-holds _ _ typing)
+stores-where key t (whole-field here asked) = inr (here, ap (λ (k : ℕ). isTyping k or isEditing k) asked)
+stores-where key t (rest-of-field here (inl asked)) = inr (here, ap (λ (k : ℕ). isTyping k or isEditing k) asked)
+stores-where key t (rest-of-field here (inr asked)) = inr (here, ap (λ (k : ℕ). isTyping k or isEditing k) asked)
+
+-- The count of cells stored is the number of cells named, in any state.
+abbrev counted : Stepped → ℕ
+counted step = length (step .cells)
+
+module _ (t : Terminal) where
+  module _ (here : free t (cursorCell (t .state)) ≡ true) where
+    -- 1 for a typed character.
+    pub typed-count : (key : ℕ) → isTyping key ≡ true → counted (keyStep key t) ≡ 1
+    unfolding keyStep typedStep
+    typed-count key typing = ap counted (then-case _ _ _ typing ∙ then-case _ _ _ here)
+
+    -- The run for 263.
+    pub blanked-count : counted (keyStep 263 t) ≡ endHere t - startHere t
+    unfolding keyStep isTyping _is_to_ _and_ if_then_else_ fieldBlanked
+    blanked-count = ap counted (then-case _ _ _ here) ∙ run-length (startHere t) (endHere t - startHere t)
+
+    -- Cursor to field end for 264 and 265.
+    pub closed-up-count : counted (keyStep 264 t) ≡ endHere t - cursorCell (t .state)
+    unfolding keyStep isTyping _is_to_ _and_ if_then_else_ restShifted
+    closed-up-count = ap counted (then-case _ _ _ here) ∙ run-length (cursorCell (t .state)) (endHere t - cursorCell (t .state))
+
+    pub moved-right-count : counted (keyStep 265 t) ≡ endHere t - cursorCell (t .state)
+    unfolding keyStep isTyping _is_to_ _and_ if_then_else_ restShifted
+    moved-right-count = ap counted (then-case _ _ _ here) ∙ run-length (cursorCell (t .state)) (endHere t - cursorCell (t .state))
+
+  -- 0 for the others, and for every key where the cursor's cell is protected.
+  pub other-count : (key : ℕ) → (isTyping key or isEditing key) ≡ false → counted (keyStep key t) ≡ 0
+  other-count key other = ⊎-elim (ap length) (λ stores. absurd (not-both (stores .1) other)) (stores-where key t (key-stores key t))
+
+  pub protected-count : (key : ℕ) → free t (cursorCell (t .state)) ≡ false → counted (keyStep key t) ≡ 0
+  protected-count key protected = ⊎-elim (ap length) (λ stores. absurd (not-both (stores .0) protected)) (stores-where key t (key-stores key t))

@@ -1,0 +1,17 @@
+use mathlib.Core.Path.{sym, _∙_}
+use borrow.Author.Needs.{needs}
+use Rattle.words.specs.Choice.{_is_to_, _or_}
+use Rattle.words.proofs.Choosing.{tests}
+use Rattle.steps.specs.Keys.{isKnown}
+use Rattle.keys.proofs.is_known.Statement.{statement}
+use Rattle.keys.proofs.is_known.Tie as tie
+
+pub is-known-spec : {M : Type 1} → statement M
+unfolding isKnown _is_to_ _or_
+is-known-spec =
+    tie.close
+    (tie.spec
+    (λ c κs. search needs)
+    (λ c. rw (sym (c .before .is-typing .ensures) ∙ c .if1 .taken))
+    (λ c. rw (sym (c .before .before .is-typing .ensures) ∙ c .before .if1 .left) (search tests))
+    (λ c. rw (sym (c .before .before .is-typing .ensures) ∙ c .before .if1 .left) (search tests)))

@@ -1,0 +1,241 @@
+// Document 01, "Fields, keys and blocks": the keys. What each function gives is defined in specs/Keys.antt of `steps`.
+use fields::Sought;
+use state::State;
+use steps::Step;
+ghost use mathlib.Core.Path.{_≡_};
+ghost use mathlib.Core.Bool.{false};
+ghost use Rattle.page.specs.Page.{pageOf, closedUp, movedRight};
+ghost use Rattle.steps.specs.Steps.{Valid};
+ghost use Rattle.steps.specs.Told.{told, tells, written};
+ghost use Rattle.steps.specs.Keys.{isTyping, isEditing, isFieldMove, isKnown, isLocked, isLockedOut, noField, fieldsHere, lacksCell, goneTo, typedStep, toNextField, toPreviousField, toFirstCell, fieldBlanked, restShifted, keyStep};
+
+fn is_typing(key: usize) -> bool
+    ensures { λ r. ⌜ r ≡ isTyping key ⌝ }
+{
+    if key < 32 {
+        return false;
+    }
+    key <= 126
+}
+
+fn is_editing(key: usize) -> bool
+    ensures { λ r. ⌜ r ≡ isEditing key ⌝ }
+{
+    if key < 263 {
+        return false;
+    }
+    key <= 265
+}
+
+fn is_field_move(key: usize) -> bool
+    ensures { λ r. ⌜ r ≡ isFieldMove key ⌝ }
+{
+    if key < 260 {
+        return false;
+    }
+    key <= 261
+}
+
+// Document 01's number 4 is given where this is false.
+pub fn is_known(key: usize) -> bool
+    ensures { λ r. ⌜ r ≡ isKnown key ⌝ }
+{
+    if is_typing(key) {
+        return true;
+    }
+    if key < 256 {
+        return false;
+    }
+    key <= 268
+}
+
+fn is_locked(state: State) -> bool
+    ensures { λ r. ⌜ r ≡ isLocked state ⌝ }
+{
+    if state.locks.manual {
+        return true;
+    }
+    state.locks.soft
+}
+
+// Document 01's number 5.
+pub fn is_locked_out(key: usize, state: State) -> bool
+    ensures { λ r. ⌜ r ≡ isLockedOut key state ⌝ }
+{
+    if is_locked(state) {
+        return key != 268;
+    }
+    false
+}
+
+fn has_no_field(state: State, characters: &[u8], marks: &[u8]) -> bool
+    requires { ⌜ Valid (record { state = state; page = pageOf (now characters) (now marks) }) ⌝ }
+    ensures { λ r. ⌜ r ≡ noField (fieldsHere (record { state = state; page = pageOf (now (characters .entry)) (now (marks .entry)) })) ⌝ }
+{
+    let sought = fields::next_field(marks, state.place(), state.size.columns);
+    match sought {
+        Sought::At(_) => false,
+        Sought::Nowhere => true,
+    }
+}
+
+// Document 01's number 7: the key needs an unprotected cell or a field, and there is none.
+pub fn lacks_cell(key: usize, state: State, characters: &[u8], marks: &[u8]) -> bool
+    requires { ⌜ Valid (record { state = state; page = pageOf (now characters) (now marks) }) ⌝ }
+    ensures { λ r. ⌜ r ≡ lacksCell key (record { state = state; page = pageOf (now (characters .entry)) (now (marks .entry)) }) ⌝ }
+{
+    let place = state.place();
+    if is_typing(key) {
+        return !page::is_unprotected(marks, place.cell);
+    }
+    if is_editing(key) {
+        return !page::is_unprotected(marks, place.cell);
+    }
+    if is_field_move(key) {
+        return has_no_field(state, characters, marks);
+    }
+    false
+}
+
+fn gone_to(sought: Sought, state: State) -> State
+    ensures { λ r. ⌜ r ≡ goneTo sought state ⌝ }
+{
+    match sought {
+        Sought::At(place) => state.moved_to(place.row, place.column),
+        Sought::Nowhere => state,
+    }
+}
+
+// 32 to 126.
+fn type_character(state: State, characters: &mut [u8], marks: &mut [u8], character: u8) -> Step
+    requires { ⌜ Valid (record { state = state; page = pageOf (now characters) (now marks) }) ⌝ }
+    ensures { λ r. ⌜ told r (pageOf (now (characters .exit)) (now (marks .exit))) ≡ tells (typedStep character (record { state = state; page = pageOf (now (characters .entry)) (now (marks .entry)) })) ⌝ }
+{
+    let place = state.place();
+    if !page::is_unprotected(marks, place.cell) {
+        return steps::quiet(state);
+    }
+    let next = fields::next_unprotected(marks, place, state.size.columns);
+    page::store_typed(characters, marks, place.cell, character);
+    steps::stored(gone_to(next, state), 1, false)
+}
+
+// 260, 261 and 262.
+fn to_next_field(state: State, characters: &[u8], marks: &[u8]) -> Step
+    requires { ⌜ Valid (record { state = state; page = pageOf (now characters) (now marks) }) ⌝ }
+    ensures { λ r. ⌜ told r (pageOf (now (characters .entry)) (now (marks .entry))) ≡ tells (toNextField (record { state = state; page = pageOf (now (characters .entry)) (now (marks .entry)) })) ⌝ }
+{
+    let sought = fields::next_field(marks, state.place(), state.size.columns);
+    steps::quiet(gone_to(sought, state))
+}
+
+fn to_previous_field(state: State, characters: &[u8], marks: &[u8]) -> Step
+    requires { ⌜ Valid (record { state = state; page = pageOf (now characters) (now marks) }) ⌝ }
+    ensures { λ r. ⌜ told r (pageOf (now (characters .entry)) (now (marks .entry))) ≡ tells (toPreviousField (record { state = state; page = pageOf (now (characters .entry)) (now (marks .entry)) })) ⌝ }
+{
+    let sought = fields::previous_field(marks, state.place(), state.size.rows, state.size.columns);
+    steps::quiet(gone_to(sought, state))
+}
+
+fn to_first_cell(state: State, characters: &[u8], marks: &[u8]) -> Step
+    requires { ⌜ Valid (record { state = state; page = pageOf (now characters) (now marks) }) ⌝ }
+    ensures { λ r. ⌜ told r (pageOf (now (characters .entry)) (now (marks .entry))) ≡ tells (toFirstCell (record { state = state; page = pageOf (now (characters .entry)) (now (marks .entry)) })) ⌝ }
+{
+    let sought = fields::first_unprotected(marks, state.size.columns);
+    match sought {
+        Sought::At(place) => steps::quiet(state.moved_to(place.row, place.column)),
+        Sought::Nowhere => steps::quiet(state.moved_to(1, 1)),
+    }
+}
+
+// 263.
+fn blank_field(state: State, characters: &mut [u8], marks: &mut [u8]) -> Step
+    requires { ⌜ Valid (record { state = state; page = pageOf (now characters) (now marks) }) ⌝ }
+    ensures { λ r. ⌜ told r (pageOf (now (characters .exit)) (now (marks .exit))) ≡ tells (fieldBlanked (record { state = state; page = pageOf (now (characters .entry)) (now (marks .entry)) })) ⌝ }
+{
+    let place = state.place();
+    if !page::is_unprotected(marks, place.cell) {
+        return steps::quiet(state);
+    }
+    let start = fields::field_start(marks, place, state.size.columns);
+    let end = fields::field_end(marks, place, state.size.columns);
+    page::blank_cells(characters, marks, start.cell, end);
+    steps::stored(
+        state.moved_to(start.row, start.column),
+        end - start.cell,
+        false,
+    )
+}
+
+// 264.
+fn delete_here(state: State, characters: &mut [u8], marks: &mut [u8]) -> Step
+    requires { ⌜ Valid (record { state = state; page = pageOf (now characters) (now marks) }) ⌝ }
+    ensures { λ r. ⌜ told r (pageOf (now (characters .exit)) (now (marks .exit))) ≡ tells (restShifted closedUp (record { state = state; page = pageOf (now (characters .entry)) (now (marks .entry)) })) ⌝ }
+{
+    let place = state.place();
+    if !page::is_unprotected(marks, place.cell) {
+        return steps::quiet(state);
+    }
+    let end = fields::field_end(marks, place, state.size.columns);
+    page::delete_character(characters, marks, place.cell, end);
+    steps::stored(state, end - place.cell, false)
+}
+
+// 265.
+fn insert_here(state: State, characters: &mut [u8], marks: &mut [u8]) -> Step
+    requires { ⌜ Valid (record { state = state; page = pageOf (now characters) (now marks) }) ⌝ }
+    ensures { λ r. ⌜ told r (pageOf (now (characters .exit)) (now (marks .exit))) ≡ tells (restShifted movedRight (record { state = state; page = pageOf (now (characters .entry)) (now (marks .entry)) })) ⌝ }
+{
+    let place = state.place();
+    if !page::is_unprotected(marks, place.cell) {
+        return steps::quiet(state);
+    }
+    let end = fields::field_end(marks, place, state.size.columns);
+    page::insert_blank(characters, marks, place.cell, end);
+    steps::stored(state, end - place.cell, false)
+}
+
+// The keys from 256 on that send nothing; a number that is no key does nothing.
+fn act(state: State, characters: &mut [u8], marks: &mut [u8], key: usize) -> Step
+    requires { ⌜ Valid (record { state = state; page = pageOf (now characters) (now marks) }) ⌝ }
+    requires { ⌜ (isTyping key ≡ false) × (key ≡ 266 → ⊥) × (key ≡ 267 → ⊥) ⌝ }
+    ensures { λ r. ⌜ told r (pageOf (now (characters .exit)) (now (marks .exit))) ≡ tells (keyStep key (record { state = state; page = pageOf (now (characters .entry)) (now (marks .entry)) })) ⌝ }
+{
+    match key {
+        256 => steps::quiet(state.up_by(1)),
+        257 => steps::quiet(state.down_by(1)),
+        258 => steps::quiet(state.left_by(1)),
+        259 => steps::quiet(state.right_by(1)),
+        260 => to_next_field(state, characters, marks),
+        261 => to_previous_field(state, characters, marks),
+        262 => to_first_cell(state, characters, marks),
+        263 => blank_field(state, characters, marks),
+        264 => delete_here(state, characters, marks),
+        265 => insert_here(state, characters, marks),
+        268 => steps::quiet(state.unlock()),
+        _ => steps::quiet(state),
+    }
+}
+
+// The step of a key. Its message is written into the output; where it does not fit nothing happens.
+pub fn step(
+    state: State,
+    characters: &mut [u8],
+    marks: &mut [u8],
+    out: &mut [u8],
+    key: usize,
+) -> Step
+    requires { ⌜ Valid (record { state = state; page = pageOf (now characters) (now marks) }) ⌝ }
+    ensures { λ r. ⌜ record { told = told r (pageOf (now (characters .exit)) (now (marks .exit))); output = now (out .exit) } ≡ written 0 (now (out .entry)) (record { state = state; page = pageOf (now (characters .entry)) (now (marks .entry)) }) (keyStep key (record { state = state; page = pageOf (now (characters .entry)) (now (marks .entry)) })) ⌝ }
+{
+    if is_typing(key) {
+        return type_character(state, characters, marks, key as u8);
+    }
+    if key == 266 {
+        return sending::send_block(state, state, characters, marks, out, 0, false);
+    }
+    if key == 267 {
+        return sending::send_block(state, state, characters, marks, out, 0, true);
+    }
+    act(state, characters, marks, key)
+}

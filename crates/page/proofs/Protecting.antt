@@ -1,0 +1,67 @@
+-- Protection, and what it keeps from changing, on any page, valid or not, and at any cell, on the page or past it.
+use mathlib.Core.Path.{_≡_, refl, ap, _∙_}
+use mathlib.Core.Bool.{true, false, not}
+use mathlib.Core.List.{List}
+use Prim.Native.Nat.{ℕ, _+_, _*_, _/_, _%_, _<_, _≤_}
+use native.Mathlib.Omega.{arith}
+use borrow.Author.Tests.{eq-eqb, not-false}
+use lib.ListN.{length, getD}
+use lib.Seq.{getD-set-same}
+use Rattle.words.specs.Lists.{within}
+use Rattle.words.proofs.Choosing.{then-case, else-case, either-line}
+use Rattle.words.proofs.Writing.{each-at, each-keeps, set-keeps, inside, outside-range}
+use Rattle.page.specs.Marks.{isProtected, isModified, withModified, unprotected}
+use Rattle.page.specs.Page.{Page, typed, tagged, sentMark, modifiedCleared}
+
+-- Tagging and sending leave bit 0 of a mark.
+modified-protection : (mark : ℕ) → isProtected (withModified mark) ≡ isProtected mark
+modified-protection mark = let bit : (mark / 4 * 4 + 2 + mark % 2) % 2 ≡ mark % 2 = omega arith in rw bit
+
+pub sent-protection : (mark : ℕ) → isProtected (sentMark mark) ≡ isProtected mark
+unfolding sentMark
+sent-protection mark =
+    either-line (λ (m : ℕ). isProtected m ≡ isProtected mark) _ _ _
+    (λ _. refl)
+    (λ _. let bit : (mark / 4 * 4 + mark % 2) % 2 ≡ mark % 2 = omega arith in rw bit)
+
+-- Tagging sets bit 1.
+is-modified : (mark : ℕ) → isModified (withModified mark) ≡ true
+is-modified mark = eq-eqb (withModified mark / 2 % 2) 1 (omega arith)
+
+-- A typed character.
+module _ (page : Page) (cell character : ℕ) where
+  pub typed-protection : (other : ℕ) → unprotected (typed cell character page .marks) other ≡ unprotected (page .marks) other
+  unfolding unprotected typed
+  typed-protection other = ap not (set-keeps isProtected (page .marks) cell _ other (modified-protection (getD (page .marks) cell 0)))
+
+  pub typed-modified : cell < length (page .marks) → isModified (getD (typed cell character page .marks) cell 0) ≡ true
+  unfolding typed
+  typed-modified here = ap isModified (getD-set-same (page .marks) cell _ 0 here) ∙ is-modified (getD (page .marks) cell 0)
+
+-- Cells that were tagged.
+module _ (from to : ℕ) (marks : List ℕ) (cell : ℕ) where
+  pub tagged-protection : unprotected (tagged from to marks) cell ≡ unprotected marks cell
+  unfolding unprotected tagged
+  tagged-protection =
+      let mark = getD marks cell 0 in
+      ap not (each-keeps _ marks cell isProtected
+      (either-line (λ (m : ℕ). isProtected m ≡ isProtected mark) (within from to cell) _ _ (λ _. modified-protection mark) (λ _. refl)))
+
+  pub untagged : (from ≤ cell → cell < to → ⊥) → getD (tagged from to marks) cell 0 ≡ getD marks cell 0
+  unfolding tagged
+  untagged outside = each-keeps _ marks cell (λ (mark : ℕ). mark) (else-case _ _ _ (outside-range from to cell outside))
+
+  pub tagged-modified : from ≤ cell → cell < to → cell < length marks → isModified (getD (tagged from to marks) cell 0) ≡ true
+  unfolding tagged
+  tagged-modified low high here =
+      ap isModified (each-at _ marks cell here ∙ then-case _ _ _ (inside from to cell low high)) ∙ is-modified (getD marks cell 0)
+
+-- Marks that were sent.
+module _ (marks : List ℕ) (cell : ℕ) where
+  pub cleared-protection : unprotected (modifiedCleared marks) cell ≡ unprotected marks cell
+  unfolding unprotected modifiedCleared
+  cleared-protection = ap not (each-keeps _ marks cell isProtected (sent-protection (getD marks cell 0)))
+
+  pub protected-uncleared : unprotected marks cell ≡ false → getD (modifiedCleared marks) cell 0 ≡ getD marks cell 0
+  unfolding unprotected modifiedCleared sentMark
+  protected-uncleared protected = each-keeps _ marks cell (λ (mark : ℕ). mark) (then-case _ _ _ (not-false _ protected))

@@ -1,0 +1,37 @@
+-- Messages of different kinds differ, and equal blocks have equal bytes.
+use mathlib.Core.Path.{_≡_, refl, sym}
+use mathlib.Core.Bool.{Bool, true, false}
+use mathlib.Core.List.{List}
+use Prim.Native.Nat.{ℕ}
+use native.Mathlib.Omega.{arith}
+use Rattle.steps.specs.Steps.{silent, report, fullBlock, changedBlock, blockMessage}
+
+pub silent-is-no-full : (bytes : List ℕ) → silent ≡ fullBlock bytes → ⊥
+silent-is-no-full bytes e = let z : _≡_ {A = ℕ} 0 1 = cc in omega arith
+
+pub silent-is-no-changed : (bytes : List ℕ) → silent ≡ changedBlock bytes → ⊥
+silent-is-no-changed bytes e = let z : _≡_ {A = ℕ} 0 1 = cc in omega arith
+
+pub report-is-no-full : (said bytes : List ℕ) → report said ≡ fullBlock bytes → ⊥
+report-is-no-full said bytes e = let z : _≡_ {A = ℕ} 0 1 = cc in omega arith
+
+pub report-is-no-changed : (said bytes : List ℕ) → report said ≡ changedBlock bytes → ⊥
+report-is-no-changed said bytes e = let z : _≡_ {A = ℕ} 0 1 = cc in omega arith
+
+pub full-is-no-changed : (said bytes : List ℕ) → fullBlock said ≡ changedBlock bytes → ⊥
+full-is-no-changed said bytes e = let z : _≡_ {A = ℕ} 0 1 = cc in omega arith
+
+pub same-full : (said bytes : List ℕ) → fullBlock said ≡ fullBlock bytes → bytes ≡ said
+same-full said bytes e = cc
+
+-- Of a block that is sent, full or changed, its message tells which and with what bytes.
+module _ (said bytes : List ℕ) where
+  pub told-full : (full : Bool) → blockMessage full said ≡ fullBlock bytes → (full ≡ true) × (bytes ≡ said)
+  unfolding blockMessage
+  told-full true e = (refl, same-full said bytes e)
+  told-full false e = absurd (full-is-no-changed bytes said (sym e))
+
+  pub told-changed : (full : Bool) → blockMessage full said ≡ changedBlock bytes → (full ≡ false) × (bytes ≡ said)
+  unfolding blockMessage
+  told-changed true e = absurd (full-is-no-changed said bytes e)
+  told-changed false e = (refl, cc)

@@ -1,0 +1,213 @@
+-- A host call on its way: the steps done so far, and what they leave to do.
+use mathlib.Core.Path.{_≡_, refl, sym, ap, _∙_, subst}
+use mathlib.Core.Bool.{true, false}
+use mathlib.Core.List.{List, [], _∷_, _++_, append-assoc, append-nil}
+use Prim.Native.Nat.{ℕ, _+_, _-_, _*_, _<_, _≤_}
+use native.Mathlib.Numerals.{add-one}
+use native.Mathlib.Omega.{arith}
+use borrow.Author.Tests.{le-leb, lt-leb, leb-true, leb-false, lt-ltb, le-ltb}
+use lib.Dec.{leb}
+use lib.ListN.{length, drop, getD, length-append, drop-of-length-le}
+use lib.Seq.{drop-cons}
+use Rattle.words.specs.Output.{placed, Wrote}
+use Rattle.words.proofs.Choosing.{true-is-not-false, then-case, else-case, either-way}
+use Rattle.words.proofs.Output.{placed-length, wrote-none, wrote-then}
+use Rattle.page.specs.Page.{Page}
+use Rattle.steps.specs.declared.Step.{Step}
+use Rattle.steps.specs.Steps.{Terminal, Stepped, bytesOf, Valid}
+use Rattle.steps.specs.Told.{Written, told, tells, tellsFull, written}
+use Rattle.steps.specs.Host.{hostStep}
+use Rattle.steps.proofs.Naming.{named-count}
+use Rattle.steps.proofs.Measuring.{measured}
+use Rattle.steps.proofs.Writing.{no-room, with-room}
+use Rattle.commands.proofs.Theorems.{step-keeps-valid, step-names-once}
+use Rattle.terminal.specs.declared.Answer.{Answer}
+use Rattle.terminal.specs.declared.Answer.the-variants.{Done, NoRoom}
+use Rattle.terminal.specs.Runs.{stepsOf, fitting, after, sentBy, storedBy}
+use Rattle.terminal.specs.Answers.{numberOf, did}
+use Rattle.terminal.specs.Lines.{exceedsRoom}
+use Rattle.terminal.specs.Calls.{hostCall}
+use Rattle.terminal.proofs.Deciding.{valid-holds, fits-on, stops-there, host-no-room, host-done}
+
+-- What steps leave, send and name, one step more.
+pub after-more : (t : Terminal) (done : List Stepped) (step : Stepped) → after t (done ++ (step ∷ [])) ≡ step .terminal
+unfolding after
+after-more t [] step = refl
+after-more t (first ∷ later) step = after-more (first .terminal) later step
+
+pub sent-more : (done : List Stepped) (step : Stepped) → sentBy (done ++ (step ∷ [])) ≡ sentBy done ++ bytesOf (step .message)
+unfolding sentBy
+sent-more [] step = append-nil _
+sent-more (first ∷ later) step = ap (λ (bytes : List ℕ). bytesOf (first .message) ++ bytes) (sent-more later step) ∙ sym (append-assoc (bytesOf (first .message)) (sentBy later) (bytesOf (step .message)))
+
+pub stored-more : (done : List Stepped) (step : Stepped) → storedBy (done ++ (step ∷ [])) ≡ storedBy done ++ step .cells
+unfolding storedBy
+stored-more [] step = append-nil _
+stored-more (first ∷ later) step = ap (λ (cells : List ℕ). first .cells ++ cells) (stored-more later step) ∙ sym (append-assoc (first .cells) (storedBy later) (step .cells))
+
+-- Each byte has its step.
+pub steps-count : (t : Terminal) (bytes : List ℕ) → length (stepsOf t bytes) ≡ length bytes
+unfolding stepsOf
+steps-count t [] = refl
+steps-count t (byte ∷ later) = let further = steps-count (hostStep byte t .terminal) later in omega (arith, further)
+
+next-step : (t : Terminal) (bytes : List ℕ) (i : ℕ) → i < length bytes → stepsOf t (drop i bytes) ≡ hostStep (getD bytes i 0) t ∷ stepsOf (hostStep (getD bytes i 0) t .terminal) (drop (i + 1) bytes)
+unfolding stepsOf
+next-step t bytes i here = rw (add-one i, drop-cons bytes i 0 here)
+
+-- A page has so many cells, and a step names each once at most.
+pub step-count : (byte : ℕ) (t : Terminal) → Valid t → length (hostStep byte t .cells) ≤ 7680
+step-count byte t valid =
+    let known = measured valid in
+    let few = named-count (step-names-once byte t valid) in
+    let most = known .most in
+    omega arith
+
+-- What the code tells of a step that was done, and of one whose message does not fit.
+pub record WasDone (at : ℕ) (output : List ℕ) (stepped : Stepped) (step : Step) (page : Page) (written-to : List ℕ) : Type 0 where
+  pub fits : length (bytesOf (stepped .message)) ≤ length output - at
+  pub terminal : record { state = step .state; page = page } ≡ stepped .terminal
+  pub stored : step .stored ≡ length (stepped .cells)
+  pub sent : step .sent ≡ length (bytesOf (stepped .message))
+  pub writes : written-to ≡ placed at (bytesOf (stepped .message)) output
+
+pub record WasFull (at : ℕ) (output : List ℕ) (before : Terminal) (stepped : Stepped) (page : Page) (written-to : List ℕ) : Type 0 where
+  pub exceeds : length output - at < length (bytesOf (stepped .message))
+  pub same-page : page ≡ before .page
+  pub same-output : written-to ≡ output
+
+module _ (at : ℕ) (output : List ℕ) (before : Terminal) (stepped : Stepped) (step : Step) (page : Page) (written-to : List ℕ) (is : record { told = told step page; output = written-to } ≡ written at output before stepped) where
+  pub was-done : step .full ≡ false → WasDone at output stepped step page written-to
+  was-done done =
+      either-way (leb (length (bytesOf (stepped .message))) (length output - at))
+      (λ fits.
+      let did = is ∙ with-room at output before stepped (leb-true _ _ fits) in
+      record {
+        fits = leb-true _ _ fits;
+        terminal = ap (λ (w : Written). w .told .terminal) did;
+        stored = ap (λ (w : Written). w .told .stored) did;
+        sent = ap (λ (w : Written). w .told .sent) did;
+        writes = ap (λ (w : Written). w .output) did;
+      })
+      (λ exceeds. absurd (true-is-not-false (sym (ap (λ (w : Written). w .told .full) (is ∙ no-room at output before stepped (leb-false _ _ exceeds))) ∙ done)))
+
+  pub was-full : step .full ≡ true → WasFull at output before stepped page written-to
+  was-full full =
+      either-way (leb (length (bytesOf (stepped .message))) (length output - at))
+      (λ fits. absurd (true-is-not-false (sym full ∙ ap (λ (w : Written). w .told .full) (is ∙ with-room at output before stepped (leb-true _ _ fits)))))
+      (λ exceeds.
+      let did = is ∙ no-room at output before stepped (leb-false _ _ exceeds) in
+      record {
+        exceeds = leb-false _ _ exceeds;
+        same-page = ap (λ (w : Written). w .told .terminal .page) did;
+        same-output = ap (λ (w : Written). w .output) did;
+      })
+
+-- So far: the steps done, where they led, what they sent and stored; the rest of the call goes on from here.
+pub record Going (start : Terminal) (bytes before : List ℕ) (here : Terminal) (taken sent stored : ℕ) (output : List ℕ) : Type 0 where
+  pub done : List Stepped
+  pub steps : fitting (length before) (stepsOf start bytes) ≡ done ++ fitting (length before - sent) (stepsOf here (drop taken bytes))
+  pub as-many : length done ≡ taken
+  pub comes : after start done ≡ here
+  pub wrote : Wrote 0 (sentBy done) before sent output
+  pub counted : length (storedBy done) ≡ stored
+  pub valid : Valid here
+  pub inside : taken ≤ length bytes
+  pub room : sent ≤ length before
+  pub as-long : length output ≡ length before
+  pub few : stored ≤ taken * 7680
+
+pub sets-out : (start : Terminal) (bytes before : List ℕ) → Valid start → Going start bytes before start 0 0 0 before
+unfolding after sentBy storedBy
+sets-out start bytes before valid =
+    let all : length before - 0 ≡ length before = omega arith in
+    record {
+      done = [];
+      steps = rw all;
+      as-many = refl;
+      comes = refl;
+      wrote = wrote-none 0 before;
+      counted = refl;
+      valid = valid;
+      inside = omega arith;
+      room = omega arith;
+      as-long = refl;
+      few = omega arith;
+    }
+
+-- One step more.
+module _ {start : Terminal} {bytes before : List ℕ} {here : Terminal} {taken sent stored : ℕ} {output : List ℕ} (going : Going start bytes before here taken sent stored output) where
+  abbrev onward : Stepped
+  onward = hostStep (getD bytes taken 0) here
+
+  module _ (more : taken < length bytes) where
+    goes-one-on : length (bytesOf (onward .message)) ≤ length output - sent → Going start bytes before (onward .terminal) (taken + 1) (sent + length (bytesOf (onward .message))) (stored + length (onward .cells)) (placed sent (bytesOf (onward .message)) output)
+    goes-one-on fits =
+        let n : ℕ = length (bytesOf (onward .message)) in
+        let few = step-count (getD bytes taken 0) here (going .valid) in
+        let room : length (bytesOf (onward .message)) ≤ length before - sent = omega (arith, going .as-long) in
+        let left : length before - sent - length (bytesOf (onward .message)) ≡ length before - (sent + length (bytesOf (onward .message))) = omega arith in
+        let written = wrote-then (omega arith) (going .wrote) (record { next-is = refl; left = refl }) in
+        record {
+          done = going .done ++ (onward ∷ []);
+          steps =
+              going .steps
+              ∙ ap (λ (steps : List Stepped). going .done ++ fitting (length before - sent) steps) (next-step here bytes taken more)
+              ∙ ap (λ (steps : List Stepped). going .done ++ steps) (fits-on (length before - sent) onward (stepsOf (onward .terminal) (drop (taken + 1) bytes)) room)
+              ∙ ap (λ (r : ℕ). going .done ++ (onward ∷ fitting r (stepsOf (onward .terminal) (drop (taken + 1) bytes)))) left
+              ∙ sym (append-assoc (going .done) (onward ∷ []) (fitting (length before - (sent + length (bytesOf (onward .message)))) (stepsOf (onward .terminal) (drop (taken + 1) bytes))));
+          as-many = length-append (going .done) (onward ∷ []) ∙ omega (arith, going .as-many);
+          comes = after-more start (going .done) onward;
+          wrote = rw (sent-more (going .done) onward) written;
+          counted = rw (stored-more (going .done) onward, length-append (storedBy (going .done)) (onward .cells), going .counted);
+          valid = step-keeps-valid (getD bytes taken 0) here (going .valid);
+          inside = omega arith;
+          room = omega (arith, going .room);
+          as-long = placed-length sent (bytesOf (onward .message)) output (omega (arith, going .room, going .as-long)) ∙ going .as-long;
+          few = omega (arith, going .few);
+        }
+
+    module _ (step : Step) (page : Page) (written-to : List ℕ) (is : record { told = told step page; output = written-to } ≡ written sent output here onward) where
+      pub goes-on : step .full ≡ false → Going start bytes before (record { state = step .state; page = page }) (taken + 1) (sent + step .sent) (stored + step .stored) written-to
+      goes-on done =
+          let was = was-done sent output here onward step page written-to is done in
+          subst (λ (t : Terminal). Going start bytes before t (taken + 1) (sent + step .sent) (stored + step .stored) written-to) (sym (was .terminal))
+          (rw (was .stored, was .sent, was .writes) (goes-one-on (was .fits)))
+
+  -- Where it ends, the call did the steps done so far.
+  ends : (answer : Answer) → fitting (length before) (stepsOf start bytes) ≡ going .done → did answer (length (fitting (length before) (stepsOf start bytes))) start before (fitting (length before) (stepsOf start bytes)) ≡ record { number = numberOf answer; taken = taken; sent = sent; stored = stored; terminal = here; output = output }
+  unfolding did
+  ends answer all =
+      let bytes-sent : length (sentBy (going .done)) ≡ sent = omega (arith, going .wrote .next-is) in
+      rw all
+      (λ i. record {
+        number = numberOf answer;
+        taken = going .as-many i;
+        sent = bytes-sent i;
+        stored = going .counted i;
+        terminal = going .comes i;
+        output = sym (going .wrote .left) i;
+      })
+
+  module _ (valid : Valid start) (short : length bytes ≤ 65536) where
+    pub ends-full : (more : taken < length bytes) → length output - sent < length (bytesOf (onward .message)) → hostCall start bytes before ≡ record { number = numberOf NoRoom; taken = taken; sent = sent; stored = stored; terminal = here; output = output }
+    unfolding exceedsRoom
+    ends-full more exceeds =
+        let room : length before - sent < length (bytesOf (onward .message)) = omega (arith, going .as-long) in
+        let all : fitting (length before) (stepsOf start bytes) ≡ going .done =
+        going .steps
+        ∙ ap (λ (steps : List Stepped). going .done ++ fitting (length before - sent) steps) (next-step here bytes taken more)
+        ∙ ap (λ (steps : List Stepped). going .done ++ steps) (stops-there (length before - sent) (onward) _ room)
+        ∙ append-nil (going .done) in
+        let fewer : length (fitting (length before) (stepsOf start bytes)) < length (stepsOf start bytes) = omega (arith, ap length all, going .as-many, steps-count start bytes) in
+        host-no-room start bytes before (valid .size) (valid-holds start valid) short (lt-ltb _ _ fewer) ∙ ends NoRoom all
+
+    pub ends-done : length bytes ≤ taken → hostCall start bytes before ≡ record { number = numberOf Done; taken = taken; sent = sent; stored = stored; terminal = here; output = output }
+    unfolding exceedsRoom stepsOf fitting
+    ends-done no-more =
+        let all : fitting (length before) (stepsOf start bytes) ≡ going .done =
+        going .steps
+        ∙ ap (λ (rest : List ℕ). going .done ++ fitting (length before - sent) (stepsOf here rest)) (drop-of-length-le bytes no-more)
+        ∙ append-nil (going .done) in
+        let as-many : length (stepsOf start bytes) ≤ length (fitting (length before) (stepsOf start bytes)) = omega (arith, ap length all, going .as-many, steps-count start bytes) in
+        host-done start bytes before (valid .size) (valid-holds start valid) short (le-ltb _ _ as-many) ∙ ends Done all

@@ -1,0 +1,69 @@
+-- Document 01, "Numbers a call gives back": for each answer its number, and what its line gives and leaves.
+use mathlib.Core.List.{List}
+use Prim.Native.Nat.{ℕ}
+use lib.ListN.{length}
+use Rattle.words.specs.Output.{placed}
+use Rattle.page.specs.Page.{Page}
+use Rattle.steps.specs.Steps.{Terminal, Stepped}
+use Rattle.terminal.specs.declared.Answer.{Answer}
+use Rattle.terminal.specs.declared.Answer.the-variants.{Done, WrongSize, WrongState, NoRoom, UnknownKey, Locked, TooLong, NoCell}
+use Rattle.terminal.specs.declared.Reply.{Reply}
+use Rattle.terminal.specs.Runs.{after, sentBy, storedBy}
+
+unfoldable pub numberOf : Answer → ℕ
+numberOf Done = 0
+numberOf WrongSize = 1
+numberOf WrongState = 2
+numberOf NoRoom = 3
+numberOf UnknownKey = 4
+numberOf Locked = 5
+numberOf TooLong = 6
+numberOf NoCell = 7
+
+-- All that a call gives and leaves: the number, the bytes taken, the bytes sent, the cells stored; state and page; the output.
+pub record Outcome : Type 0 where
+  pub number : ℕ
+  pub taken : ℕ
+  pub sent : ℕ
+  pub stored : ℕ
+  pub terminal : Terminal
+  pub output : List ℕ
+
+-- What the code handed back, with the page and the output that it left.
+abbrev pub given : Reply → Page → List ℕ → Outcome
+given reply page output =
+    record {
+      number = numberOf (reply .answer);
+      taken = reply .taken;
+      sent = reply .sent;
+      stored = reply .stored;
+      terminal = record { state = reply .state; page = page };
+      output = output;
+    }
+
+-- Nothing changed, counts 0.
+unfoldable pub unchanged : Answer → Terminal → List ℕ → Outcome
+unchanged answer t output = record { number = numberOf answer; taken = 0; sent = 0; stored = 0; terminal = t; output = output }
+
+-- Steps were done: their bytes stand at the start of the output, and what is past them is as it was.
+unfoldable pub did : Answer → ℕ → Terminal → List ℕ → List Stepped → Outcome
+did answer taken t output steps =
+    record {
+      number = numberOf answer;
+      taken = taken;
+      sent = length (sentBy steps);
+      stored = length (storedBy steps);
+      terminal = after t steps;
+      output = placed 0 (sentBy steps) output;
+    }
+
+-- The table's last column, for a call that may do these steps: those before the one that lacks room, or all.
+unfoldable pub gives : Answer → ℕ → Terminal → List ℕ → List Stepped → Outcome
+gives Done taken t output steps = did Done taken t output steps
+gives WrongSize taken t output steps = unchanged WrongSize t output
+gives WrongState taken t output steps = unchanged WrongState t output
+gives NoRoom taken t output steps = did NoRoom taken t output steps
+gives UnknownKey taken t output steps = unchanged UnknownKey t output
+gives Locked taken t output steps = unchanged Locked t output
+gives TooLong taken t output steps = unchanged TooLong t output
+gives NoCell taken t output steps = unchanged NoCell t output

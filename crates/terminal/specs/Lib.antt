@@ -1,0 +1,5 @@
+pub mod Runs
+pub mod Answers
+pub mod Lines
+pub mod Calls
+pub mod Table

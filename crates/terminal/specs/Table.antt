@@ -1,0 +1,79 @@
+-- Document 01, "Numbers a call gives back": each line as a proposition in the table's words, and the order of each call.
+use mathlib.Core.Path.{_≡_}
+use mathlib.Core.Bool.{true, false}
+use mathlib.Core.List.{List, [], _∷_, _++_}
+use Prim.Native.Nat.{ℕ, _-_, _<_, _≤_}
+use lib.ListN.{length}
+use Rattle.page.specs.Page.{Page}
+use Rattle.page.specs.Marks.{unprotected}
+use Rattle.state.specs.declared.Size.{Size}
+use Rattle.state.specs.declared.State.{State}
+use Rattle.state.specs.Lines.{Line1, Line2}
+use Rattle.steps.specs.Steps.{Terminal, Stepped, bytesOf, cursorCell}
+use Rattle.steps.specs.Keys.{fieldsHere, keyStep}
+use Rattle.terminal.specs.Runs.{stepsOf, sentBy}
+
+-- 3: the next command's bytes exceed the output room left by the messages before it.
+pub record Line3 (room : ℕ) (steps : List Stepped) : Type 0 where
+  pub before : List Stepped
+  pub next : Stepped
+  pub later : List Stepped
+  pub are : steps ≡ before ++ (next ∷ later)
+  pub fit : length (sentBy before) ≤ room
+  pub exceeds : room - length (sentBy before) < length (bytesOf (next .message))
+
+-- 4: the key is none of 32 to 126 and 256 to 268.
+pub record Line4 (key : ℕ) : Type 0 where
+  pub no-character : 32 ≤ key → key ≤ 126 → ⊥
+  pub no-other-key : 256 ≤ key → key ≤ 268 → ⊥
+
+-- 5: a lock is set, and the key is not 268.
+pub data Line5 (key : ℕ) (s : State) : Type 0 where
+  manual-lock : s .locks .manual ≡ true → (key ≡ 268 → ⊥) → Line5 key s
+  soft-lock : s .locks .soft ≡ true → (key ≡ 268 → ⊥) → Line5 key s
+
+-- 6: more than 65,536 host bytes.
+abbrev pub Line6 : List ℕ → Type 0
+Line6 bytes = 65536 < length bytes
+
+-- 7: the key needs an unprotected cell or a field and there is none.
+pub data Line7 (key : ℕ) (t : Terminal) : Type 0 where
+  typed-on-protected : 32 ≤ key → key ≤ 126 → unprotected (t .page .marks) (cursorCell (t .state)) ≡ false → Line7 key t
+  edited-on-protected : 263 ≤ key → key ≤ 265 → unprotected (t .page .marks) (cursorCell (t .state)) ≡ false → Line7 key t
+  no-field : 260 ≤ key → key ≤ 261 → fieldsHere t ≡ [] → Line7 key t
+
+-- A line of the table: its number, and when it holds.
+pub record Row : Type 1 where
+  pub number : ℕ
+  pub Holds : Type 0
+
+infix 68 _when_
+abbrev pub _when_ : ℕ → Type 0 → Row
+number when Holds = record { number = number; Holds = Holds }
+
+-- The number is that of the first line that holds, and 0 where none does: each is given exactly when its line holds and none before it.
+pub data Decides : List Row → ℕ → Type 1 where
+  none-holds : Decides [] 0
+  this-holds : (row : Row) (later : List Row) → row .Holds → Decides (row ∷ later) (row .number)
+  not-this : (row : Row) (later : List Row) (number : ℕ) → (row .Holds → ⊥) → Decides later number → Decides (row ∷ later) number
+
+abbrev pub startTable : Size → Page → List Row
+startTable size page = 1 when Line1 size page ∷ []
+
+abbrev pub hostTable : Terminal → List ℕ → ℕ → List Row
+hostTable t bytes room =
+    1 when Line1 (t .state .size) (t .page)
+    ∷ 2 when Line2 (t .state) (t .page)
+    ∷ 6 when Line6 bytes
+    ∷ 3 when Line3 room (stepsOf t bytes)
+    ∷ []
+
+abbrev pub keyTable : Terminal → ℕ → ℕ → List Row
+keyTable t key room =
+    1 when Line1 (t .state .size) (t .page)
+    ∷ 2 when Line2 (t .state) (t .page)
+    ∷ 4 when Line4 key
+    ∷ 5 when Line5 key (t .state)
+    ∷ 7 when Line7 key t
+    ∷ 3 when Line3 room (keyStep key t ∷ [])
+    ∷ []

@@ -1,0 +1,182 @@
+// The three public entries of document 01: start, host, key. They ask nothing of what arrives.
+// What each gives and leaves is defined in specs/Calls.antt.
+use state::Size;
+use state::State;
+ghost use mathlib.Core.Path.{_≡_};
+ghost use mathlib.Core.Bool.{true, false};
+ghost use mathlib.Core.List.{List, []};
+ghost use Prim.Native.Nat.{ℕ, _≤_};
+ghost use lib.ListN.{length};
+ghost use Rattle.page.specs.Page.{Page, pageOf};
+ghost use Rattle.steps.specs.Steps.{Valid};
+ghost use Rattle.steps.specs.Keys.{isKnown, isLockedOut, lacksCell};
+ghost use Rattle.terminal.specs.Answers.{given, unchanged};
+ghost use Rattle.terminal.specs.Lines.{isValid};
+ghost use Rattle.terminal.specs.Calls.{startCall, hostCall, keyCall};
+
+// Each has a number, and a line of document 01's table: `numberOf` and `gives` of specs/Answers.antt.
+pub enum Answer {
+    Done,
+    WrongSize,
+    WrongState,
+    NoRoom,
+    UnknownKey,
+    Locked,
+    TooLong,
+    NoCell,
+}
+
+pub struct Reply {
+    pub answer: Answer,
+    pub state: State,
+    // Host bytes taken; bytes sent; cells stored.
+    pub taken: usize,
+    pub sent: usize,
+    pub stored: usize,
+}
+
+// A call that changes nothing.
+fn refuse(answer: Answer, state: State) -> Reply
+    ensures { λ r. ⌜ ((page : Page) (output : List ℕ) → given r page output ≡ unchanged answer (record { state = state; page = page }) output) ⌝ }
+{
+    Reply {
+        answer,
+        state,
+        taken: 0,
+        sent: 0,
+        stored: 0,
+    }
+}
+
+fn is_valid(state: State, characters: &[u8], marks: &[u8]) -> bool
+    ensures { λ r. ⌜ r ≡ isValid (record { state = state; page = pageOf (now (characters .entry)) (now (marks .entry)) }) ⌝ }
+{
+    if state.is_valid() {
+        return page::is_valid_page(characters, marks);
+    }
+    false
+}
+
+// The steps of host bytes, stopping where a message exceeds the room left.
+fn run(state: State, characters: &mut [u8], marks: &mut [u8], bytes: &[u8], out: &mut [u8]) -> Reply
+    requires { ⌜ Valid (record { state = state; page = pageOf (now characters) (now marks) }) ⌝ }
+    requires { ⌜ length (now bytes) ≤ 65536 ⌝ }
+    ensures { λ r. ⌜ given r (pageOf (now (characters .exit)) (now (marks .exit))) (now (out .exit)) ≡ hostCall (record { state = state; page = pageOf (now (characters .entry)) (now (marks .entry)) }) (now (bytes .entry)) (now (out .entry)) ⌝ }
+{
+    let mut here = state;
+    let mut taken = 0;
+    let mut sent = 0;
+    let mut stored = 0;
+    while taken < bytes.len() {
+        let step = commands::step(here, characters, marks, out, sent, bytes[taken]);
+        if step.full {
+            return Reply {
+                answer: Answer::NoRoom,
+                state: here,
+                taken,
+                sent,
+                stored,
+            };
+        }
+        here = step.state;
+        sent += step.sent;
+        stored += step.stored;
+        taken += 1;
+    }
+    Reply {
+        answer: Answer::Done,
+        state: here,
+        taken,
+        sent,
+        stored,
+    }
+}
+
+// The step of a key that lines 1, 2, 4, 5 and 7 let pass.
+fn press(state: State, characters: &mut [u8], marks: &mut [u8], key: usize, out: &mut [u8]) -> Reply
+    requires { ⌜ Valid (record { state = state; page = pageOf (now characters) (now marks) }) ⌝ }
+    requires { ⌜ (isKnown key ≡ true) × (isLockedOut key state ≡ false) × (lacksCell key (record { state = state; page = pageOf (now characters) (now marks) }) ≡ false) ⌝ }
+    ensures { λ r. ⌜ given r (pageOf (now (characters .exit)) (now (marks .exit))) (now (out .exit)) ≡ keyCall (record { state = state; page = pageOf (now (characters .entry)) (now (marks .entry)) }) key (now (out .entry)) ⌝ }
+{
+    let step = keys::step(state, characters, marks, out, key);
+    if step.full {
+        return refuse(Answer::NoRoom, state);
+    }
+    let after = step.state;
+    Reply {
+        answer: Answer::Done,
+        state: after,
+        taken: 0,
+        sent: step.sent,
+        stored: step.stored,
+    }
+}
+
+// A fresh page of so many rows and columns.
+pub fn start(rows: usize, columns: usize, characters: &mut [u8], marks: &mut [u8]) -> Reply
+    ensures { λ r. ⌜ given r (pageOf (now (characters .exit)) (now (marks .exit))) [] ≡ startCall (record { rows = rows; columns = columns }) (pageOf (now (characters .entry)) (now (marks .entry))) ⌝ }
+{
+    let size = Size { rows, columns };
+    if !size.fits(characters, marks) {
+        return refuse(Answer::WrongSize, State::zero());
+    }
+    let cells = marks.len();
+    page::erase(characters, marks, 0, cells, true);
+    Reply {
+        answer: Answer::Done,
+        state: State::fresh(size),
+        taken: 0,
+        sent: 0,
+        stored: cells,
+    }
+}
+
+// Host bytes, at most 65,536. Messages are written from the output's start on.
+pub fn host(
+    state: State,
+    characters: &mut [u8],
+    marks: &mut [u8],
+    bytes: &[u8],
+    out: &mut [u8],
+) -> Reply
+    ensures { λ r. ⌜ given r (pageOf (now (characters .exit)) (now (marks .exit))) (now (out .exit)) ≡ hostCall (record { state = state; page = pageOf (now (characters .entry)) (now (marks .entry)) }) (now (bytes .entry)) (now (out .entry)) ⌝ }
+{
+    if !state.size.fits(characters, marks) {
+        return refuse(Answer::WrongSize, state);
+    }
+    if !is_valid(state, characters, marks) {
+        return refuse(Answer::WrongState, state);
+    }
+    if 65536 < bytes.len() {
+        return refuse(Answer::TooLong, state);
+    }
+    run(state, characters, marks, bytes, out)
+}
+
+// A key, by its number. Its message is written from the output's start on.
+pub fn key(
+    state: State,
+    characters: &mut [u8],
+    marks: &mut [u8],
+    key: usize,
+    out: &mut [u8],
+) -> Reply
+    ensures { λ r. ⌜ given r (pageOf (now (characters .exit)) (now (marks .exit))) (now (out .exit)) ≡ keyCall (record { state = state; page = pageOf (now (characters .entry)) (now (marks .entry)) }) key (now (out .entry)) ⌝ }
+{
+    if !state.size.fits(characters, marks) {
+        return refuse(Answer::WrongSize, state);
+    }
+    if !is_valid(state, characters, marks) {
+        return refuse(Answer::WrongState, state);
+    }
+    if !keys::is_known(key) {
+        return refuse(Answer::UnknownKey, state);
+    }
+    if keys::is_locked_out(key, state) {
+        return refuse(Answer::Locked, state);
+    }
+    if keys::lacks_cell(key, state, characters, marks) {
+        return refuse(Answer::NoCell, state);
+    }
+    press(state, characters, marks, key, out)
+}
