@@ -1,0 +1,3 @@
+pub mod Streams
+pub mod Copying
+pub mod Promises

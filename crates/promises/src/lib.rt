@@ -1,0 +1,1 @@
+// The three demands: see specs/Promises.antt; their proofs are in proofs/.
