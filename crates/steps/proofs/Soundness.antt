@@ -34,7 +34,7 @@ sized size page fits =
     let lengths = both (both fits .1) in
     record { listed = both fits .0; characters = eqb-true _ _ (lengths .0); marks = eqb-true _ _ (lengths .1) }
 
-still-fits : (size after : Size) (page stored : Page) → sizeFits size page ≡ true → after ≡ size → SameSize page stored → sizeFits after stored ≡ true
+pub still-fits : (size after : Size) (page stored : Page) → sizeFits size page ≡ true → after ≡ size → SameSize page stored → sizeFits after stored ≡ true
 unfolding sizeFits
 still-fits size after page stored fits e same = rw (e, same .characters, same .marks) fits
 

@@ -29,6 +29,14 @@ pub record Stored (before : Page) (cells : List ℕ) (unlocks : Bool) (after : P
   pub once : Rising (length (before .marks)) 0 cells
   pub protection : unlocks ≡ false → KeepsProtection before after
 
+-- A page of 20s with marks 0 is valid.
+pub blank-page-valid : (cells marks : ℕ) → validPage (pageOf (replicate cells 0x20) (replicate marks 0)) ≡ true
+unfolding validPage
+blank-page-valid cells marks =
+    both-hold _ _
+    (every-replicate validCharacter cells 0x20 (range-is 0x20 0x20 0x7E (omega arith) (omega arith)))
+    (every-replicate validMark marks 0 refl)
+
 module _ (page : Page) (valid : validPage page ≡ true) where
   -- one cell
   set-touches : (cell character mark : ℕ) → TouchesOnly (cell ∷ []) silent page (pageOf (set (page .characters) cell character) (set (page .marks) cell mark))
@@ -69,13 +77,10 @@ module _ (page : Page) (valid : validPage page ≡ true) where
   }
 
   pub blank-stored : Stored page (allCells page) true (pageOf (replicate (length (page .characters)) 0x20) (replicate (length (page .marks)) 0))
-  unfolding validPage
   blank-stored =
       all-stored (pageOf (replicate (length (page .characters)) 0x20) (replicate (length (page .marks)) 0))
       (record { characters = length-replicate (length (page .characters)) 0x20; marks = length-replicate (length (page .marks)) 0 })
-      (both-hold _ _
-      (every-replicate validCharacter (length (page .characters)) 0x20 (range-is 0x20 0x20 0x7E (omega arith) (omega arith)))
-      (every-replicate validMark (length (page .marks)) 0 refl))
+      (blank-page-valid (length (page .characters)) (length (page .marks)))
 
   module _ (same : length (page .marks) ≡ length (page .characters)) where
     pub up-stored : (columns : ℕ) → columns ≤ length (page .characters) → Stored page (allCells page) true (scrolledUp columns page)

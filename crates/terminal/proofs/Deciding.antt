@@ -122,12 +122,14 @@ module _ (t : Terminal) (key : ℕ) (output : List ℕ) where
                 ∙ ap (did NoRoom 0 t output) none
                 ∙ (λ i. record { number = numberOf NoRoom; taken = 0; sent = 0; stored = 0; terminal = t; output = sym (wrote-none 0 output .left) i })
 
+            pub key-did : length (bytesOf (keyStep key t .message)) ≤ length output → keyCall t key output ≡ did Done 0 t output (keyStep key t ∷ [])
+            unfolding exceedsRoom fitting
+            key-did fits = let all = fits-on (length output) (keyStep key t) [] fits in key-fits (rw all) ∙ ap (did Done 0 t output) all
+
             pub key-done : length (bytesOf (keyStep key t .message)) ≤ length output → keyCall t key output ≡ record { number = numberOf Done; taken = 0; sent = length (bytesOf (keyStep key t .message)); stored = length (keyStep key t .cells); terminal = keyStep key t .terminal; output = placed 0 (bytesOf (keyStep key t .message)) output }
-            unfolding did after sentBy storedBy exceedsRoom fitting
+            unfolding did after sentBy storedBy
             key-done fits =
-                let all = fits-on (length output) (keyStep key t) [] fits in
-                key-fits (rw all)
-                ∙ ap (did Done 0 t output) all
+                key-did fits
                 ∙ (λ i. record {
                   number = numberOf Done;
                   taken = 0;
@@ -146,7 +148,7 @@ module _ (size : Size) (page : Page) where
   unfolding gives startLines firstOf
   start-wrong-size wrong = start-gives WrongSize (rw (then-case _ _ _ (ap not wrong)))
 
-  start-done : sizeFits size page ≡ true → startCall size page ≡ did Done 0 (unstarted page) [] (startStep size page ∷ [])
+  pub start-done : sizeFits size page ≡ true → startCall size page ≡ did Done 0 (unstarted page) [] (startStep size page ∷ [])
   unfolding gives startLines firstOf
   start-done fits = start-gives Done (rw (else-case _ _ _ (ap not fits)))
 

@@ -33,6 +33,17 @@ pub placed-length : (at : ℕ) (bytes list : List ℕ) → at + length bytes ≤
 unfolding placed
 placed-length at bytes list fits = simp (length-append, length-take, length-drop) (omega arith)
 
+-- What is written at the start of an output, and what is past it.
+pub placed-before : (bytes list : List ℕ) → take (length bytes) (placed 0 bytes list) ≡ bytes
+unfolding placed
+placed-before bytes list = take-at bytes (drop (0 + length bytes) list) (length bytes) refl
+
+pub placed-past : (bytes list : List ℕ) → drop (length bytes) (placed 0 bytes list) ≡ drop (length bytes) list
+unfolding placed
+placed-past bytes list =
+    let from-start : 0 + length bytes ≡ length bytes = omega arith in
+    drop-at bytes (drop (0 + length bytes) list) (length bytes) refl ∙ ap (λ (n : ℕ). drop n list) from-start
+
 -- nothing, one byte, and one write after another
 pub wrote-none : (at : ℕ) (list : List ℕ) → Wrote at [] list at list
 unfolding placed

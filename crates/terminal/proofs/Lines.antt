@@ -1,0 +1,93 @@
+-- Lines 4, 5 and 7, clause by clause: the tests that run hold exactly when the lines do.
+use mathlib.Core.Path.{_≡_, refl, sym, ap, _∙_}
+use mathlib.Core.Bool.{Bool, true, false, not}
+use mathlib.Core.List.{List, [], _∷_}
+use mathlib.Core.Logic.{_↔_, ⊎-elim}
+use Prim.Native.Nat.{ℕ, _≤_}
+use native.Mathlib.Omega.{arith}
+use borrow.Author.Tests.{eqb-true, eqb-false, not-true, not-false, ne-eqb}
+use lib.Dec.{eqb}
+use Rattle.words.specs.Choice.{if_then_else_, _and_, _or_, _is_to_}
+use Rattle.words.proofs.Choosing.{true-is-not-false, not-both, either-way, then-case, else-case, both, both-hold, neither, one-holds, first-holds, second-decides, range-holds, range-is}
+use Rattle.page.specs.Marks.{unprotected}
+use Rattle.fields.specs.Fields.{Field}
+use Rattle.state.specs.declared.State.{State}
+use Rattle.steps.specs.Steps.{Terminal, cursorCell}
+use Rattle.steps.specs.Keys.{isTyping, isEditing, isFieldMove, isKnown, isLocked, isLockedOut, fieldsHere, noField, lacksCell}
+use Rattle.terminal.specs.Table.{Line4, Line5, manual-lock, soft-lock, Line7, typed-on-protected, edited-on-protected, no-field}
+
+pub line-4 : (key : ℕ) → (not (isKnown key) ≡ true) ↔ Line4 key
+unfolding isKnown isTyping
+line-4 key = (
+  λ holds.
+      let unlisted = neither (not-true _ holds) in
+      record {
+        no-character = λ low high. not-both (range-is key 32 126 low high) (unlisted .0);
+        no-other-key = λ low high. not-both (range-is key 256 268 low high) (unlisted .1);
+      },
+  λ line.
+      either-way (isKnown key)
+      (λ known.
+      ⊎-elim
+      (λ typing. let range = range-holds key 32 126 typing in absurd (line .no-character (range .0) (range .1)))
+      (λ other. let range = range-holds key 256 268 other in absurd (line .no-other-key (range .0) (range .1)))
+      (one-holds known))
+      (λ unknown. ap not unknown),
+)
+
+pub line-5 : (key : ℕ) (s : State) → (isLockedOut key s ≡ true) ↔ Line5 key s
+unfolding isLockedOut isLocked
+line-5 key s = (
+  λ holds.
+      let other : key ≡ 268 → ⊥ = eqb-false key 268 (not-true _ (both holds .1)) in
+      ⊎-elim (λ manual. manual-lock manual other) (λ soft. soft-lock soft other) (one-holds (both holds .0)),
+  λ line. locked line,
+)
+  where
+    locked : Line5 key s → isLockedOut key s ≡ true
+    locked (manual-lock manual other) = both-hold _ _ (first-holds _ _ manual) (ap not (ne-eqb key 268 other))
+    locked (soft-lock soft other) =
+        both-hold _ _
+        (either-way (s .locks .manual) (λ manual. first-holds _ _ manual) (λ free. second-decides _ _ free ∙ soft))
+        (ap not (ne-eqb key 268 other))
+
+none-listed : (fields : List Field) → noField fields ≡ true → fields ≡ []
+unfolding noField
+none-listed [] none = refl
+none-listed (field ∷ later) none = absurd (true-is-not-false (sym none))
+
+pub line-7 : (key : ℕ) (t : Terminal) → (lacksCell key t ≡ true) ↔ Line7 key t
+unfolding lacksCell isTyping isEditing isFieldMove noField
+line-7 key t = (holds, λ line. lacks line)
+  where
+    storing : (key is 32 to 126 or key is 263 to 265) ≡ true → lacksCell key t ≡ not (unprotected (t .page .marks) (cursorCell (t .state)))
+    storing stores = then-case _ _ _ stores
+
+    holds : lacksCell key t ≡ true → Line7 key t
+    holds lacks =
+        either-way (key is 32 to 126 or key is 263 to 265)
+        (λ stores.
+        let protected = not-true _ (sym (storing stores) ∙ lacks) in
+        ⊎-elim
+        (λ typing. let range = range-holds key 32 126 typing in typed-on-protected (range .0) (range .1) protected)
+        (λ editing. let range = range-holds key 263 265 editing in edited-on-protected (range .0) (range .1) protected)
+        (one-holds stores))
+        (λ other.
+        either-way (key is 260 to 261)
+        (λ moves.
+        let range = range-holds key 260 261 moves in
+        no-field (range .0) (range .1) (none-listed (fieldsHere t) (sym (else-case _ _ _ other ∙ then-case _ _ _ moves) ∙ lacks)))
+        (λ neither. absurd (true-is-not-false (sym lacks ∙ else-case _ _ _ other ∙ else-case _ _ _ neither))))
+
+    -- The ranges of the keys have no number in common.
+    outside : (low high : ℕ) → ((low ≤ key) × (key ≤ high) → ⊥) → (key is low to high) ≡ false
+    outside low high out = either-way (key is low to high) (λ inside. absurd (out (range-holds key low high inside))) (λ f. f)
+
+    lacks : Line7 key t → lacksCell key t ≡ true
+    lacks (typed-on-protected low high protected) = storing (first-holds _ _ (range-is key 32 126 low high)) ∙ ap not protected
+    lacks (edited-on-protected low high protected) =
+        storing (second-decides _ _ (outside 32 126 (λ range. omega (arith, range .1))) ∙ range-is key 263 265 low high) ∙ ap not protected
+    lacks (no-field low high none) =
+        else-case _ _ _ (second-decides _ _ (outside 32 126 (λ range. omega (arith, range .1))) ∙ outside 263 265 (λ range. omega (arith, range .0)))
+        ∙ then-case _ _ _ (range-is key 260 261 low high)
+        ∙ ap noField none

@@ -1,0 +1,290 @@
+-- What is proved of start, host and key: demand 1, and that a valid terminal stays valid.
+use mathlib.Core.Path.{_≡_, refl, sym, ap, _∙_, subst}
+use mathlib.Core.Bool.{Bool, true, false, not}
+use mathlib.Core.List.{List, [], _∷_, append-nil}
+use mathlib.Core.Logic.{_↔_}
+use Prim.Native.Nat.{ℕ, _-_}
+use native.Mathlib.Omega.{arith}
+use borrow.Author.Tests.{lt-ltb, ltb-true, not-true}
+use lib.Dec.{ltb, eqb}
+use lib.ListN.{length, take, drop, replicate, length-replicate}
+use Rattle.words.specs.Choice.{if_then_else_}
+use Rattle.words.specs.Output.{placed}
+use Rattle.words.proofs.Output.{placed-before, placed-past}
+use Rattle.words.proofs.Choosing.{either-line}
+use Rattle.page.specs.Page.{Page, pageOf}
+use Rattle.state.specs.declared.Size.{Size}
+use Rattle.state.specs.declared.State.{State}
+use Rattle.state.specs.State.{freshState}
+use Rattle.state.proofs.Lines.{line-1, line-2}
+use Rattle.state.proofs.Keeping.{fresh-valid}
+use Rattle.steps.specs.Steps.{Terminal, Stepped, bytesOf, Valid}
+use Rattle.steps.specs.Commands.{freshStep}
+use Rattle.steps.specs.Host.{hostStep}
+use Rattle.steps.specs.Keys.{keyStep}
+use Rattle.steps.proofs.Soundness.{sized, still-fits}
+use Rattle.steps.proofs.Storing.{blank-page-valid}
+use Rattle.commands.proofs.Theorems.{step-keeps-valid, fresh-count}
+use Rattle.keys.proofs.Theorems as Keys
+use Rattle.terminal.specs.declared.Answer.{Answer}
+use Rattle.terminal.specs.declared.Answer.the-variants.{Done, WrongSize, WrongState, NoRoom, UnknownKey, Locked, TooLong, NoCell}
+use Rattle.terminal.specs.declared.Reply.{Reply}
+use Rattle.terminal.specs.Runs.{stepsOf, fitting, after, sentBy, storedBy}
+use Rattle.terminal.specs.Answers.{numberOf, Outcome, given, unchanged, did, gives}
+use Rattle.terminal.specs.Lines.{isValid, firstOf, startLines, hostLines, keyLines}
+use Rattle.terminal.specs.Calls.{unstarted, startStep, startCall, hostCall, keyCall}
+use Rattle.terminal.specs.Table.{Line3, Line6, Decides, startTable, hostTable, keyTable}
+use Rattle.terminal.proofs.Deciding.{fits-on, stops-there}
+use Rattle.terminal.proofs.Matching.{ends, next, first-decides-row, decides-one}
+use Rattle.terminal.proofs.Exceeding.{line-3}
+use Rattle.terminal.proofs.Lines.{line-4, line-5, line-7}
+use Rattle.terminal.proofs.Cases.{HostCase, KeyCase, StartCase, host-case, key-case, start-case}
+use Rattle.terminal.proofs.Cases
+
+-- The number of an outcome is its answer's.
+number-is : (answer : Answer) (taken : ℕ) (t : Terminal) (output : List ℕ) (steps : List Stepped) → numberOf answer ≡ gives answer taken t output steps .number
+unfolding gives did unchanged
+number-is Done taken t output steps = refl
+number-is WrongSize taken t output steps = refl
+number-is WrongState taken t output steps = refl
+number-is NoRoom taken t output steps = refl
+number-is UnknownKey taken t output steps = refl
+number-is Locked taken t output steps = refl
+number-is TooLong taken t output steps = refl
+number-is NoCell taken t output steps = refl
+
+-- A test that is turned round.
+turned : {test : Bool} {Holds : Type 0} → (test ≡ false) ↔ Holds → (not test ≡ true) ↔ Holds
+turned same = (λ holds. same .0 (not-true _ holds), λ line. ap not (same .1 line))
+
+-- Each call is given n exactly when n's line holds and none before it does; no other number is ever given.
+module _ (size : Size) (page : Page) where
+  start-decides : Decides (startTable size page) (startCall size page .number)
+  unfolding startCall startLines numberOf
+  start-decides =
+      subst (Decides (startTable size page)) (number-is (firstOf (startLines size page)) _ _ _ _)
+      (first-decides-row (next _ _ (turned (line-1 size page)) refl ends))
+
+  pub start-exactly : (n : ℕ) → (startCall size page .number ≡ n) ↔ Decides (startTable size page) n
+  start-exactly n = (λ is. subst (Decides (startTable size page)) is start-decides, λ decides. decides-one start-decides decides)
+
+module _ (t : Terminal) (bytes output : List ℕ) where
+  host-decides : Decides (hostTable t bytes (length output)) (hostCall t bytes output .number)
+  unfolding hostCall hostLines isValid numberOf
+  host-decides =
+      subst (Decides (hostTable t bytes (length output))) (number-is (firstOf (hostLines t bytes output)) _ _ _ _)
+      (first-decides-row
+      (next _ _ (turned (line-1 (t .state .size) (t .page))) refl
+      (next _ _ (turned (line-2 (t .state) (t .page))) refl
+      (next _ _ (λ holds. ltb-true _ _ holds, λ line. lt-ltb _ _ line) refl
+      (next _ _ (line-3 (length output) (stepsOf t bytes)) refl ends)))))
+
+  pub host-exactly : (n : ℕ) → (hostCall t bytes output .number ≡ n) ↔ Decides (hostTable t bytes (length output)) n
+  host-exactly n = (λ is. subst (Decides (hostTable t bytes (length output))) is host-decides, λ decides. decides-one host-decides decides)
+
+module _ (t : Terminal) (key : ℕ) (output : List ℕ) where
+  key-decides : Decides (keyTable t key (length output)) (keyCall t key output .number)
+  unfolding keyCall keyLines isValid numberOf
+  key-decides =
+      subst (Decides (keyTable t key (length output))) (number-is (firstOf (keyLines t key output)) _ _ _ _)
+      (first-decides-row
+      (next _ _ (turned (line-1 (t .state .size) (t .page))) refl
+      (next _ _ (turned (line-2 (t .state) (t .page))) refl
+      (next _ _ (line-4 key) refl
+      (next _ _ (line-5 key (t .state)) refl
+      (next _ _ (line-7 key t) refl
+      (next _ _ (line-3 (length output) (keyStep key t ∷ [])) refl ends)))))))
+
+  pub key-exactly : (n : ℕ) → (keyCall t key output .number ≡ n) ↔ Decides (keyTable t key (length output)) n
+  key-exactly n = (λ is. subst (Decides (keyTable t key (length output))) is key-decides, λ decides. decides-one key-decides decides)
+
+-- What a refusal leaves: nothing changed, counts 0.
+pub record Leaves (t : Terminal) (lent : List ℕ) (outcome : Outcome) : Type 0 where
+  pub taken : outcome .taken ≡ 0
+  pub sent : outcome .sent ≡ 0
+  pub stored : outcome .stored ≡ 0
+  pub terminal : outcome .terminal ≡ t
+  pub output : outcome .output ≡ lent
+
+leaves : (answer : Answer) (t : Terminal) (lent : List ℕ) {outcome : Outcome} → outcome ≡ unchanged answer t lent → Leaves t lent outcome
+unfolding unchanged
+leaves answer t lent is =
+    record {
+      taken = ap (λ (o : Outcome). o .taken) is;
+      sent = ap (λ (o : Outcome). o .sent) is;
+      stored = ap (λ (o : Outcome). o .stored) is;
+      terminal = ap (λ (o : Outcome). o .terminal) is;
+      output = ap (λ (o : Outcome). o .output) is;
+    }
+
+-- What a call that did steps gives and leaves: their number, bytes, cells, and where they led.
+pub record Did (taken : ℕ) (t : Terminal) (lent : List ℕ) (steps : List Stepped) (outcome : Outcome) : Type 0 where
+  pub bytes-taken : outcome .taken ≡ taken
+  pub sent : outcome .sent ≡ length (sentBy steps)
+  pub stored : outcome .stored ≡ length (storedBy steps)
+  pub terminal : outcome .terminal ≡ after t steps
+  pub output : outcome .output ≡ placed 0 (sentBy steps) lent
+
+did-so : (answer : Answer) (taken : ℕ) (t : Terminal) (lent : List ℕ) (steps : List Stepped) {outcome : Outcome} → outcome ≡ did answer taken t lent steps → Did taken t lent steps outcome
+unfolding did
+did-so answer taken t lent steps is =
+    record {
+      bytes-taken = ap (λ (o : Outcome). o .taken) is;
+      sent = ap (λ (o : Outcome). o .sent) is;
+      stored = ap (λ (o : Outcome). o .stored) is;
+      terminal = ap (λ (o : Outcome). o .terminal) is;
+      output = ap (λ (o : Outcome). o .output) is;
+    }
+
+numbered : (answer : Answer) (t : Terminal) (lent : List ℕ) {outcome : Outcome} → outcome ≡ unchanged answer t lent → outcome .number ≡ numberOf answer
+unfolding unchanged
+numbered answer t lent is = ap (λ (o : Outcome). o .number) is
+
+did-number : (answer : Answer) (taken : ℕ) (t : Terminal) (lent : List ℕ) (steps : List Stepped) {outcome : Outcome} → outcome ≡ did answer taken t lent steps → outcome .number ≡ numberOf answer
+unfolding did
+did-number answer taken t lent steps is = ap (λ (o : Outcome). o .number) is
+
+-- Start: 1 changes nothing and hands back all zeros.
+pub start-refused : (size : Size) (page : Page) → (startCall size page .number ≡ 0 → ⊥) → Leaves (unstarted page) [] (startCall size page)
+unfolding numberOf
+start-refused size page not-done = go (start-case size page)
+  where
+    go : StartCase size page → Leaves (unstarted page) [] (startCall size page)
+    go (Cases.refused wrong is) = leaves _ _ _ is
+    go (Cases.started fits is) = absurd (not-done (did-number _ _ _ _ _ is))
+
+module _ (t : Terminal) (bytes output : List ℕ) where
+  -- Host: 1, 2 and 6 change nothing.
+  pub host-refused : (hostCall t bytes output .number ≡ 0 → ⊥) → (hostCall t bytes output .number ≡ 3 → ⊥) → Leaves t output (hostCall t bytes output)
+  unfolding numberOf
+  host-refused not-done not-full = go (host-case t bytes output)
+    where
+      go : HostCase t bytes output → Leaves t output (hostCall t bytes output)
+      go (Cases.refused answer a b is) = leaves _ _ _ is
+      go (Cases.stopped valid line is) = absurd (not-full (did-number _ _ _ _ _ is))
+      go (Cases.done valid fits is) = absurd (not-done (did-number _ _ _ _ _ is))
+
+  -- Host, 3: the commands before it are done; its last byte isn't taken, and it has no effect.
+  pub host-stopped : hostCall t bytes output .number ≡ 3 → (line : Line3 (length output) (stepsOf t bytes)) × Did (length (line .before)) t output (line .before) (hostCall t bytes output)
+  unfolding numberOf
+  host-stopped full = go (host-case t bytes output)
+    where
+      go : HostCase t bytes output → (line : Line3 (length output) (stepsOf t bytes)) × Did (length (line .before)) t output (line .before) (hostCall t bytes output)
+      go (Cases.refused answer a b is) = absurd (b (sym (numbered _ _ _ is) ∙ full))
+      go (Cases.stopped valid line is) = (line, did-so _ _ _ _ _ is)
+      go (Cases.done valid fits is) = absurd (omega (arith, sym (did-number _ _ _ _ _ is) ∙ full))
+
+  -- Host, 0: all input taken; the steps of all its bytes.
+  pub host-done : hostCall t bytes output .number ≡ 0 → Did (length bytes) t output (stepsOf t bytes) (hostCall t bytes output)
+  unfolding numberOf
+  host-done is-done = go (host-case t bytes output)
+    where
+      go : HostCase t bytes output → Did (length bytes) t output (stepsOf t bytes) (hostCall t bytes output)
+      go (Cases.refused answer a b is) = absurd (a (sym (numbered _ _ _ is) ∙ is-done))
+      go (Cases.stopped valid line is) = absurd (omega (arith, sym (did-number _ _ _ _ _ is) ∙ is-done))
+      go (Cases.done valid fits is) = did-so _ _ _ _ _ is
+
+module _ (t : Terminal) (key : ℕ) (output : List ℕ) where
+  -- Key: every refusal changes nothing, 3 too.
+  pub key-refused : (keyCall t key output .number ≡ 0 → ⊥) → Leaves t output (keyCall t key output)
+  unfolding numberOf
+  key-refused not-done = go (key-case t key output)
+    where
+      go : KeyCase t key output → Leaves t output (keyCall t key output)
+      go (Cases.refused answer a is) = leaves _ _ _ is
+      go (Cases.pressed valid known free has fits is) = absurd (not-done (did-number _ _ _ _ _ is))
+
+  -- Key, 0: its step.
+  pub key-done : keyCall t key output .number ≡ 0 → Did 0 t output (keyStep key t ∷ []) (keyCall t key output)
+  key-done is-done = go (key-case t key output)
+    where
+      go : KeyCase t key output → Did 0 t output (keyStep key t ∷ []) (keyCall t key output)
+      go (Cases.refused answer a is) = absurd (a (sym (numbered _ _ _ is) ∙ is-done))
+      go (Cases.pressed valid known free has fits is) = did-so _ _ _ _ _ is
+
+-- Any two results that a contract allows are equal.
+answerOf : ℕ → Answer
+answerOf number =
+    if eqb number 0 then Done
+    else if eqb number 1 then WrongSize
+    else if eqb number 2 then WrongState
+    else if eqb number 3 then NoRoom
+    else if eqb number 4 then UnknownKey
+    else if eqb number 5 then Locked
+    else if eqb number 6 then TooLong
+    else NoCell
+
+numbers-differ : (answer : Answer) → answerOf (numberOf answer) ≡ answer
+unfolding answerOf numberOf if_then_else_
+numbers-differ Done = refl
+numbers-differ WrongSize = refl
+numbers-differ WrongState = refl
+numbers-differ NoRoom = refl
+numbers-differ UnknownKey = refl
+numbers-differ Locked = refl
+numbers-differ TooLong = refl
+numbers-differ NoCell = refl
+
+pub record SameResult (one other : Reply) (page there : Page) (output lent : List ℕ) : Type 0 where
+  pub replies : one ≡ other
+  pub pages : page ≡ there
+  pub outputs : output ≡ lent
+
+pub one-result : {one other : Reply} {page there : Page} {output lent : List ℕ} {outcome : Outcome} → given one page output ≡ outcome → given other there lent ≡ outcome → SameResult one other page there output lent
+one-result {one} {other} a b =
+    let same = a ∙ sym b in
+    let answers = sym (numbers-differ (one .answer)) ∙ ap (λ (o : Outcome). answerOf (o .number)) same ∙ numbers-differ (other .answer) in
+    record {
+      replies = λ i. record { answer = answers i; state = same i .terminal .state; taken = same i .taken; sent = same i .sent; stored = same i .stored };
+      pages = ap (λ (o : Outcome). o .terminal .page) same;
+      outputs = ap (λ (o : Outcome). o .output) same;
+    }
+
+-- A call on a valid terminal leaves a valid one, whatever it is given; a start given 0 leaves a valid one.
+steps-keep-valid : (room : ℕ) (t : Terminal) (bytes : List ℕ) → Valid t → Valid (after t (fitting room (stepsOf t bytes)))
+unfolding after fitting stepsOf
+steps-keep-valid room t [] valid = valid
+steps-keep-valid room t (byte ∷ later) valid =
+    let step = hostStep byte t in
+    let rest = steps-keep-valid (room - length (bytesOf (step .message))) (step .terminal) later (step-keeps-valid byte t valid) in
+    either-line (λ (steps : List Stepped). Valid (after t steps)) _ _ _ (λ _. rest) (λ _. valid)
+
+gives-valid : (answer : Answer) (taken : ℕ) (t : Terminal) (output : List ℕ) (steps : List Stepped) → Valid t → Valid (after t steps) → Valid (gives answer taken t output steps .terminal)
+unfolding gives did unchanged
+gives-valid Done taken t output steps before later = later
+gives-valid WrongSize taken t output steps before later = before
+gives-valid WrongState taken t output steps before later = before
+gives-valid NoRoom taken t output steps before later = later
+gives-valid UnknownKey taken t output steps before later = before
+gives-valid Locked taken t output steps before later = before
+gives-valid TooLong taken t output steps before later = before
+gives-valid NoCell taken t output steps before later = before
+
+pub host-keeps-valid : (t : Terminal) (bytes output : List ℕ) → Valid t → Valid (hostCall t bytes output .terminal)
+unfolding hostCall
+host-keeps-valid t bytes output valid = gives-valid _ _ t output _ valid (steps-keep-valid (length output) t bytes valid)
+
+pub key-keeps-valid : (t : Terminal) (key : ℕ) (output : List ℕ) → Valid t → Valid (keyCall t key output .terminal)
+unfolding keyCall after fitting
+key-keeps-valid t key output valid =
+    gives-valid _ _ t output _ valid
+    (either-line (λ (steps : List Stepped). Valid (after t steps)) _ _ _ (λ _. Keys.key-keeps-valid key t valid) (λ _. valid))
+
+pub start-gives-valid : (size : Size) (page : Page) → startCall size page .number ≡ 0 → Valid (startCall size page .terminal)
+unfolding numberOf after startStep freshStep
+start-gives-valid size page is-done = go (start-case size page)
+  where
+    go : StartCase size page → Valid (startCall size page .terminal)
+    go (Cases.refused wrong is) = absurd (omega (arith, sym (numbered _ _ _ is) ∙ is-done))
+    go (Cases.started fits is) = subst Valid (sym (did-so _ _ _ _ _ is .terminal)) (record {
+      size = still-fits size size page (pageOf (replicate (length (page .characters)) 0x20) (replicate (length (page .marks)) 0)) fits refl (record { characters = length-replicate (length (page .characters)) 0x20; marks = length-replicate (length (page .marks)) 0 });
+      state = fresh-valid size (sized size page fits .listed);
+      page = blank-page-valid (length (page .characters)) (length (page .marks));
+    })
+
+-- The bytes sent stand at the output's start, and what is past them is unchanged.
+pub bytes-sent : {taken : ℕ} {t : Terminal} {lent : List ℕ} {steps : List Stepped} {outcome : Outcome} → Did taken t lent steps outcome → take (outcome .sent) (outcome .output) ≡ sentBy steps
+bytes-sent {lent} {steps} did = (λ i. take (did .sent i) (did .output i)) ∙ placed-before (sentBy steps) lent
+
+pub past-bytes-sent : {taken : ℕ} {t : Terminal} {lent : List ℕ} {steps : List Stepped} {outcome : Outcome} → Did taken t lent steps outcome → drop (outcome .sent) (outcome .output) ≡ drop (outcome .sent) lent
+past-bytes-sent {lent} {steps} did = (λ i. drop (did .sent i) (did .output i)) ∙ placed-past (sentBy steps) lent ∙ (λ i. drop (sym (did .sent) i) lent)
