@@ -14,7 +14,7 @@ for edit in crates/*/must-fail/*.edit; do
     log=target/must-fail/${crate%%/*}/$(basename "$edit" .edit)/.log
     if [ ! -f "$log" ]; then
         complain "$edit" "it was not tried"
-    elif grep -qE 'can be named from here|is not in scope|has no field' "$log"; then
+    elif grep -v 'so what is shown does not paste back' "$log" | grep -qE 'can be named from here|is not in scope|has no field'; then
         complain "$edit" "refused for its form: $(grep -m 1 -oE 'has no .*can be named from here|[^ ]* is not in scope|has no field [^ ]*' "$log")"
     elif grep -qE '/(src|specs)/[^ ]*: error' "$log"; then
         complain "$edit" "refused for its form: $(grep -m 1 -oE '(src|specs)/[^ ]*: error.{0,80}' "$log")"

@@ -24,7 +24,7 @@ use Rattle.blocks.proofs.Listing.{Listed, listed, field-bounds, field-f
 use Rattle.blocks.proofs.Pages.{ListedOn, decode-block, all-sent}
 
 -- A row and a column tell the cell.
-cell-told : (columns j k : ℕ) → j / columns + 1 ≡ k / columns + 1 → j % columns + 1 ≡ k % columns + 1 → j ≡ k
+pub cell-told : (columns j k : ℕ) → j / columns + 1 ≡ k / columns + 1 → j % columns + 1 ≡ k % columns + 1 → j ≡ k
 cell-told columns j k row column =
     let above : j / columns ≡ k / columns = omega arith in
     let left : j % columns ≡ k % columns = omega arith in
@@ -79,7 +79,7 @@ module _ (p q : Page) (same : SameForm p q) where
       less-or-not k (length (q .marks)) (same .unprotected-cells k)
       (λ h. ap (λ (mark : ℕ). not (isProtected mark)) (List·getD-eq-default (p .marks) 0 (omega (arith, same .size .marks)) ∙ sym (List·getD-eq-default (q .marks) 0 h)))
 
-  same-fields : (columns : ℕ) → fieldsOn columns p ≡ fieldsOn columns q
+  pub same-fields : (columns : ℕ) → fieldsOn columns p ≡ fieldsOn columns q
   same-fields columns = λ i. fieldsOf (λ k. same-unprotected k i) columns (sym (same .size .marks) i)
 
   -- Where each field that is not sent has kept its characters.
@@ -102,7 +102,7 @@ module _ (p q : Page) (same : SameForm p q) where
         rw (decode-block columns q sendable-q full, decode-block columns p sendable-p true, all-laid)
 
 -- A field with no modified cell.
-unmodified : (marks : List ℕ) (n cell k : ℕ) → someModified marks n cell ≡ false → cell ≤ k → k < cell + n → isModified (getD marks k 0) ≡ false
+pub unmodified : (marks : List ℕ) (n cell k : ℕ) → someModified marks n cell ≡ false → cell ≤ k → k < cell + n → isModified (getD marks k 0) ≡ false
 unfolding someModified
 unmodified marks zero cell k h l m = absurd (omega arith)
 unmodified marks (suc n) cell k h l m =

@@ -53,7 +53,7 @@ module _ (columns : ℕ) (page : Page) where
   all-sent = ap (map (entryOf columns (page .characters))) (selected-all (isSent true (page .marks)) (fieldsOn columns page) (λ field m. first-holds true _ refl))
 
   -- A changed block of a page with no modified cell that is unprotected.
-  none-modified : (n cell : ℕ) → ((k : ℕ) → cell ≤ k → k < cell + n → isModified (getD (page .marks) k 0) ≡ false) → someModified (page .marks) n cell ≡ false
+  pub none-modified : (n cell : ℕ) → ((k : ℕ) → cell ≤ k → k < cell + n → isModified (getD (page .marks) k 0) ≡ false) → someModified (page .marks) n cell ≡ false
   unfolding someModified
   none-modified zero cell h = refl
   none-modified (suc n) cell h = second-decides _ _ (h cell (omega arith) (omega arith)) ∙ none-modified n (cell + 1) (λ k l m. h k (omega arith) (omega arith))

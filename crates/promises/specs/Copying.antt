@@ -11,7 +11,7 @@ use Rattle.blocks.specs.Decode.{decode}
 use Rattle.blocks.specs.Lay.{lay}
 use Rattle.steps.specs.Steps.{Terminal, Message, silent, report, fullBlock, changedBlock, Stepped}
 use Rattle.steps.specs.Keys.{fieldsHere}
-use Rattle.promises.specs.Streams.{Machine, Input, byte, press, stepOf}
+use Rattle.promises.specs.Streams.{Machine, Input, byte, press}
 
 -- Host bytes follow, as long as each one's step names no cell; keys as they come.
 unfoldable pub StoresNothing : Machine → Terminal → List Input → Type 0

@@ -1,3 +1,4 @@
 pub mod Streams
 pub mod Copying
 pub mod Promises
+pub mod Laws

@@ -1,17 +1,42 @@
--- The three demands, each a predicate over a terminal's functions.
+-- The three demands, in the order of document 01's table and of the demands: each is a predicate over a terminal's functions.
+-- `ours` (Streams) is the terminal that the entries' contracts speak of; the theorems are in proofs/Theorems.antt.
 use mathlib.Core.Path.{_≡_}
-use mathlib.Core.Bool.{true, false}
-use mathlib.Core.List.{List, [], _∷_, _++_, map, List·Memᴰ}
-use Prim.Native.Nat.{ℕ, _<_}
-use lib.ListN.{length, take, drop, getD}
+use mathlib.Core.Bool.{Bool, true, false}
+use mathlib.Core.List.{List, [], _∷_, map, List·Memᴰ}
+use mathlib.Core.Logic.{_↔_}
+use Prim.Native.Nat.{ℕ, _<_, _≤_}
+use lib.ListN.{length, drop, getD}
+use Rattle.sequence.specs.Record.{nothingRead}
 use Rattle.page.specs.Marks.{isProtected, unprotected}
 use Rattle.page.specs.Page.{Page}
-use Rattle.sequence.specs.Record.{nothingRead}
-use Rattle.steps.specs.Steps.{Terminal, fullBlock, Stepped, bytesOf, Valid}
-use Rattle.terminal.specs.Runs.{after, sentBy, storedBy}
-use Rattle.terminal.specs.Answers.{Outcome}
-use Rattle.promises.specs.Streams.{Machine, Input, byte, stepOf, steps, Call, read, outcomes, Total, bytesSent, total, inputsDone, AllDone, Read, reads, joinedBytes}
-use Rattle.promises.specs.Copying.{StoresNothing, CopyHolds, OmissionHolds}
+use Rattle.state.specs.declared.Size.{Size}
+use Rattle.steps.specs.Steps.{Terminal, fullBlock, blockMessage, Stepped, Valid}
+use Rattle.keys.proofs.Claims.{ProtectedKept}
+use Rattle.terminal.specs.Runs.{stepsOf, after, sentBy, storedBy}
+use Rattle.terminal.specs.Calls.{unstarted}
+use Rattle.terminal.specs.Table.{Line3, Decides, startTable, hostTable, keyTable}
+use Rattle.terminal.specs.Claims.{Leaves, Did}
+use Rattle.promises.specs.Streams.{Machine, Input, byte, stepOf, steps, Call, outcomes, bytesSent, total, inputsDone, AllDone, Read, reads, joinedBytes}
+use Rattle.promises.specs.Copying.{StoresNothing, copyOf, CopyHolds, OmissionHolds}
+
+-- Demand 1, the numbers: each call is given n exactly when n's line holds and none before it does.
+pub record Numbers (m : Machine) : Type 1 where
+  pub of-start : (size : Size) (page : Page) (n : ℕ) → (m .start size page .number ≡ n) ↔ Decides (startTable size page) n
+  pub of-host : (t : Terminal) (bytes output : List ℕ) (n : ℕ) → (m .host t bytes output .number ≡ n) ↔ Decides (hostTable t bytes (length output)) n
+  pub of-key : (t : Terminal) (key : ℕ) (output : List ℕ) (n : ℕ) → (m .key t key output .number ≡ n) ↔ Decides (keyTable t key (length output)) n
+
+-- Demand 1, what a refusal leaves: nothing changed, counts 0; a refused start hands back all zeros;
+-- a host call given 3 did the commands before the one whose bytes exceed the room left, and nothing else.
+pub record Refusals (m : Machine) : Type 0 where
+  pub of-start : (size : Size) (page : Page) → (m .start size page .number ≡ 0 → ⊥) → Leaves (unstarted page) [] (m .start size page)
+  pub of-host : (t : Terminal) (bytes output : List ℕ) → (m .host t bytes output .number ≡ 0 → ⊥) → (m .host t bytes output .number ≡ 3 → ⊥) → Leaves t output (m .host t bytes output)
+  pub of-host-3 : (t : Terminal) (bytes output : List ℕ) → m .host t bytes output .number ≡ 3 → (line : Line3 (length output) (stepsOf t bytes)) × Did (length (line .before)) t output (line .before) (m .host t bytes output)
+  pub of-key : (t : Terminal) (key : ℕ) (output : List ℕ) → (m .key t key output .number ≡ 0 → ⊥) → Leaves t output (m .key t key output)
+
+-- A start given 0 leaves a valid terminal, and so does any list of calls on a valid one: it never meets 1 or 2 again.
+pub record StaysValid (m : Machine) : Type 0 where
+  pub from-start : (size : Size) (page : Page) → m .start size page .number ≡ 0 → Valid (m .start size page .terminal)
+  pub through-calls : (t : Terminal) → Valid t → (calls : List Call) → Valid (total t (outcomes m t calls) .terminal)
 
 -- Demand 2, cutting: two ways to cut a stream into reads, none of them refused, leave, send and store the same.
 abbrev pub Cutting : Machine → Type 0
@@ -47,6 +72,7 @@ pub record FedBack (m : Machine) (sender receiver : Terminal) (block : List ℕ)
   pub nothing-refused : (step : Stepped) → List·Memᴰ step (steps m receiver (map byte block)) → step .wasRefused ≡ false
   pub characters : (cell : ℕ) → cell < length (sender .page .marks) → unprotected (sender .page .marks) cell ≡ true → getD (total receiver (outcomes m receiver (reads cut)) .terminal .page .characters) cell 0 ≡ getD (sender .page .characters) cell 0
   pub protected-character : (cell : ℕ) → unprotected (sender .page .marks) cell ≡ false → getD (total receiver (outcomes m receiver (reads cut)) .terminal .page .characters) cell 0 ≡ getD (receiver .page .characters) cell 0
+  pub protection : (cell : ℕ) → cell < length (sender .page .marks) → unprotected (total receiver (outcomes m receiver (reads cut)) .terminal .page .marks) cell ≡ unprotected (sender .page .marks) cell
   pub protected-mark : (cell : ℕ) → unprotected (sender .page .marks) cell ≡ false → getD (total receiver (outcomes m receiver (reads cut)) .terminal .page .marks) cell 0 ≡ getD (receiver .page .marks) cell 0
 
 abbrev pub FeedingBack : Machine → Type 0
@@ -54,11 +80,22 @@ FeedingBack m =
     (sender receiver : Terminal) (block : List ℕ) (cut : List Read) → WroteFullBlock m sender block → Receives sender receiver → joinedBytes cut ≡ block →
     FedBack m sender receiver block cut
 
+-- Demand 2: no key ever changes a protected cell, nor which cells are protected; whatever the state, the slices and the room.
+pub record KeysKeep (m : Machine) : Type 0 where
+  pub protected-cells : (t : Terminal) (key : ℕ) (output : List ℕ) (cell : ℕ) → unprotected (t .page .marks) cell ≡ false → ProtectedKept (t .page) (m .key t key output .terminal .page) cell
+  pub protection : (t : Terminal) (key : ℕ) (output : List ℕ) (cell : ℕ) → unprotected (m .key t key output .terminal .page .marks) cell ≡ unprotected (t .page .marks) cell
+
+-- A block leaves the marks of protected cells as they are, modified too.
+abbrev pub BlocksKeep : Machine → Type 0
+BlocksKeep m =
+    (t : Terminal) → Valid t → (input : Input) (full : Bool) (bytes : List ℕ) → stepOf m input t .message ≡ blockMessage full bytes →
+    (cell : ℕ) → unprotected (t .page .marks) cell ≡ false → getD (stepOf m input t .terminal .page .marks) cell 0 ≡ getD (t .page .marks) cell 0
+
 -- Demand 3, the copy: after a full block, wherever it was sent, keys and host bytes that store nothing follow.
 abbrev pub Copying : Machine → Type 0
 Copying m =
     (t : Terminal) → Valid t → (first : Input) (block : List ℕ) → stepOf m first t .message ≡ fullBlock block →
-    (inputs : List Input) → StoresNothing m (stepOf m first t .terminal) inputs → CopyHolds block (steps m (stepOf m first t .terminal) inputs)
+    (block ≡ copyOf (stepOf m first t .terminal)) × ((inputs : List Input) → StoresNothing m (stepOf m first t .terminal) inputs → CopyHolds block (steps m (stepOf m first t .terminal) inputs))
 
 -- Demand 3, omission, over the same inputs.
 abbrev pub Omission : Machine → Type 0
@@ -71,3 +108,7 @@ abbrev pub CallsAreSteps : Machine → Type 0
 CallsAreSteps m =
     (t : Terminal) → Valid t → (calls : List Call) →
     total t (outcomes m t calls) ≡ record { terminal = after t (steps m t (inputsDone m t calls)); sent = sentBy (steps m t (inputsDone m t calls)); stored = length (storedBy (steps m t (inputsDone m t calls))) }
+
+-- No block that is sent exceeds 35,185 bytes.
+abbrev pub Bounded : Machine → Type 0
+Bounded m = (t : Terminal) → Valid t → (input : Input) (full : Bool) (bytes : List ℕ) → stepOf m input t .message ≡ blockMessage full bytes → length bytes ≤ 35185

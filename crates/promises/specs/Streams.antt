@@ -4,23 +4,26 @@ use mathlib.Core.List.{List, [], _∷_, _++_, map}
 use Prim.Native.Nat.{ℕ, _+_}
 use lib.Dec.{eqb}
 use lib.ListN.{take}
-use Rattle.words.specs.Choice.{if_then_else_, _or_}
+use Rattle.words.specs.Choice.{if_then_else_}
+use Rattle.page.specs.Page.{Page}
+use Rattle.state.specs.declared.Size.{Size}
 use Rattle.steps.specs.Steps.{Terminal, Stepped}
 use Rattle.steps.specs.Host.{hostStep}
 use Rattle.steps.specs.Keys.{keyStep}
 use Rattle.terminal.specs.Answers.{Outcome}
-use Rattle.terminal.specs.Calls.{hostCall, keyCall}
+use Rattle.terminal.specs.Calls.{startCall, hostCall, keyCall}
 
--- The step of a host byte and of a key; the calls of host bytes and of a key, with the output lent.
+-- The step of a host byte and of a key; the calls: start, host bytes and a key, the last two with the output lent.
 pub record Machine : Type 0 where
   pub onByte : ℕ → Terminal → Stepped
   pub onKey : ℕ → Terminal → Stepped
+  pub start : Size → Page → Outcome
   pub host : Terminal → List ℕ → List ℕ → Outcome
   pub key : Terminal → ℕ → List ℕ → Outcome
 
 -- The terminal of document 01: the definitions that the entries' contracts cite.
 abbrev pub ours : Machine
-ours = record { onByte = hostStep; onKey = keyStep; host = hostCall; key = keyCall }
+ours = record { onByte = hostStep; onKey = keyStep; start = startCall; host = hostCall; key = keyCall }
 
 -- Host bytes and keys, in any order, and their steps, each from the terminal that the one before left.
 pub data Input : Type 0 where

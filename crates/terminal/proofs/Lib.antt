@@ -5,3 +5,4 @@ pub mod Exceeding
 pub mod Lines
 pub mod Cases
 pub mod Theorems
+pub mod Examples

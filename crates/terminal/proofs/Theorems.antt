@@ -33,6 +33,7 @@ use Rattle.terminal.specs.Runs.{stepsOf, fitting, after, sentBy, storedB
 use Rattle.terminal.specs.Answers.{numberOf, Outcome, given, unchanged, did, gives}
 use Rattle.terminal.specs.Lines.{isValid, firstOf, startLines, hostLines, keyLines}
 use Rattle.terminal.specs.Calls.{unstarted, startStep, startCall, hostCall, keyCall}
+use Rattle.terminal.specs.Claims.{Leaves, Did}
 use Rattle.terminal.specs.Table.{Line3, Line6, Decides, startTable, hostTable, keyTable}
 use Rattle.terminal.proofs.Deciding.{fits-on, stops-there}
 use Rattle.terminal.proofs.Matching.{ends, next, first-decides-row, decides-one}
@@ -98,14 +99,6 @@ module _ (t : Terminal) (key : ℕ) (output : List ℕ) where
   pub key-exactly : (n : ℕ) → (keyCall t key output .number ≡ n) ↔ Decides (keyTable t key (length output)) n
   key-exactly n = (λ is. subst (Decides (keyTable t key (length output))) is key-decides, λ decides. decides-one key-decides decides)
 
--- What a refusal leaves: nothing changed, counts 0.
-pub record Leaves (t : Terminal) (lent : List ℕ) (outcome : Outcome) : Type 0 where
-  pub taken : outcome .taken ≡ 0
-  pub sent : outcome .sent ≡ 0
-  pub stored : outcome .stored ≡ 0
-  pub terminal : outcome .terminal ≡ t
-  pub output : outcome .output ≡ lent
-
 leaves : (answer : Answer) (t : Terminal) (lent : List ℕ) {outcome : Outcome} → outcome ≡ unchanged answer t lent → Leaves t lent outcome
 unfolding unchanged
 leaves answer t lent is =
@@ -116,14 +109,6 @@ leaves answer t lent is =
       terminal = ap (λ (o : Outcome). o .terminal) is;
       output = ap (λ (o : Outcome). o .output) is;
     }
-
--- What a call that did steps gives and leaves: their number, bytes, cells, and where they led.
-pub record Did (taken : ℕ) (t : Terminal) (lent : List ℕ) (steps : List Stepped) (outcome : Outcome) : Type 0 where
-  pub bytes-taken : outcome .taken ≡ taken
-  pub sent : outcome .sent ≡ length (sentBy steps)
-  pub stored : outcome .stored ≡ length (storedBy steps)
-  pub terminal : outcome .terminal ≡ after t steps
-  pub output : outcome .output ≡ placed 0 (sentBy steps) lent
 
 did-so : (answer : Answer) (taken : ℕ) (t : Terminal) (lent : List ℕ) (steps : List Stepped) {outcome : Outcome} → outcome ≡ did answer taken t lent steps → Did taken t lent steps outcome
 unfolding did

@@ -3,3 +3,4 @@ pub mod Answers
 pub mod Lines
 pub mod Calls
 pub mod Table
+pub mod Claims

@@ -7,7 +7,7 @@ use Prim.Native.Nat.{ℕ, zero, suc, _+_, _<_, _≤_}
 use native.Mathlib.Omega.{arith}
 use lib.ListN.{length}
 use Rattle.words.specs.Lists.{every, selected, placesFrom}
-use Rattle.words.proofs.Choosing.{both, both-hold, then-case, else-case, either-line, less-or-not}
+use Rattle.words.proofs.Choosing.{not-both, both, both-hold, then-case, else-case, either-line, less-or-not}
 
 module _ {A : Type 0} (test : A → Bool) where
   pub every-by-each : (list : List A) → ((x : A) → List·Memᴰ x list → test x ≡ true) → every test list ≡ true
@@ -33,6 +33,23 @@ module _ {A : Type 0} (test : A → Bool) where
       (λ _ found. ⊎-elim (λ e. List·Memᴰ·head e) (λ later. List·Memᴰ·tail (selected-from x list later)) (List·Memᴰ·cases-cons found))
       (λ _ later. List·Memᴰ·tail (selected-from x list later))
       m
+
+  pub selected-passes : (x : A) (list : List A) → List·Memᴰ x (selected test list) → test x ≡ true
+  unfolding selected
+  selected-passes x [] m = absurd (List·Memᴰ·not-nil m)
+  selected-passes x (y ∷ list) m =
+      either-line (λ (l : List A). List·Memᴰ x l → test x ≡ true) (test y) _ _
+      (λ passes found. ⊎-elim (λ same. ap test same ∙ passes) (λ later. selected-passes x list later) (List·Memᴰ·cases-cons found))
+      (λ _ later. selected-passes x list later)
+      m
+
+  pub selected-has : (x : A) (list : List A) → List·Memᴰ x list → test x ≡ true → List·Memᴰ x (selected test list)
+  unfolding selected
+  selected-has x [] m passes = m
+  selected-has x (y ∷ list) m passes =
+      either-line (λ (l : List A). List·Memᴰ x l) (test y) _ _
+      (λ _. ⊎-elim (λ same. List·Memᴰ·head same) (λ later. List·Memᴰ·tail (selected-has x list later passes)) (List·Memᴰ·cases-cons m))
+      (λ fails. ⊎-elim (λ same. absurd (not-both (ap test (sym same) ∙ passes) fails)) (λ later. selected-has x list later passes) (List·Memᴰ·cases-cons m))
 
 module _ {A B : Type 0} where
   pub every-map : (test : B → Bool) (f : A → B) (list : List A) → every (λ x. test (f x)) list ≡ true → every test (map f list) ≡ true

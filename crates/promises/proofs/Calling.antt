@@ -1,0 +1,123 @@
+-- Calls are steps, however a stream is cut: demand 2, cutting, by the laws alone.
+use mathlib.Core.Path.{_≡_, refl, sym, ap, _∙_, subst}
+use mathlib.Core.List.{List, [], _∷_, _++_, map, map-append, append-assoc, append-nil}
+use Prim.Native.Nat.{ℕ, _+_}
+use lib.ListN.{length, take, drop, length-append, take-append-drop}
+use lib.Seq.{take-length}
+use Rattle.steps.specs.Steps.{Terminal, Stepped, Valid}
+use Rattle.terminal.specs.Answers.{Outcome}
+use Rattle.terminal.specs.Runs.{after, sentBy, storedBy}
+use Rattle.promises.specs.Streams.{Machine, Input, byte, stepOf, steps, read, outcomeOf, outcomes, Total, bytesSent, total, inputsOf, inputsDone, AllDone, done, Read, reads, joinedBytes}
+use Rattle.promises.specs.Laws.{StepLaws, DidSteps, CallLaws}
+use Rattle.promises.specs.Promises.{CallsAreSteps, Cutting, Continuing}
+
+-- What steps leave, send and store together; the same for the steps of inputs; and a call in front of what comes after it.
+abbrev totalOf : Terminal → List Stepped → Total
+totalOf t run = record { terminal = after t run; sent = sentBy run; stored = length (storedBy run) }
+
+abbrev doneBy : Machine → Terminal → List Input → Total
+doneBy m t inputs = totalOf t (steps m t inputs)
+
+abbrev inFront : Outcome → Total → Total
+inFront outcome rest = record { terminal = rest .terminal; sent = bytesSent outcome ++ rest .sent; stored = outcome .stored + rest .stored }
+
+-- Steps, and then further steps.
+after-joined : (t : Terminal) (first second : List Stepped) → after t (first ++ second) ≡ after (after t first) second
+unfolding after
+after-joined t [] second = refl
+after-joined t (step ∷ later) second = after-joined (step .terminal) later second
+
+sent-joined : (first second : List Stepped) → sentBy (first ++ second) ≡ sentBy first ++ sentBy second
+unfolding sentBy
+sent-joined [] second = refl
+sent-joined (step ∷ later) second = rw (append-assoc, sent-joined later second)
+
+stored-joined : (first second : List Stepped) → storedBy (first ++ second) ≡ storedBy first ++ storedBy second
+unfolding storedBy
+stored-joined [] second = refl
+stored-joined (step ∷ later) second = rw (append-assoc, stored-joined later second)
+
+steps-joined : (m : Machine) (t : Terminal) (first second : List Input) → steps m t (first ++ second) ≡ steps m t first ++ steps m (after t (steps m t first)) second
+unfolding steps after
+steps-joined m t [] second = refl
+steps-joined m t (input ∷ later) second = rw (steps-joined m (stepOf m input t .terminal) later second)
+
+-- A call that did steps, in front of further steps.
+total-joined : (t : Terminal) (first second : List Stepped) (outcome : Outcome) → DidSteps t first outcome → inFront outcome (totalOf (after t first) second) ≡ totalOf t (first ++ second)
+total-joined t first second outcome did =
+    rw (after-joined t first second, sent-joined first second, stored-joined first second, length-append (storedBy first) (storedBy second), did .sent, did .stored)
+
+first-done : {outcome : Outcome} {later : List Outcome} → AllDone (outcome ∷ later) → outcome .number ≡ 0
+first-done (done outcome later number further) = number
+
+later-done : {outcome : Outcome} {later : List Outcome} → AllDone (outcome ∷ later) → AllDone later
+later-done (done outcome later number further) = further
+
+module _ (m : Machine) (step-laws : StepLaws m) (call-laws : CallLaws m) where
+  steps-keep-valid : (t : Terminal) → Valid t → (inputs : List Input) → Valid (after t (steps m t inputs))
+  unfolding steps after
+  steps-keep-valid t valid [] = valid
+  steps-keep-valid t valid (input ∷ later) = steps-keep-valid (stepOf m input t .terminal) (step-laws .every-step input t valid .valid) later
+
+  pub calls-are-steps-of : CallsAreSteps m
+  unfolding outcomes total inputsDone steps after sentBy storedBy
+  calls-are-steps-of t valid [] = refl
+  calls-are-steps-of t valid (call ∷ later) =
+      let outcome = outcomeOf m call t in
+      let now = steps m t (inputsOf call outcome) in
+      let did : DidSteps t now outcome = call-laws .does-steps call t valid in
+      let inputs = inputsDone m (outcome .terminal) later in
+      let next-valid : Valid (outcome .terminal) = subst Valid (sym (did .terminal)) (steps-keep-valid t valid (inputsOf call outcome)) in
+      ap (inFront outcome) (calls-are-steps-of (outcome .terminal) next-valid later)
+      ∙ ap (λ (u : Terminal). inFront outcome (doneBy m u inputs)) (did .terminal)
+      ∙ total-joined t now (steps m (after t now) inputs) outcome did
+      ∙ ap (totalOf t) (sym (steps-joined m t (inputsOf call outcome) inputs))
+
+  -- A read given 0 did the inputs of all its bytes.
+  all-taken : (t : Terminal) (bytes output : List ℕ) → m .host t bytes output .number ≡ 0 → map byte (take (m .host t bytes output .taken) bytes) ≡ map byte bytes
+  all-taken t bytes output number = rw (call-laws .done-takes-all t bytes output number, take-length)
+
+  -- So reads that are all given 0 did together the inputs of their bytes joined, and are the steps of these.
+  reads-done : (t : Terminal) (list : List Read) → AllDone (outcomes m t (reads list)) → inputsDone m t (reads list) ≡ map byte (joinedBytes list)
+  unfolding outcomes outcomeOf inputsDone inputsOf joinedBytes
+  reads-done t [] all-done = refl
+  reads-done t (r ∷ later) all-done =
+      rw (all-taken t (r .bytes) (r .output) (first-done all-done), reads-done (m .host t (r .bytes) (r .output) .terminal) later (later-done all-done), map-append byte (r .bytes) (joinedBytes later))
+
+  reads-are-steps : (t : Terminal) (list : List Read) → AllDone (outcomes m t (reads list)) → total t (outcomes m t (reads list)) ≡ doneBy m t (map byte (joinedBytes list))
+  unfolding outcomes outcomeOf total joinedBytes steps after sentBy storedBy
+  reads-are-steps t [] all-done = refl
+  reads-are-steps t (r ∷ later) all-done =
+      calls-are-steps-of t (call-laws .done-is-valid (read (r .bytes) (r .output)) t (first-done all-done)) (reads (r ∷ later))
+      ∙ ap (doneBy m t) (reads-done t (r ∷ later) all-done)
+
+  pub cutting-of : Cutting m
+  cutting-of t one other same one-done other-done =
+      reads-are-steps t one one-done
+      ∙ ap (λ (bytes : List ℕ). doneBy m t (map byte bytes)) same
+      ∙ sym (reads-are-steps t other other-done)
+
+  -- One read, given 0.
+  read-whole : (t : Terminal) (bytes output : List ℕ) → m .host t bytes output .number ≡ 0 → inputsDone m t (read bytes output ∷ []) ≡ map byte bytes
+  unfolding outcomeOf inputsDone inputsOf
+  read-whole t bytes output is-done = rw (all-taken t bytes output is-done, append-nil (map byte bytes))
+
+  -- A call that took some bytes, and one given 0 with those not taken, did the inputs of all bytes.
+  continued : (t : Terminal) (bytes short output : List ℕ) →
+      let first = m .host t bytes short in
+      let rest = drop (first .taken) bytes in
+      m .host (first .terminal) rest output .number ≡ 0 → inputsDone m t (read bytes short ∷ read rest output ∷ []) ≡ map byte bytes
+  unfolding outcomeOf inputsDone inputsOf
+  continued t bytes short output rest-done =
+      let first = m .host t bytes short in
+      let rest = drop (first .taken) bytes in
+      rw (all-taken (first .terminal) rest output rest-done, append-nil (map byte rest), ← map-append byte (take (first .taken) bytes) rest, take-append-drop (first .taken) bytes)
+
+  pub continuing-of : Continuing m
+  unfolding outcomes outcomeOf
+  continuing-of t bytes short output enough _ rest-done whole-done =
+      let rest = drop (m .host t bytes short .taken) bytes in
+      let valid = call-laws .done-is-valid (read bytes enough) t whole-done in
+      calls-are-steps-of t valid (read bytes short ∷ read rest output ∷ [])
+      ∙ ap (doneBy m t) (continued t bytes short output rest-done ∙ sym (read-whole t bytes enough whole-done))
+      ∙ sym (calls-are-steps-of t valid (read bytes enough ∷ []))

@@ -1,0 +1,103 @@
+-- Demand 3, the copy, by the laws alone.
+use mathlib.Core.Path.{_≡_, refl, sym, ap, _∙_}
+use mathlib.Core.Bool.{true}
+use mathlib.Core.List.{List, []}
+use Prim.Native.Nat.{ℕ}
+use native.Mathlib.Omega.{arith}
+use Rattle.words.proofs.Choosing.{not-both}
+use Rattle.page.specs.Marks.{isModified}
+use Rattle.page.specs.Page.{Page}
+use Rattle.blocks.specs.Blocks.{block}
+use Rattle.blocks.specs.Lay.{lay}
+use Rattle.blocks.proofs.Claims.{Sendable, SameForm, UnmodifiedKept}
+use Rattle.blocks.proofs.Theorems.{copy-changed, copy-replaced}
+use Rattle.steps.specs.Steps.{Terminal, Message, silent, report, fullBlock, changedBlock, Stepped, Valid}
+use Rattle.steps.specs.Claims.{markLeft}
+use Rattle.promises.specs.Streams.{Machine, Input, stepOf}
+use Rattle.promises.specs.Copying.{copyOf, laid, RightAfter, CopyHolds}
+use Rattle.promises.specs.Laws.{StepLaw, TagLaw, StepLaws}
+use Rattle.promises.specs.Promises.{Copying}
+use Rattle.promises.proofs.Keeping.{sendable, leaves, was-on-page, same-form, same-full-block}
+use Rattle.promises.proofs.Following.{Follow, no-more, one-more, follow}
+
+-- The copy is the full block of an earlier page of the same form; a cell that is not modified still has that page's character.
+record IsCopy (copy : List ℕ) (t : Terminal) : Type 0 where
+  page : Page
+  is : copy ≡ block true (t .state .size .columns) page
+  was-sendable : Sendable (t .state .size .columns) page
+  form : SameForm page (t .page)
+  kept : UnmodifiedKept page (t .page)
+
+-- A page's own full block is its copy.
+own-copy : {copy : List ℕ} (t : Terminal) → Valid t → copy ≡ copyOf t → IsCopy copy t
+own-copy t valid is = record {
+  page = t .page;
+  is = is;
+  was-sendable = sendable valid;
+  form = record { size = record { characters = refl; marks = refl }; unprotected-cells = λ cell here. refl };
+  kept = λ cell here free unmodified. refl;
+}
+
+-- Of one form with a page that is of one form with a third.
+form-then : {p q r : Page} → SameForm p q → SameForm q r → SameForm p r
+form-then one other = record {
+  size = record { characters = other .size .characters ∙ one .size .characters; marks = other .size .marks ∙ one .size .marks };
+  unprotected-cells = λ cell here. one .unprotected-cells cell (omega (arith, other .size .marks)) ∙ other .unprotected-cells cell here;
+}
+
+module _ (copy : List ℕ) (t : Terminal) (valid : Valid t) (step : Stepped) (law : StepLaw t step) (tag : TagLaw t step) (copied : IsCopy copy t) where
+  -- A step that sends no block leaves the copy as good as it was: what it names is modified, and the rest stays.
+  stays-copy : ((mark : ℕ) → markLeft (step .message) mark ≡ mark) → IsCopy copy (step .terminal)
+  stays-copy keeps = record {
+    page = copied .page;
+    is = rw (law .size) (copied .is);
+    was-sendable = rw (law .size) (copied .was-sendable);
+    form = form-then (copied .form) (same-form t valid step law (tag .protection));
+    kept = λ cell here free unmodified.
+        let on-page = was-on-page t valid step law cell here in
+        let stays = law .touches cell on-page (λ named. not-both (tag .tags cell named) unmodified) in
+        copied .kept cell on-page (sym (tag .protection cell on-page) ∙ free) (sym (ap isModified (stays .mark ∙ keeps _)) ∙ unmodified)
+        ∙ sym (stays .character);
+  }
+
+  -- A block makes it the full block of the page as it stands.
+  renews-copy : (bytes : List ℕ) → step .cells ≡ [] → lay bytes copy ≡ block true (t .state .size .columns) (t .page) → (lay bytes copy ≡ copyOf (step .terminal)) × IsCopy (lay bytes copy) (step .terminal)
+  renews-copy bytes no-cell laid-right =
+      let right = laid-right ∙ same-full-block t valid step law no-cell in
+      (right, own-copy (step .terminal) (law .valid) right)
+
+  copied-on : (message : Message) → step .message ≡ message → RightAfter message (laid message copy) (step .terminal) × IsCopy (laid message copy) (step .terminal)
+  unfolding RightAfter laid markLeft
+  copied-on silent is = (tt, stays-copy (leaves step is))
+  copied-on (report bytes) is = (tt, stays-copy (leaves step is))
+  copied-on (fullBlock bytes) is =
+      let sent = law .full-block bytes is in
+      renews-copy bytes (sent .no-cell)
+      (rw (sent .of-page, copied .is) (copy-replaced _ (copied .page) (t .page) (copied .was-sendable) (sendable valid) (copied .form)))
+  copied-on (changedBlock bytes) is =
+      let sent = law .changed-block bytes is in
+      renews-copy bytes (sent .no-cell)
+      (rw (sent .of-page, copied .is) (copy-changed _ (copied .page) (t .page) (copied .was-sendable) (sendable valid) (copied .form) (copied .kept)))
+
+copy-holds : {t : Terminal} {run : List Stepped} → Follow t run → (copy : List ℕ) → IsCopy copy t → CopyHolds copy run
+unfolding CopyHolds
+copy-holds no-more copy copied = tt
+copy-holds (one-more {t} {step} valid law tag further) copy copied =
+    let now = copied-on copy t valid step law tag copied (step .message) refl in
+    (now .0, copy-holds further (laid (step .message) copy) (now .1))
+
+module _ (m : Machine) (laws : StepLaws m) (t : Terminal) (valid : Valid t) (first : Input) (block : List ℕ) (sends : stepOf m first t .message ≡ fullBlock block) where
+  -- Right after the first full block, too, the copy is the full block of the page as it stands.
+  pub first-copy : block ≡ copyOf (stepOf m first t .terminal)
+  first-copy =
+      let law = laws .every-step first t valid in
+      let sent = law .full-block block sends in
+      sent .of-page ∙ same-full-block t valid (stepOf m first t) law (sent .no-cell)
+
+pub copying-of : (m : Machine) → StepLaws m → Copying m
+copying-of m laws t valid first block sends =
+    let now-valid = laws .every-step first t valid .valid in
+    let at-first = first-copy m laws t valid first block sends in (
+      at-first,
+      λ inputs nothing. copy-holds (follow m laws (stepOf m first t .terminal) now-valid inputs nothing) block (own-copy (stepOf m first t .terminal) now-valid at-first),
+    )

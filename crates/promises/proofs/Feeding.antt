@@ -1,0 +1,97 @@
+-- Demand 2, feeding back: a full block, read by a receiver of equal size, fills its fields with the sender's characters and changes no protected cell.
+use mathlib.Core.Path.{_≡_, sym, ap, _∙_, subst}
+use mathlib.Core.Bool.{true, false, not}
+use mathlib.Core.List.{List}
+use Prim.Native.Nat.{ℕ, _<_, _≤_}
+use native.Mathlib.Omega.{arith}
+use lib.ListN.{length, getD}
+use Rattle.words.proofs.Choosing.{not-both, either-way}
+use Rattle.page.specs.Marks.{isProtected, unprotected}
+use Rattle.page.specs.Page.{Page}
+use Rattle.fields.proofs.Theorems.{all-fields-listed}
+use Rattle.blocks.specs.Blocks.{block, encode}
+use Rattle.blocks.proofs.Claims.{fieldsOn}
+use Rattle.blocks.proofs.Pages.{all-sent}
+use Rattle.blocks.proofs.Theorems.{longest-block}
+use Rattle.steps.specs.Steps.{Terminal, Valid}
+use Rattle.steps.proofs.Measuring.{measured}
+use Rattle.promises.specs.Streams.{ours, outcomes, total, Read, reads, joinedBytes}
+use Rattle.promises.specs.Promises.{WroteFullBlock, Receives, FedBack, FeedingBack}
+use Rattle.promises.proofs.FeedingRuns.{Leads, none-refused}
+use Rattle.promises.proofs.FeedingReads.{ReadThrough, read-through}
+use Rattle.promises.proofs.FeedingSender.{full-block-sent}
+use Rattle.promises.proofs.FeedingCells.{Filled, Kept}
+use Rattle.promises.proofs.FeedingFields.{fields-feed}
+
+-- The block leads the receiver quietly to a terminal whose unprotected cells are filled and whose protected ones are kept.
+record Fed (sender receiver : Terminal) (bytes : List ℕ) : Type 0 where
+  end : Terminal
+  leads : Leads receiver bytes end
+  filled : (cell : ℕ) → cell < length (sender .page .marks) → unprotected (sender .page .marks) cell ≡ true → Filled (sender .page) (end .page) cell
+  kept : (cell : ℕ) → unprotected (sender .page .marks) cell ≡ false → Kept (receiver .page) (end .page) cell
+
+module _ (sender : Terminal) (valid : Valid sender) where
+  fed : (receiver : Terminal) → Receives sender receiver → Fed sender receiver (block true (sender .state .size .columns) (sender .page))
+  unfolding block
+  fed receiver receives =
+      let columns = sender .state .size .columns in
+      let lists = all-fields-listed (unprotected (sender .page .marks)) columns (length (sender .page .marks)) (measured valid .some-columns) in
+      let feeds =
+      fields-feed sender valid (fieldsOn columns (sender .page)) (lists .only-fields) receiver
+      (record { valid = receives .valid; size = receives .size; nothing-half-read = receives .nothing-half-read; unprotected-pen = receives .unprotected-pen }) in
+      record {
+        end = feeds .0;
+        leads = subst (λ (bytes : List ℕ). Leads receiver bytes (feeds .0)) (sym (ap encode (all-sent columns (sender .page)))) (feeds .1 .leads);
+        filled = λ cell here free. feeds .1 .fills cell (lists .every-cell cell here free);
+        kept = λ cell protected. feeds .1 .keeps cell (λ some. not-both (lists .only-fields (some .0) (some .1) .all-free cell (some .2)) protected);
+      }
+
+  -- It is no longer than a read may be, whole or cut.
+  short : length (block true (sender .state .size .columns) (sender .page)) ≤ 65536
+  short =
+      let known = measured valid in
+      let most = longest-block true (sender .state .size .rows) (sender .state .size .columns) (sender .page) (known .on-page .rows-most) (known .on-page .columns-most) (known .all-cells) (sym (known .as-many)) in
+      omega arith
+
+module _ (sender receiver : Terminal) (bytes : List ℕ) (cut : List Read) (wrote : WroteFullBlock ours sender bytes) (receives : Receives sender receiver) (joined : joinedBytes cut ≡ bytes) where
+  reached : Fed sender receiver bytes
+  reached = let sent = full-block-sent wrote in subst (Fed sender receiver) (sym (sent .is-block)) (fed sender (sent .valid) receiver receives)
+
+  through : ReadThrough receiver cut (reached .end)
+  through =
+      let sent = full-block-sent wrote in
+      let few : length (joinedBytes cut) ≤ 65536 = omega (arith, ap length (joined ∙ sent .is-block), short sender (sent .valid)) in
+      read-through cut (subst (λ (b : List ℕ). Leads receiver b (reached .end)) (sym joined) (reached .leads)) (receives .valid) few
+
+  -- What the reads leave of a cell.
+  abbrev left : Page
+  left = total receiver (outcomes ours receiver (reads cut)) .terminal .page
+
+  left-character : (cell : ℕ) → getD (left .characters) cell 0 ≡ getD (reached .end .page .characters) cell 0
+  left-character cell = ap (λ (t : Terminal). getD (t .page .characters) cell 0) (through .terminal)
+
+  left-mark : (cell : ℕ) → getD (left .marks) cell 0 ≡ getD (reached .end .page .marks) cell 0
+  left-mark cell = ap (λ (t : Terminal). getD (t .page .marks) cell 0) (through .terminal)
+
+  -- Since the pen is unprotected, and the two were protected at the same places, they are so still.
+  feeding-keeps-protection : (cell : ℕ) → cell < length (sender .page .marks) → unprotected (left .marks) cell ≡ unprotected (sender .page .marks) cell
+  unfolding unprotected
+  feeding-keeps-protection cell here =
+      ap (λ (mark : ℕ). not (isProtected mark)) (left-mark cell)
+      ∙ either-way (unprotected (sender .page .marks) cell)
+      (λ free. reached .filled cell here free .free ∙ sym free)
+      (λ protected. ap (λ (mark : ℕ). not (isProtected mark)) (reached .kept cell protected .mark) ∙ receives .protection cell)
+
+  is-fed-back : FedBack ours sender receiver bytes cut
+  is-fed-back = record {
+    answered = through .answered;
+    nothing-sent = through .nothing-sent;
+    nothing-refused = none-refused (reached .leads);
+    characters = λ cell here free. left-character cell ∙ reached .filled cell here free .character;
+    protected-character = λ cell protected. left-character cell ∙ reached .kept cell protected .character;
+    protection = feeding-keeps-protection;
+    protected-mark = λ cell protected. left-mark cell ∙ reached .kept cell protected .mark;
+  }
+
+pub feeding-back : FeedingBack ours
+feeding-back = is-fed-back

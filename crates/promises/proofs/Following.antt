@@ -1,0 +1,23 @@
+-- What follows the first full block, for demand 3: keys, and host bytes that store nothing.
+use mathlib.Core.List.{List, [], _∷_}
+use Rattle.steps.specs.Steps.{Terminal, Stepped, Valid}
+use Rattle.promises.specs.Streams.{Machine, Input, byte, press, stepOf, steps}
+use Rattle.promises.specs.Copying.{StoresNothing}
+use Rattle.promises.specs.Laws.{StepLaw, TagLaw, StepLaws}
+use Rattle.promises.proofs.Keeping.{names-none}
+
+-- Steps from valid terminals, one after another, that keep protection and leave each cell that they name modified.
+pub data Follow : Terminal → List Stepped → Type 0 where
+  no-more : {t : Terminal} → Follow t []
+  one-more : {t : Terminal} {step : Stepped} {later : List Stepped} → Valid t → StepLaw t step → TagLaw t step → Follow (step .terminal) later → Follow t (step ∷ later)
+
+-- So do keys, and host bytes that name no cell.
+pub follow : (m : Machine) → StepLaws m → (t : Terminal) → Valid t → (inputs : List Input) → StoresNothing m t inputs → Follow t (steps m t inputs)
+unfolding StoresNothing steps stepOf
+follow m laws t valid [] nothing = no-more
+follow m laws t valid (byte b ∷ later) nothing =
+    let law : StepLaw t (m .onByte b t) = laws .every-step (byte b) t valid in
+    one-more valid law (names-none t valid (m .onByte b t) law (nothing .0)) (follow m laws (m .onByte b t .terminal) (law .valid) later (nothing .1))
+follow m laws t valid (press key ∷ later) nothing =
+    let law : StepLaw t (m .onKey key t) = laws .every-step (press key) t valid in
+    one-more valid law (laws .every-key key t valid) (follow m laws (m .onKey key t .terminal) (law .valid) later nothing)

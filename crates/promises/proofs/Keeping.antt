@@ -1,0 +1,93 @@
+-- What follows from the laws for one step: what it keeps of the page's form, and what a block leaves.
+use mathlib.Core.Path.{_≡_, sym, ap, _∙_, subst}
+use mathlib.Core.Bool.{true, false}
+use mathlib.Core.List.{List, [], map, List·Memᴰ, List·Memᴰ·not-nil}
+use Prim.Native.Nat.{ℕ, _*_, _/_, _%_, _+_, _<_, _≤_}
+use native.Mathlib.Nat.{mul-le-mul-right}
+use native.Mathlib.Omega.{arith}
+use borrow.Author.Tests.{ne-eqb, not-true}
+use lib.ListN.{length, getD}
+use Rattle.words.proofs.Choosing.{both, else-case}
+use Rattle.page.specs.Marks.{isProtected, isModified, unprotected}
+use Rattle.page.specs.Page.{Page, validPage, sentMark}
+use Rattle.page.proofs.Keeping.{SameSize}
+use Rattle.blocks.specs.Blocks.{encode, entryOf, block}
+use Rattle.blocks.proofs.Claims.{Sendable, SameForm, NothingModified}
+use Rattle.blocks.proofs.Pages.{all-sent}
+use Rattle.blocks.proofs.Laying.{same-fields}
+use Rattle.state.proofs.Keeping.{size-bounds}
+use Rattle.steps.specs.Steps.{Terminal, Message, Stepped, Valid}
+use Rattle.steps.specs.Claims.{markLeft, TouchesOnly, KeepsProtection}
+use Rattle.steps.proofs.Naming.{all-stay-protected, same-characters}
+use Rattle.steps.proofs.Soundness.{Sized, sized}
+use Rattle.promises.specs.Copying.{copyOf}
+use Rattle.promises.specs.Laws.{StepLaw, TagLaw}
+
+-- A valid terminal's page can be sent.
+pub sendable : {t : Terminal} → Valid t → Sendable (t .state .size .columns) (t .page)
+unfolding validPage
+sendable {t} valid =
+    let size = sized (t .state .size) (t .page) (valid .size) in
+    let bounds = size-bounds (t .state .size) (size .listed) in
+    let most : t .state .size .rows * t .state .size .columns ≤ 48 * t .state .size .columns = mul-le-mul-right (t .state .size .columns) (bounds .rows-most) in
+    record {
+      some-columns = bounds .some-columns;
+      columns-fit = bounds .columns-most;
+      rows-fit = omega (arith, size .marks);
+      characters-valid = both (valid .page) .0;
+    }
+
+-- Two pages of one form with the same characters have the same full block.
+same-copy : (columns : ℕ) (p q : Page) → SameForm p q → q .characters ≡ p .characters → block true columns p ≡ block true columns q
+unfolding block
+same-copy columns p q form characters =
+    ap encode (all-sent columns p ∙ (λ i. map (entryOf columns (sym characters i)) (same-fields p q form columns i)) ∙ sym (all-sent columns q))
+
+-- What a step leaves of marks goes by its message.
+pub leaves : (step : Stepped) {message : Message} → step .message ≡ message → (mark : ℕ) → markLeft (step .message) mark ≡ markLeft message mark
+leaves step is mark = ap (λ (message : Message). markLeft message mark) is
+
+-- Sending clears modified on an unprotected cell.
+sent-unmodified : (mark : ℕ) → isProtected mark ≡ false → isModified (sentMark mark) ≡ false
+unfolding sentMark
+sent-unmodified mark free = ap isModified (else-case _ _ _ free) ∙ ne-eqb ((mark / 4 * 4 + mark % 2) / 2 % 2) 1 (λ bit. omega arith)
+
+module _ (t : Terminal) (valid : Valid t) (step : Stepped) (law : StepLaw t step) where
+  was : Sized (t .state .size) (t .page)
+  was = sized (t .state .size) (t .page) (valid .size)
+
+  -- No step takes a cell away or adds one.
+  same-size : SameSize (t .page) (step .terminal .page)
+  same-size =
+      let is = sized (t .state .size) (step .terminal .page) (rw (law .size) at (law .valid .size)) in
+      record { characters = is .characters ∙ sym (was .characters); marks = is .marks ∙ sym (was .marks) }
+
+  pub was-on-page : (cell : ℕ) → cell < length (step .terminal .page .marks) → cell < length (t .page .marks)
+  was-on-page cell here = omega (arith, same-size .marks)
+
+  pub same-form : KeepsProtection (t .page) (step .terminal .page) → SameForm (t .page) (step .terminal .page)
+  same-form protection = record { size = same-size; unprotected-cells = λ cell here. sym (protection cell (was-on-page cell here)) }
+
+  -- A step that names no cell.
+  module _ (no-cell : step .cells ≡ []) where
+    all-stay : TouchesOnly [] (step .message) (t .page) (step .terminal .page)
+    all-stay = rw no-cell at (law .touches)
+
+    pub names-none : TagLaw t step
+    names-none = record {
+      protection = all-stay-protected (step .message) (t .page) (step .terminal .page) all-stay;
+      tags = λ cell named. absurd (List·Memᴰ·not-nil (subst (λ (cells : List ℕ). List·Memᴰ cell cells) no-cell named));
+    }
+
+    pub same-full-block : block true (t .state .size .columns) (t .page) ≡ copyOf (step .terminal)
+    same-full-block =
+        rw (law .size) (same-copy (t .state .size .columns) (t .page) (step .terminal .page) (same-form (names-none .protection))
+        (same-characters (step .message) (t .page) (step .terminal .page) all-stay same-size (was .characters ∙ sym (was .marks))))
+
+    -- If it sends a block, nothing is modified any more.
+    pub nothing-modified : ((mark : ℕ) → markLeft (step .message) mark ≡ sentMark mark) → NothingModified (step .terminal .page)
+    unfolding unprotected
+    nothing-modified clears cell here free =
+        let on-page = was-on-page cell here in
+        ap isModified (all-stay cell on-page List·Memᴰ·not-nil .mark ∙ clears _)
+        ∙ sent-unmodified (getD (t .page .marks) cell 0) (not-true _ (sym (names-none .protection cell on-page) ∙ free))

@@ -1,0 +1,101 @@
+-- Demand 3, omission, by the laws alone.
+use mathlib.Core.Path.{_≡_, refl, sym, ap, _∙_}
+use mathlib.Core.Bool.{true, false}
+use mathlib.Core.List.{List, [], _++_, List·Memᴰ, List·Memᴰ·not-nil, List·Memᴰ·append-cases, Memᴰ·append-left, Memᴰ·append-right}
+use mathlib.Core.Logic.{⊎-elim}
+use Prim.Native.Nat.{ℕ, _<_}
+use native.Mathlib.Omega.{arith}
+use lib.ListN.{length, getD}
+use Rattle.words.proofs.Choosing.{not-both, either-way, second-decides, neither}
+use Rattle.page.specs.Marks.{isModified, unprotected}
+use Rattle.page.specs.Page.{Page, sentMark}
+use Rattle.blocks.specs.Blocks.{isSent, block}
+use Rattle.blocks.proofs.Pages.{none-modified}
+use Rattle.blocks.proofs.Laying.{unmodified}
+use Rattle.steps.specs.Steps.{Terminal, Message, silent, report, fullBlock, changedBlock, Stepped, Valid}
+use Rattle.steps.specs.Claims.{markLeft}
+use Rattle.promises.specs.Streams.{Machine, stepOf}
+use Rattle.promises.specs.Copying.{OmitsExactly, storedSince, OmissionHolds}
+use Rattle.promises.specs.Laws.{StepLaw, TagLaw, StepLaws}
+use Rattle.promises.specs.Promises.{Omission}
+use Rattle.promises.proofs.Keeping.{sendable, leaves, was-on-page, nothing-modified}
+use Rattle.promises.proofs.Unsent.{is-field, omitted-unsent, unsent-omitted}
+use Rattle.promises.proofs.Following.{Follow, no-more, one-more, follow}
+
+-- A cell that was stored since the block before is modified, and every other unprotected cell is not.
+record Tracks (stored : List ℕ) (page : Page) : Type 0 where
+  stored-are : (cell : ℕ) → cell < length (page .marks) → List·Memᴰ cell stored → isModified (getD (page .marks) cell 0) ≡ true
+  others-are-not : (cell : ℕ) → cell < length (page .marks) → unprotected (page .marks) cell ≡ true → (List·Memᴰ cell stored → ⊥) → isModified (getD (page .marks) cell 0) ≡ false
+
+-- So a changed block sends just the fields with a cell that was stored.
+omits-exactly : (t : Terminal) → Valid t → (stored : List ℕ) → Tracks stored (t .page) → OmitsExactly (changedBlock (block false (t .state .size .columns) (t .page))) t stored
+unfolding OmitsExactly isSent
+omits-exactly t valid stored tracks field listed =
+    let columns = t .state .size .columns in
+    let is = is-field columns (t .page) (sendable valid) field listed in (
+      λ omitted. record {
+        no-cell = λ cell low high was-stored.
+            let unsent = omitted-unsent columns (t .page) (sendable valid) false field listed omitted in
+            not-both (tracks .stored-are cell (omega (arith, is .on-page)) was-stored)
+            (unmodified (t .page .marks) (field .length) (field .start) cell (neither unsent .1) low high);
+      },
+      λ unstored.
+          unsent-omitted columns (t .page) (sendable valid) false field listed
+          (second-decides false _ refl
+          ∙ none-modified columns (t .page) (field .length) (field .start)
+          (λ cell low high. tracks .others-are-not cell (omega (arith, is .on-page)) (is .all-free cell (low, high)) (unstored .no-cell cell low high))),
+    )
+
+-- A block leaves nothing modified.
+tracks-anew : (t : Terminal) → Valid t → (step : Stepped) → StepLaw t step → step .cells ≡ [] → ((mark : ℕ) → markLeft (step .message) mark ≡ sentMark mark) → Tracks [] (step .terminal .page)
+tracks-anew t valid step law no-cell clears = record {
+  stored-are = λ cell here was-stored. absurd (List·Memᴰ·not-nil was-stored);
+  others-are-not = λ cell here free unstored. nothing-modified t valid step law no-cell clears cell here free;
+}
+
+module _ (t : Terminal) (valid : Valid t) (step : Stepped) (law : StepLaw t step) (tag : TagLaw t step) (stored : List ℕ) (tracks : Tracks stored (t .page)) where
+  -- A step that sends no block: what it names is modified, and the rest stays.
+  tracks-on : ((mark : ℕ) → markLeft (step .message) mark ≡ mark) → Tracks (stored ++ step .cells) (step .terminal .page)
+  tracks-on keeps = record {
+    stored-are = λ cell here was-stored.
+        ⊎-elim
+        (λ before.
+        either-way (isModified (getD (step .terminal .page .marks) cell 0))
+        (λ modified. modified)
+        (λ unmodified. stays cell here (λ named. not-both (tag .tags cell named) unmodified) ∙ tracks .stored-are cell (on-page cell here) before))
+        (tag .tags cell)
+        (List·Memᴰ·append-cases stored was-stored);
+    others-are-not = λ cell here free unstored.
+        stays cell here (λ named. unstored (Memᴰ·append-right stored named))
+        ∙ tracks .others-are-not cell (on-page cell here) (sym (tag .protection cell (on-page cell here)) ∙ free) (λ before. unstored (Memᴰ·append-left (step .cells) before));
+  }
+    where
+      on-page : (cell : ℕ) → cell < length (step .terminal .page .marks) → cell < length (t .page .marks)
+      on-page = was-on-page t valid step law
+
+      stays : (cell : ℕ) → cell < length (step .terminal .page .marks) → (List·Memᴰ cell (step .cells) → ⊥) → isModified (getD (step .terminal .page .marks) cell 0) ≡ isModified (getD (t .page .marks) cell 0)
+      stays cell here unnamed = ap isModified (law .touches cell (on-page cell here) unnamed .mark ∙ keeps _)
+
+  omitted-on : (message : Message) → step .message ≡ message → OmitsExactly message t stored × Tracks (storedSince message stored (step .cells)) (step .terminal .page)
+  unfolding OmitsExactly storedSince markLeft
+  omitted-on silent is = (tt, tracks-on (leaves step is))
+  omitted-on (report bytes) is = (tt, tracks-on (leaves step is))
+  omitted-on (fullBlock bytes) is = (tt, tracks-anew t valid step law (law .full-block bytes is .no-cell) (leaves step is))
+  omitted-on (changedBlock bytes) is =
+      let sent = law .changed-block bytes is in
+      (rw (sent .of-page) (omits-exactly t valid stored tracks), tracks-anew t valid step law (sent .no-cell) (leaves step is))
+
+omission-holds : {t : Terminal} {run : List Stepped} → Follow t run → (stored : List ℕ) → Tracks stored (t .page) → OmissionHolds t stored run
+unfolding OmissionHolds
+omission-holds no-more stored tracks = tt
+omission-holds (one-more {t} {step} valid law tag further) stored tracks =
+    let now = omitted-on t valid step law tag stored tracks (step .message) refl in
+    (now .0, omission-holds further (storedSince (step .message) stored (step .cells)) (now .1))
+
+pub omission-of : (m : Machine) → StepLaws m → Omission m
+unfolding markLeft
+omission-of m laws t valid first block sends inputs nothing =
+    let step = stepOf m first t in
+    let law = laws .every-step first t valid in
+    omission-holds (follow m laws (step .terminal) (law .valid) inputs nothing) []
+    (tracks-anew t valid step law (law .full-block block sends .no-cell) (leaves step sends))

@@ -1,0 +1,49 @@
+-- What the terminal of document 01 promises: each claim of specs/Promises.antt.
+use Rattle.promises.specs.Streams.{ours}
+use Rattle.promises.specs.Promises.{Numbers, Refusals, StaysValid, Cutting, Continuing, FeedingBack, KeysKeep, BlocksKeep, Copying, Omission, CallsAreSteps, Bounded}
+use Rattle.promises.proofs.OurLaws.{our-step-laws, our-call-laws}
+use Rattle.promises.proofs.Refusing.{our-numbers, our-refusals, our-stays-valid, our-keys-keep}
+use Rattle.promises.proofs.Calling.{calls-are-steps-of, cutting-of, continuing-of}
+use Rattle.promises.proofs.Feeding as Feeding
+use Rattle.promises.proofs.Sending.{blocks-keep-of, bounded-of}
+use Rattle.promises.proofs.Copied.{copying-of}
+use Rattle.promises.proofs.Omitted.{omission-of}
+
+-- Demand 1.
+pub numbers : Numbers ours
+numbers = our-numbers
+
+pub refusals : Refusals ours
+refusals = our-refusals
+
+pub stays-valid : StaysValid ours
+stays-valid = our-stays-valid
+
+-- Demand 2.
+pub cutting : Cutting ours
+cutting = cutting-of ours our-step-laws our-call-laws
+
+pub continuing : Continuing ours
+continuing = continuing-of ours our-step-laws our-call-laws
+
+pub feeding-back : FeedingBack ours
+feeding-back = Feeding.feeding-back
+
+pub keys-keep : KeysKeep ours
+keys-keep = our-keys-keep
+
+pub blocks-keep : BlocksKeep ours
+blocks-keep = blocks-keep-of ours our-step-laws
+
+-- Demand 3, over steps, and that calls are steps.
+pub copying : Copying ours
+copying = copying-of ours our-step-laws
+
+pub omission : Omission ours
+omission = omission-of ours our-step-laws
+
+pub calls-are-steps : CallsAreSteps ours
+calls-are-steps = calls-are-steps-of ours our-step-laws our-call-laws
+
+pub bounded : Bounded ours
+bounded = bounded-of ours our-step-laws

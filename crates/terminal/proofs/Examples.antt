@@ -1,0 +1,128 @@
+-- The starred examples of document 01, computed from the definitions that the entries' contracts cite:
+-- each on a fresh 24 by 80 terminal brought there by calls.
+use mathlib.Core.Path.{_≡_, refl}
+use mathlib.Core.List.{List, [], _∷_, map}
+use mathlib.Core.Bool.{Bool, true, false, not}
+use Prim.Native.Nat.{ℕ, suc}
+use lib.ListN.{take, replicate}
+use Rattle.words.specs.Choice.{if_then_else_, _and_, _or_, _is_to_}
+use Rattle.words.specs.Lists.{within, every, eachFrom, placesFrom, selected}
+use Rattle.words.specs.Output.{placed}
+use Rattle.sequence.specs.Record.{argumentsFit, largestArgument, validHalfRead, withDigit, withNextArgument}
+use Rattle.sequence.specs.Reading.{isControl, isCancel, outsideSequence, afterEsc, afterIntermediate, afterBracket, insideSequence, advanceOf}
+use Rattle.page.specs.Marks.{unprotected}
+use Rattle.page.specs.Page.{pageOf, validPage, textStored, sentMark, modifiedCleared}
+use Rattle.places.specs.Places.{placeOf}
+use Rattle.fields.specs.Fields.{opensStretch, joined, startsField, endFrom, fieldEnd, fieldsFrom, fieldsOf}
+use Rattle.blocks.specs.Blocks.{entryBytes, encode, entryOf, someModified, isSent, entriesSent, block}
+use Rattle.state.specs.State.{refused}
+use Rattle.state.specs.Moves.{onBy, rightBy}
+use Rattle.state.specs.Pen.{validPen}
+use Rattle.state.specs.Validity.{listedRows, listedColumns, listedSize, sizeFits, cursorFits, stopsFit, validState}
+use Rattle.steps.specs.Steps.{Terminal, bytesOf, blockMessage}
+use Rattle.steps.specs.Table.{allowed, valueOf}
+use Rattle.steps.specs.Commands.{toNextCell, textStep, freshStep, sendBlock, toColumn, toRow, toPlace, keptColumn, listedStep, bracketStep}
+use Rattle.steps.specs.Host.{eventStep, hostStep}
+use Rattle.steps.specs.Keys.{isTyping, isEditing, isFieldMove, isKnown, isLocked, isLockedOut, lacksCell, keyStep}
+use Rattle.terminal.specs.Runs.{stepsOf, fitting, after, sentBy, storedBy}
+use Rattle.terminal.specs.Answers.{numberOf, Outcome, unchanged, did, gives}
+use Rattle.terminal.specs.Lines.{firstOf, exceedsRoom, isValid, startLines, hostLines, keyLines}
+use Rattle.terminal.specs.Calls.{startStep, startCall, hostCall, keyCall}
+
+-- A call of host bytes or of a key, with so much room in the output.
+data Call : Type 0 where
+  host : ℕ → List ℕ → Call
+  key : ℕ → ℕ → Call
+
+outcome : Call → Terminal → Outcome
+outcome (host room bytes) t = hostCall t bytes (replicate room 0)
+outcome (key room number) t = keyCall t number (replicate room 0)
+
+-- What the last of some calls gives.
+last : Outcome → List Call → Outcome
+last given [] = given
+last given (call ∷ later) = last (outcome call (given .terminal)) later
+
+started : Outcome
+started = startCall (record { rows = 24; columns = 80 }) (pageOf (replicate 1920 0) (replicate 1920 0))
+
+-- What document 01 tells of a call: number, cursor, soft lock, message, cells stored, bytes sent.
+record Seen : Type 0 where
+  number : ℕ
+  row : ℕ
+  column : ℕ
+  locked : Bool
+  message : ℕ
+  stored : ℕ
+  sent : List ℕ
+
+seen : Outcome → Seen
+seen given =
+    record {
+      number = given .number;
+      row = given .terminal .state .cursor .row;
+      column = given .terminal .state .cursor .column;
+      locked = given .terminal .state .locks .soft;
+      message = given .terminal .state .locks .message;
+      stored = given .stored;
+      sent = take (given .sent) (given .output);
+    }
+
+record Example : Type 0 where
+  calls : List Call
+  gives : Seen
+
+-- A cursor and a count, no lock; and a refused command.
+goes : ℕ → ℕ → ℕ → Seen
+goes row column stored = record { number = 0; row = row; column = column; locked = false; message = 0; stored = stored; sent = [] }
+
+refuses : ℕ → ℕ → Seen
+refuses row column = record { number = 0; row = row; column = column; locked = true; message = 1; stored = 0; sent = [] }
+
+-- A key at 1;1 that stores nothing.
+keyed : ℕ → List ℕ → Seen
+keyed number sent = record { number = number; row = 1; column = 1; locked = false; message = 0; stored = 0; sent = sent }
+
+infix 68 _leave_
+_leave_ : List Call → Seen → Example
+calls leave given = record { calls = calls; gives = given }
+
+sequence : List ℕ → Call
+sequence bytes = host 0 (0x1B ∷ 0x5B ∷ bytes)
+
+at4x20 : Call
+at4x20 = sequence (0x34 ∷ 0x3B ∷ 0x32 ∷ 0x30 ∷ 0x48 ∷ [])
+
+at24x80 : Call
+at24x80 = sequence (0x32 ∷ 0x34 ∷ 0x3B ∷ 0x38 ∷ 0x30 ∷ 0x48 ∷ [])
+
+examples : List Example
+examples =
+    -- ESC [ 24 ; 80 H and ESC [ 25 ; 1 H
+    (at24x80 ∷ []) leave goes 24 80 0
+    ∷ (sequence (0x32 ∷ 0x35 ∷ 0x3B ∷ 0x31 ∷ 0x48 ∷ []) ∷ []) leave refuses 1 1
+    -- ESC [ 81 G and ESC [ 25 d
+    ∷ (sequence (0x38 ∷ 0x31 ∷ 0x47 ∷ []) ∷ []) leave goes 1 1 0
+    ∷ (sequence (0x32 ∷ 0x35 ∷ 0x64 ∷ []) ∷ []) leave refuses 1 1
+    -- from 4;20: ESC [ 3 G, ESC [ 5 f, ESC [ 5 H
+    ∷ (at4x20 ∷ sequence (0x33 ∷ 0x47 ∷ []) ∷ []) leave goes 4 3 0
+    ∷ (at4x20 ∷ sequence (0x35 ∷ 0x66 ∷ []) ∷ []) leave goes 5 20 0
+    ∷ (at4x20 ∷ sequence (0x35 ∷ 0x48 ∷ []) ∷ []) leave goes 5 1 0
+    -- text A at 24;80
+    ∷ (at24x80 ∷ host 0 (0x41 ∷ []) ∷ []) leave goes 1 1 1
+    -- nine arguments to m
+    ∷ (sequence (0x31 ∷ 0x3B ∷ 0x31 ∷ 0x3B ∷ 0x31 ∷ 0x3B ∷ 0x31 ∷ 0x3B ∷ 0x31 ∷ 0x3B ∷ 0x31 ∷ 0x3B ∷ 0x31 ∷ 0x3B ∷ 0x31 ∷ 0x3B ∷ 0x31 ∷ 0x6D ∷ []) ∷ []) leave refuses 1 1
+    -- 9999 to C, and 10000
+    ∷ (sequence (0x39 ∷ 0x39 ∷ 0x39 ∷ 0x39 ∷ 0x43 ∷ []) ∷ []) leave goes 1 80 0
+    ∷ (sequence (0x31 ∷ 0x30 ∷ 0x30 ∷ 0x30 ∷ 0x30 ∷ 0x43 ∷ []) ∷ []) leave refuses 1 1
+    -- an empty host call
+    ∷ (host 0 [] ∷ []) leave goes 1 1 0
+    -- key 266 with no room, and with room for one byte, nothing modified
+    ∷ (key 0 266 ∷ []) leave keyed 3 []
+    ∷ (key 1 266 ∷ []) leave keyed 0 (0x03 ∷ [])
+    ∷ []
+
+-- Each leaves what document 01 says.
+as-document-01 : map (λ (e : Example). seen (last started (e .calls))) examples ≡ map (λ (e : Example). e .gives) examples
+unfolding outcome last started seen goes refuses keyed _leave_ sequence at4x20 at24x80 examples if_then_else_ _and_ _or_ _is_to_ within every eachFrom placesFrom selected placed argumentsFit largestArgument validHalfRead withDigit withNextArgument isControl isCancel outsideSequence afterEsc afterIntermediate afterBracket insideSequence advanceOf unprotected validPage textStored sentMark modifiedCleared placeOf opensStretch joined startsField endFrom fieldEnd fieldsFrom fieldsOf entryBytes encode entryOf someModified isSent entriesSent block refused onBy rightBy validPen listedRows listedColumns listedSize sizeFits cursorFits stopsFit validState bytesOf blockMessage allowed valueOf toNextCell textStep freshStep sendBlock toColumn toRow toPlace keptColumn listedStep bracketStep eventStep hostStep isTyping isEditing isFieldMove isKnown isLocked isLockedOut lacksCell keyStep stepsOf fitting after sentBy storedBy numberOf unchanged did gives firstOf exceedsRoom isValid startLines hostLines keyLines startStep startCall hostCall keyCall
+as-document-01 = refl
