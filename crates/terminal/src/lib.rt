@@ -10,7 +10,7 @@ ghost use lib.ListN.{length};
 ghost use Rattle.page.specs.Page.{Page, pageOf};
 ghost use Rattle.steps.specs.Steps.{Valid};
 ghost use Rattle.steps.specs.Keys.{isKnown, isLockedOut, lacksCell};
-ghost use Rattle.terminal.specs.Answers.{given, unchanged};
+ghost use Rattle.terminal.specs.Answers.{numberOf, given, unchanged};
 ghost use Rattle.terminal.specs.Lines.{isValid};
 ghost use Rattle.terminal.specs.Calls.{startCall, hostCall, keyCall};
 
@@ -33,6 +33,22 @@ pub struct Reply {
     pub taken: usize,
     pub sent: usize,
     pub stored: usize,
+}
+
+// Document 01's number.
+pub fn number_of(answer: Answer) -> u8
+    ensures { λ r. ⌜ r ≡ numberOf answer ⌝ }
+{
+    match answer {
+        Answer::Done => 0,
+        Answer::WrongSize => 1,
+        Answer::WrongState => 2,
+        Answer::NoRoom => 3,
+        Answer::UnknownKey => 4,
+        Answer::Locked => 5,
+        Answer::TooLong => 6,
+        Answer::NoCell => 7,
+    }
 }
 
 // A call that changes nothing.

@@ -1,0 +1,482 @@
+//! Random inputs for `calls`: damaged states and pages, lent lengths, rooms, long calls.
+
+use crate::frames::{fields, put_hex, Calls, Program, FIELDS, KEPT, ROOM};
+use crate::random::Random;
+use crate::streams::{any_size, Stream};
+use crate::terminal::{self, COLUMNS, ROWS};
+use std::collections::VecDeque;
+
+struct Generator {
+    random: Random,
+    calls: Calls,
+    text: Vec<u8>,
+    /// Frames planned ahead.
+    plan: VecDeque<Vec<u8>>,
+    size: (u16, u16),
+    /// Long calls with costly commands still allowed.
+    costly: usize,
+}
+
+pub fn calls(seed: u64, frames: usize) -> Vec<u8> {
+    let place = (seed % 9) as usize;
+    let mut generator = Generator {
+        random: Random::new(seed ^ 0xCA11_5000),
+        calls: Calls::new(),
+        text: Vec::new(),
+        plan: VecDeque::new(),
+        size: (ROWS[place / 3], COLUMNS[place % 3]),
+        costly: usize::from(seed.is_multiple_of(10)),
+    };
+    for _ in 0..frames {
+        if generator.plan.is_empty() {
+            generator.make_plan();
+        }
+        if let Some(frame) = generator.plan.pop_front() {
+            generator.emit(&frame);
+        }
+    }
+    if generator.random.chance(15) {
+        generator.text.pop();
+    }
+    generator.text
+}
+
+fn pair(first: u8, one: usize, two: usize) -> Vec<u8> {
+    let [one, two] = [one, two].map(|number| (number as u16).to_be_bytes());
+    [&[first][..], &one, &two].concat()
+}
+
+fn long(first: u8, number: usize) -> Vec<u8> {
+    [&[first][..], &(number as u32).to_be_bytes()].concat()
+}
+
+fn cell(first: u8, place: usize, value: u8) -> Vec<u8> {
+    [&[first][..], &(place as u16).to_be_bytes(), &[value]].concat()
+}
+
+fn field(number: usize, value: u16) -> Vec<u8> {
+    pair(0x28, number, usize::from(value))
+}
+
+impl Generator {
+    fn line(&mut self, line: &[u8]) {
+        self.text.extend_from_slice(line);
+        self.text.push(b'\n');
+        self.calls.line(line, &mut Vec::new());
+    }
+
+    fn emit(&mut self, frame: &[u8]) {
+        let mut line = Vec::new();
+        put_hex(&mut line, frame);
+        self.line(&line);
+    }
+
+    fn push(&mut self, frame: Vec<u8>) {
+        self.plan.push_back(frame);
+    }
+
+    fn cells(&self) -> usize {
+        usize::from(self.size.0) * usize::from(self.size.1)
+    }
+
+    fn stream(&mut self) -> Stream<'_> {
+        Stream::new(&mut self.random, &self.calls.state, &self.calls.marks[..self.calls.lent.1])
+    }
+
+    fn make_plan(&mut self) {
+        self.heal();
+        if !self.plan.is_empty() {
+            return;
+        }
+        match self.random.below(100) {
+            0..=1 => self.plan_start(),
+            2..=3 => self.plan_refused_start(),
+            4..=5 => self.plan_lengths(),
+            6..=25 => self.plan_damage(),
+            26..=37 => self.plan_good_edits(),
+            38..=49 => self.plan_room(),
+            50..=52 => self.plan_bad_line(),
+            53..=56 => self.plan_long(),
+            57..=62 => self.plan_pattern(),
+            63..=80 => self.plan_keys(),
+            _ => self.push_host_scene(),
+        }
+    }
+
+    /// Brings lent lengths, size, state and page back in range.
+    fn heal(&mut self) {
+        let (state, cells) = (self.calls.state.clone(), self.cells());
+        if (state.rows, state.columns) != self.size {
+            self.plan_start();
+            return;
+        }
+        if self.calls.lent != (cells, cells) {
+            self.push(pair(0x24, cells, cells));
+        }
+        let limits = [(2, state.row, state.rows), (3, state.column, state.columns)];
+        for (number, value, limit) in limits {
+            if value < 1 || value > limit {
+                self.push(field(number, limit));
+            }
+        }
+        self.push_if(state.pen & 0x82 != 0, field(4, u16::from(state.pen & 0x7D)));
+        self.push_if(state.message > 1, field(8, 1));
+        let mut mended = state.clone();
+        (mended.row, mended.column, mended.pen, mended.message) = (1, 1, 0, 0);
+        mended.stops = [false; 160];
+        if !mended.sound() {
+            for number in (9..20).filter(|&n| fields(&state)[n] != 0) {
+                self.push(field(number, 0));
+            }
+        }
+        for number in usize::from(state.columns)..160 {
+            self.push_if(state.stops[number], field(20 + number, 0));
+        }
+        for place in 0..cells {
+            let (character, marks) = (self.calls.characters[place], self.calls.marks[place]);
+            self.push_if(!terminal::good_character(character), cell(0x26, place, 0x41));
+            self.push_if(!terminal::good_marks(marks), cell(0x27, place, marks & 0x7F));
+        }
+        if self.plan.len() > 30 {
+            self.plan.clear();
+            self.plan_start();
+        }
+    }
+
+    fn push_if(&mut self, needed: bool, frame: Vec<u8>) {
+        if needed {
+            self.push(frame);
+        }
+    }
+
+    fn plan_start(&mut self) {
+        if self.random.chance(40) {
+            self.size = any_size(&mut self.random);
+        }
+        let cells = self.cells();
+        self.push(pair(0x24, cells, cells));
+        self.push(pair(0x20, self.size.0.into(), self.size.1.into()));
+    }
+
+    fn plan_refused_start(&mut self) {
+        let (rows, columns) = (usize::from(self.size.0), usize::from(self.size.1));
+        match self.random.below(4) {
+            0 => {
+                let rows = self.random.pick(&[0, 1, 25, 49, 256 + 24, 65_535]);
+                self.push(pair(0x20, rows, columns));
+            }
+            1 => {
+                let columns = self.random.pick(&[0, 1, 81, 161, 256 + 80, 65_535]);
+                self.push(pair(0x20, rows, columns));
+            }
+            2 => self.push(pair(0x20, columns, rows)),
+            _ => {
+                self.push_wrong_lengths();
+                self.push(pair(0x20, rows, columns));
+            }
+        }
+        self.push_call();
+    }
+
+    fn push_wrong_lengths(&mut self) {
+        let cells = self.cells();
+        let wrong = self.random.pick(&[0, 1, cells - 1, cells + 1, 1_919, KEPT, cells]);
+        let other = self.random.pick(&[cells, wrong, 0, 2_160]);
+        let (one, two) = if self.random.chance(50) { (wrong, other) } else { (other, wrong) };
+        self.push(pair(0x24, one, two));
+    }
+
+    fn plan_lengths(&mut self) {
+        self.push_wrong_lengths();
+        for _ in 0..self.random.between(1, 2) {
+            self.push_call();
+        }
+    }
+
+    /// A call of any kind on whatever the page and state are then.
+    fn push_call(&mut self) {
+        match self.random.below(8) {
+            0 => self.push(vec![0x21]),
+            1 => self.push([&[0x21][..], b"\x1BS"].concat()),
+            2 => self.push(long(0x23, self.calls.room % 300)),
+            3 => self.push([&long(0x22, 65_537)[..], b"x"].concat()),
+            4 => self.push_host_scene(),
+            _ => {
+                let key =
+                    self.random.pick(&[65, 256, 259, 260, 261, 262, 263, 264, 265, 266, 267, 268]);
+                self.push(long(0x23, key));
+            }
+        }
+    }
+
+    /// One place of the state or page set to a value that may be out of range, then calls.
+    fn plan_damage(&mut self) {
+        let cells = self.cells();
+        for _ in 0..1 + usize::from(self.random.chance(15)) {
+            let frame = match self.random.below(12) {
+                0 => {
+                    let value = self.random.pick(&[0x00, 0x1F, 0x20, 0x7E, 0x7F, 0x80, 0xA0, 0xFF]);
+                    cell(0x26, self.any_place(), value)
+                }
+                1 => {
+                    let value = self.random.pick(&[0x03, 0x7F, 0x80, 0x81, 0xFF]);
+                    cell(0x27, self.any_place(), value)
+                }
+                2 => {
+                    let past = self.random.between(cells, KEPT - 1);
+                    cell(self.random.pick(&[0x26, 0x27]), past, 0xFF)
+                }
+                3 => {
+                    let number = self.random.between(20, FIELDS - 1);
+                    field(number, 1)
+                }
+                4..=6 => {
+                    self.push_half();
+                    continue;
+                }
+                _ => {
+                    let number = self.random.below(9);
+                    field(number, self.odd_value(number))
+                }
+            };
+            self.push(frame);
+        }
+        for _ in 0..self.random.between(1, 2) {
+            self.push_call();
+        }
+    }
+
+    fn any_place(&mut self) -> usize {
+        let cells = self.cells();
+        match self.random.below(5) {
+            0 => 0,
+            1 => cells - 1,
+            2 => cells / 2,
+            _ => self.random.below(cells),
+        }
+    }
+
+    fn odd_value(&mut self, number: usize) -> u16 {
+        let (rows, columns) = self.size;
+        match number {
+            0 => self.random.pick(&[0, 24, 27, 48, 25, 65_535]),
+            1 => self.random.pick(&[0, 80, 132, 160, 81, 65_535]),
+            2 => self.random.pick(&[0, 1, rows, rows + 1, 65_535]),
+            3 => self.random.pick(&[0, 1, columns, columns + 1, 65_535]),
+            4 => self.random.below(256) as u16,
+            8 => self.random.pick(&[0, 1, 2, 3, 128, 255]),
+            _ => self.random.pick(&[0, 1, 2, 256, 65_535]),
+        }
+    }
+
+    /// A half-read record, most often one that could have been read, or nearly so.
+    fn push_half(&mut self) {
+        let kind = self.random.pick(&[0, 1, 2, 3, 3, 3, 3, 4, 255]);
+        let mut values = [0u16; 11];
+        values[0] = kind;
+        if kind == 3 {
+            values[1] = u16::from(self.random.chance(30));
+            let most = if values[1] == 1 { 1 } else { 8 };
+            values[2] = self.random.between(1, most) as u16;
+            let reached = if values[1] == 1 { 0 } else { usize::from(values[2]) };
+            for value in &mut values[3..3 + reached] {
+                *value = self.random.pick(&[0, 1, 2, 5, 6, 9_999, 24, 80]);
+            }
+        }
+        if self.random.chance(60) {
+            let place = self.random.between(1, 10);
+            values[place] = match place {
+                1 => 1,
+                2 => self.random.pick(&[0, 1, 2, 8, 9, 255]),
+                _ => self.random.pick(&[1, 9_999, 10_000, 65_535]),
+            };
+        }
+        let now = fields(&self.calls.state);
+        for (place, &value) in values.iter().enumerate() {
+            self.push_if(now[9 + place] != value, field(9 + place, value));
+        }
+    }
+
+    /// Edits that keep the state sound: cursor, pen, modes, locks off, a cell, a stop.
+    fn plan_good_edits(&mut self) {
+        for _ in 0..self.random.between(1, 3) {
+            match self.random.below(9) {
+                // 24 by 160 and 48 by 80 lend the same number of cells.
+                8 if self.cells() == 3_840 => {
+                    self.size = if self.size.0 == 24 { (48, 80) } else { (24, 160) };
+                    self.push(field(0, self.size.0));
+                    self.push(field(1, self.size.1));
+                }
+                0 | 1 => {
+                    let (row, column) = self.stream().target();
+                    self.push(field(2, row));
+                    self.push(field(3, column));
+                }
+                2 => {
+                    let pen = self.random.below(128) as u16 & 0x7D;
+                    self.push(field(4, pen));
+                }
+                3 => {
+                    let number = self.random.between(5, 7);
+                    self.push(field(number, 0));
+                }
+                4 => {
+                    let place = self.any_place();
+                    let value = self.random.below(128) as u8;
+                    self.push(cell(0x27, place, value));
+                }
+                5 => {
+                    let place = self.any_place();
+                    let value = self.random.between(0x20, 0x7E) as u8;
+                    self.push(cell(0x26, place, value));
+                }
+                6 => {
+                    let number = self.random.between(20, 19 + usize::from(self.size.1));
+                    let value = self.random.pick(&[0, 1, 1, 2, 65_535]);
+                    self.push(field(number, value));
+                }
+                _ => self.push(field(5, 1)),
+            }
+        }
+        self.push_call();
+    }
+
+    /// The length of the block that a call would send now.
+    fn block_length(&self, key: u32) -> usize {
+        let (mut state, lent) = (self.calls.state.clone(), self.calls.lent);
+        let mut characters = self.calls.characters[..lent.0].to_vec();
+        let mut marks = self.calls.marks[..lent.1].to_vec();
+        (state.manual, state.soft) = (false, false);
+        let mut output = vec![0; ROOM];
+        terminal::key(&mut state, &mut characters, &mut marks, key, &mut output).sent
+    }
+
+    /// A room around a block's length, calls that send, and the large room again.
+    fn plan_room(&mut self) {
+        let key = self.random.pick(&[266, 266, 267]);
+        let length = self.block_length(key);
+        let full = self.block_length(267);
+        let room = match self.random.below(12) {
+            0 => 0,
+            1 => 1,
+            2 => self.random.between(2, 9),
+            3 | 4 => length,
+            5 | 6 => length.saturating_sub(1),
+            7 => full,
+            8 => full - 1,
+            9 => full * 2,
+            10 => full + 4,
+            _ => self.random.between(10, ROOM),
+        };
+        self.push(long(0x25, room.min(ROOM)));
+        if self.random.chance(50) {
+            self.push(field(6, 0));
+            self.push(field(7, 0));
+        }
+        for _ in 0..self.random.between(1, 3) {
+            match self.random.below(6) {
+                0 => self.push([&[0x21][..], b"\x1BS"].concat()),
+                1 => self.push([&[0x21][..], b"A\x1B[5n\x1BSB\x1B[6n"].concat()),
+                2 => self.push([&[0x21][..], b"\x1BS\x1B[6n\x1BSC"].concat()),
+                3 => self.push([&[0x21][..], b"\x1BS\x1BS\x1B[99dD"].concat()),
+                _ => self.push(long(0x23, key as usize)),
+            }
+        }
+        if self.random.chance(70) {
+            self.push(long(0x25, ROOM));
+        }
+    }
+
+    /// A call near the limit of 65,536 bytes, or a frame that asks for too many.
+    fn plan_long(&mut self) {
+        if self.random.chance(60) {
+            let length = self.random.between(0, 300);
+            let mut bytes = self.stream().scene();
+            bytes.truncate(250);
+            self.push([&long(0x22, length)[..], &bytes].concat());
+            return;
+        }
+        let length = self.random.pick(&[65_535, 65_536, 65_536, 65_537, 65_538, 0x1_0001_0000]);
+        let mut bytes: &[u8] = self.random.pick(&[
+            &b"Text and more of it"[..],
+            b"\x1B[",
+            b"\x1B[1;2",
+            b"a\x1B[H\x1BVb\x1BW",
+            b"\x00",
+            b"\x1B[9999I",
+        ]);
+        if self.costly > 0 && self.random.chance(30) {
+            self.costly -= 1;
+            bytes = self.random.pick(&[&b"a\n\r"[..], b"\x1BM", b"x\x1BS"]);
+        }
+        self.push([&long(0x22, length)[..], bytes].concat());
+    }
+
+    /// A page full of short fields, from a few bytes repeated.
+    fn plan_pattern(&mut self) {
+        let bytes = self.stream().pattern();
+        let length = self.random.between(1, self.cells() * 3);
+        self.push(b"\x21\x18\x1B[H".to_vec());
+        self.push([&long(0x22, length)[..], &bytes].concat());
+    }
+
+    fn plan_keys(&mut self) {
+        let state = &self.calls.state;
+        let locked = state.manual || state.soft;
+        if locked && self.random.chance(60) {
+            self.push(b"\x21\x1Bb".to_vec());
+        }
+        let place = usize::from(self.calls.state.row - 1) * usize::from(self.size.1)
+            + usize::from(self.calls.state.column - 1);
+        let under = self.calls.characters[place];
+        for key in self.stream().keys(under) {
+            let odd = self.random.below(40);
+            let key = match odd {
+                0 => key | 0x1_0000,
+                1 => key | 0x8000_0000,
+                2 => u32::MAX,
+                _ => key,
+            };
+            self.push(long(0x23, key as usize));
+        }
+    }
+
+    fn push_host_scene(&mut self) {
+        let bytes = match self.random.below(10) {
+            0 | 1 => self.stream().probe(),
+            2 | 3 => {
+                let step = self.random.below(6 * 256);
+                self.stream().probe_byte(step)
+            }
+            _ => self.stream().scene(),
+        };
+        let most = self.random.pick(&[255, 255, 20]);
+        for part in bytes.chunks(most).take(4) {
+            self.push([&[0x21][..], part].concat());
+        }
+    }
+
+    fn plan_bad_line(&mut self) {
+        let line: Vec<u8> = match self.random.below(16) {
+            0 => b"".to_vec(),
+            1 => b"2141\r".to_vec(),
+            2 => b"21 41".to_vec(),
+            3 => b"211b63".to_vec(),
+            4 => b"21414".to_vec(),
+            5 => b"001850".to_vec(),
+            6 => b"0141".to_vec(),
+            7 => self.random.pick(&["20", "2018", "20001800", "200018005000", "2200000001"]).into(),
+            8 => self.random.pick(&["23", "230041", "2300000000041", "24", "2400000000FF"]).into(),
+            9 => self.random.pick(&["2420010000", "2400002001", "2500010001", "25FFFFFFFF"]).into(),
+            10 => self.random.pick(&["26200041", "27200041", "26FFFF20", "27FFFF00"]).into(),
+            11 => {
+                self.random.pick(&["2800B40001", "28FFFF0001", "2801000000", "28000B0100"]).into()
+            }
+            12 => self.random.pick(&["2800040100", "2800080101", "280009FFFF", "28000B01"]).into(),
+            13 => self.random.pick(&["220001000241", "22FFFFFFFF41", "2200"]).into(),
+            14 => b"21".iter().chain(b"41".repeat(256).iter()).copied().collect(),
+            _ => b"2200000003".iter().chain(b"41".repeat(251).iter()).copied().collect(),
+        };
+        self.line(&line);
+    }
+}

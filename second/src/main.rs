@@ -1,0 +1,80 @@
+//! A second terminal after document 01, to be compared byte for byte with another one.
+
+mod compare;
+mod frames;
+mod generate;
+mod generate_calls;
+mod random;
+mod streams;
+mod teeth;
+mod terminal;
+#[cfg(test)]
+mod tests;
+mod wrong;
+
+use frames::Mode;
+use std::io::{Read, Write};
+use std::process::ExitCode;
+
+const USAGE: &str = "usage: second [--wrong N] COMMAND
+  transcript | dump | calls                         standard input to standard output
+  generate SEED FRAMES | generate-calls SEED FRAMES
+  compare MODE PROGRAM.. -- SEED_FROM SEED_COUNT FRAMES
+  teeth SEED_FROM SEED_COUNT FRAMES";
+
+fn number(text: &str) -> Result<u64, String> {
+    text.parse().map_err(|_| format!("not a number: {text}\n{USAGE}"))
+}
+
+fn print(bytes: &[u8]) -> Result<bool, String> {
+    std::io::stdout().write_all(bytes).map_err(|error| error.to_string())?;
+    Ok(true)
+}
+
+fn filter(mode: Mode) -> Result<bool, String> {
+    let mut input = Vec::new();
+    std::io::stdin().read_to_end(&mut input).map_err(|error| error.to_string())?;
+    print(&mode.run(&input))
+}
+
+fn run(arguments: &[String]) -> Result<bool, String> {
+    let words: Vec<&str> = arguments.iter().map(String::as_str).collect();
+    match words[..] {
+        ["--wrong", edit, ..] => {
+            let edit = u8::try_from(number(edit)?).unwrap_or(u8::MAX);
+            if edit > wrong::COUNT {
+                return Err(USAGE.into());
+            }
+            wrong::choose(edit);
+            run(&arguments[2..])
+        }
+        [name @ ("transcript" | "dump" | "calls")] => filter(Mode::named(name).ok_or(USAGE)?),
+        ["generate", seed, frames] => {
+            print(&generate::transcript(number(seed)?, number(frames)? as usize))
+        }
+        ["generate-calls", seed, frames] => {
+            print(&generate_calls::calls(number(seed)?, number(frames)? as usize))
+        }
+        ["compare", mode, .., "--", from, count, frames] if words.len() > 6 => {
+            let mode = Mode::named(mode).ok_or(USAGE)?;
+            let program = &arguments[2..arguments.len() - 4];
+            compare::compare(mode, program, number(from)?, number(count)?, number(frames)? as usize)
+        }
+        ["teeth", from, count, frames] => {
+            Ok(teeth::teeth(number(from)?, number(count)?, number(frames)? as usize))
+        }
+        _ => Err(USAGE.into()),
+    }
+}
+
+fn main() -> ExitCode {
+    let arguments: Vec<String> = std::env::args().skip(1).collect();
+    match run(&arguments) {
+        Ok(true) => ExitCode::SUCCESS,
+        Ok(false) => ExitCode::FAILURE,
+        Err(text) => {
+            eprintln!("{text}");
+            ExitCode::from(2)
+        }
+    }
+}

@@ -1,0 +1,539 @@
+//! Plausible and implausible host streams and key bursts, aimed at the page they will meet.
+
+use crate::random::Random;
+use crate::terminal::{State, COLUMNS, PROTECTED, ROWS};
+
+const FINALS: &[u8] = b"ABCDEFGdHfIZWJKmhlnHfmJKG";
+const UNKNOWN_KEYS: &[u32] = &[0, 1, 13, 27, 31, 127, 128, 200, 255, 269, 270, 288, 512, 65_535];
+const NOISE: &[u8] = &[
+    0x00, 0x07, 0x08, 0x09, 0x0A, 0x0B, 0x0D, 0x0E, 0x17, 0x18, 0x19, 0x1A, 0x1B, 0x1C, 0x1F, 0x7F,
+    0x80, 0x84, 0x85, 0x8D, 0x9A, 0x9B, 0xA0, 0xFF,
+];
+
+pub fn any_size(random: &mut Random) -> (u16, u16) {
+    (random.pick(&ROWS), random.pick(&COLUMNS))
+}
+
+/// Writes host bytes for a page of known size and marks.
+pub struct Stream<'a> {
+    pub random: &'a mut Random,
+    rows: u16,
+    columns: u16,
+    marks: &'a [u8],
+    bytes: Vec<u8>,
+}
+
+impl<'a> Stream<'a> {
+    /// A state or page that isn't usable is taken for a plain one of 24 by 80.
+    pub fn new(random: &'a mut Random, state: &State, marks: &'a [u8]) -> Stream<'a> {
+        let cells = usize::from(state.rows) * usize::from(state.columns);
+        let usable = cells == marks.len() && cells > 0;
+        let (rows, columns) = if usable { (state.rows, state.columns) } else { (24, 80) };
+        let marks = if usable { marks } else { &[] };
+        Stream { random, rows, columns, marks, bytes: Vec::new() }
+    }
+
+    fn put(&mut self, bytes: &[u8]) {
+        self.bytes.extend_from_slice(bytes);
+    }
+
+    fn escape(&mut self, byte: u8) {
+        self.put(&[0x1B, byte]);
+    }
+
+    fn protected(&self, place: usize) -> bool {
+        self.marks.get(place).is_some_and(|marks| marks & PROTECTED != 0)
+    }
+
+    /// A cell worth visiting: most often at a border of protection, else a corner or an edge.
+    pub fn target(&mut self) -> (u16, u16) {
+        let row = self.random.between(1, self.rows.into()) as u16;
+        let column = self.random.between(1, self.columns.into()) as u16;
+        match self.random.below(14) {
+            0 => (1, 1),
+            1 => (self.rows, self.columns),
+            2 => (self.rows, column),
+            3 => (row, self.columns),
+            4 => (row, 1),
+            5 => (1, column),
+            6 => (row, column),
+            _ => {
+                let width = usize::from(self.columns);
+                let from = usize::from(row - 1) * width + usize::from(column - 1);
+                let border = (from..self.marks.len().saturating_sub(1))
+                    .find(|&p| self.protected(p) != self.protected(p + 1));
+                let place = border.map_or(from, |p| p + self.random.below(2));
+                ((place / width) as u16 + 1, (place % width) as u16 + 1)
+            }
+        }
+    }
+
+    fn goto(&mut self, (row, column): (u16, u16)) {
+        let text = match self.random.below(8) {
+            0..=3 => format!("\x1B[{row};{column}H"),
+            4 | 5 => format!("\x1B[{row};{column}f"),
+            6 => format!("\x1B[{row}d\x1B[{column}G"),
+            _ => format!("\x1B[0{row};00{column}H"),
+        };
+        self.put(text.as_bytes());
+    }
+
+    fn aim(&mut self) {
+        let cell = self.target();
+        self.goto(cell);
+    }
+
+    /// The bytes that bring the cursor to a cell worth visiting.
+    pub fn aimed(mut self) -> Vec<u8> {
+        self.aim();
+        self.bytes
+    }
+
+    fn text(&mut self, most: usize) {
+        for _ in 0..self.random.between(1, most) {
+            let letter = self.random.between(0x20, 0x7E) as u8;
+            self.bytes.push(letter);
+        }
+    }
+
+    fn pen(&mut self) {
+        let list = self.random.pick(&["0", "1", "4", "5;7", "8", "1;4;5;7;8", "0;1", ""]);
+        self.put(format!("\x1B[{list}m").as_bytes());
+    }
+
+    /// Labels in protected cells with fields between and behind them.
+    fn form(&mut self) {
+        if self.random.chance(20) {
+            self.put(b"\x1B[6h\x1B[2J\x1B[6l");
+        }
+        for _ in 0..self.random.between(2, 9) {
+            self.aim();
+            if self.random.chance(25) {
+                self.pen();
+            }
+            self.escape(b'V');
+            self.text(10);
+            self.escape(b'W');
+            match self.random.below(3) {
+                0 => self.text(12),
+                1 => {
+                    let n = self.random.between(1, 14);
+                    self.put(format!("\x1B[{n}C").as_bytes());
+                }
+                _ => {}
+            }
+            if self.random.chance(70) {
+                self.put(b"\x1BV|\x1BW");
+            }
+        }
+    }
+
+    /// Some rows of alternating cells, or cells in a short period that runs across the margin.
+    fn dense_rows(&mut self) {
+        let row = self.random.between(1, self.rows.into()) as u16;
+        self.goto((row, 1));
+        let period = self.random.between(2, 5);
+        self.escape(b'V');
+        for _ in 0..usize::from(self.columns) / 2 {
+            self.put(b"#");
+            self.put(if period == 2 { b"\x1B[C" } else { b"\x1B[2C" });
+            if self.random.chance(4) {
+                self.put(b"\x1BW?\x1BV");
+            }
+        }
+        self.escape(b'W');
+    }
+
+    /// A whole page of alternating cells, painted through tab stops on every second column.
+    pub fn dense_page(mut self) -> Vec<u8> {
+        self.put(b"\x1Bc");
+        let shift = self.random.below(2) as u16;
+        self.put(format!("\x1B[{}G", 1 + shift).as_bytes());
+        for _ in 0..self.columns / 2 {
+            self.put(b"\x1BH\x1B[2C");
+        }
+        self.put(b"\x1B[H\x1BV");
+        for row in 1..=self.rows {
+            if shift == 1 {
+                self.put(b"\x09");
+            }
+            for column in 0..self.columns / 2 {
+                self.put(&[b'!' + (column % 90) as u8, 0x09]);
+            }
+            if shift == 0 && row < self.rows {
+                self.put(b"\r\n");
+            }
+        }
+        self.put(b"\x1BW\x1B[H");
+        self.bytes
+    }
+
+    /// A whole page of protected cells, with none or a few unprotected ones left in it.
+    fn wall(&mut self) {
+        let cells = usize::from(self.rows) * usize::from(self.columns);
+        self.put(b"\x1BV\x1B[H");
+        self.bytes.extend((0..cells).map(|place| b'#' + (place % 7) as u8));
+        self.escape(b'W');
+        for _ in 0..self.random.below(5).saturating_sub(1) {
+            self.aim();
+            self.text(2);
+        }
+    }
+
+    /// A page in a few bytes that repeat: the period need not divide a row.
+    pub fn pattern(mut self) -> Vec<u8> {
+        match self.random.below(10) {
+            0..=2 => return b"\x1BV#\x1BW.".to_vec(),
+            3 => return b"\x1BV###########".to_vec(),
+            _ => {}
+        }
+        self.escape(b'V');
+        self.text(5);
+        if self.random.chance(20) {
+            self.pen();
+        }
+        self.escape(b'W');
+        self.text(9);
+        self.bytes
+    }
+
+    fn odd_number(&mut self) -> String {
+        let edges = [
+            self.rows - 1,
+            self.rows,
+            self.rows + 1,
+            self.columns - 1,
+            self.columns,
+            self.columns + 1,
+        ];
+        match self.random.below(5) {
+            0 | 1 => self.random.pick(&edges).to_string(),
+            2 => self.random.below(200).to_string(),
+            3 => self.random.below(12).to_string(),
+            _ => {
+                let list = [
+                    "9999",
+                    "09999",
+                    "10000",
+                    "99999",
+                    "65536",
+                    "65537",
+                    "65541",
+                    "4294967297",
+                    "0",
+                    "00",
+                    "0001",
+                    "00006",
+                    "3",
+                    "99",
+                    "1000",
+                    "9998",
+                    "256",
+                    "257",
+                    "261",
+                ];
+                self.random.pick(&list).to_string()
+            }
+        }
+    }
+
+    /// An argument that the final byte lists, or one it may not.
+    fn argument(&mut self, last: u8, index: usize, odd: usize) -> String {
+        if self.random.chance(10) {
+            return String::new();
+        }
+        if self.random.chance(odd) {
+            return self.odd_number();
+        }
+        let listed: &[u16] = match last {
+            b'A'..=b'F' | b'I' | b'Z' => &[0, 1, 2, 3, 5, 9, 40],
+            b'W' => &[0, 0, 2, 5],
+            b'J' | b'K' => &[0, 1, 2],
+            b'm' => &[0, 1, 4, 5, 7, 8],
+            b'h' | b'l' => &[6],
+            b'n' => &[5, 6],
+            _ => &[0, 1, 2, 5, 6],
+        };
+        let number = match last {
+            b'G' => self.random.between(1, self.columns.into()) as u16,
+            b'H' | b'f' if index == 1 => self.random.between(0, self.columns.into()) as u16,
+            b'd' | b'H' | b'f' => self.random.between(0, self.rows.into()) as u16,
+            _ => self.random.pick(listed),
+        };
+        number.to_string()
+    }
+
+    /// A finished ESC [ sequence; `odd` is how many in a hundred go beyond what is listed.
+    fn sequence(&mut self, odd: usize) {
+        let last = if self.random.chance(96) {
+            self.random.pick(FINALS)
+        } else {
+            self.random.between(0x40, 0x7E) as u8
+        };
+        let listed = match last {
+            b'H' | b'f' => 2,
+            b'm' | b'h' | b'l' => 8,
+            _ => 1,
+        };
+        let count = match self.random.below(20) {
+            _ if self.random.chance(odd / 3) => self.random.between(listed + 1, 10),
+            0 => 0,
+            1..=5 if listed == 8 => self.random.between(2, 8),
+            _ => listed.min(2 - usize::from(self.random.chance(45))),
+        };
+        self.put(b"\x1B[");
+        for index in 0..count {
+            let argument = self.argument(last, index, odd);
+            self.put(if index == 0 { b"" } else { b";" });
+            self.put(argument.as_bytes());
+        }
+        self.put(&[last]);
+    }
+
+    fn command(&mut self) {
+        match self.random.below(100) {
+            0..=69 => self.sequence(15),
+            70..=78 => self.escape(b'V'),
+            79..=84 => self.escape(b'W'),
+            85 | 86 => self.escape(b'c'),
+            87 => self.escape(b'`'),
+            88 | 89 => self.escape(b'b'),
+            _ => {
+                let byte = self.random.pick(b"DEMHSHH");
+                self.escape(byte);
+            }
+        }
+        if self.random.chance(30) {
+            self.text(3);
+        }
+    }
+
+    /// A sequence with something in it that spoils, drops or restarts it.
+    fn broken(&mut self) {
+        let before = self.bytes.len();
+        match self.random.below(8) {
+            0 => {
+                let byte = self.random.between(0x30, 0x7E) as u8;
+                self.escape(byte);
+            }
+            1 => {
+                let list = self.random.pick(&["6", "1", "0", "", "4", "5"]);
+                let list = vec![list; self.random.between(7, 10)].join(";");
+                let last = self.random.pick(b"mhlmhlHn");
+                self.put(format!("\x1B[{list}").as_bytes());
+                self.put(&[last]);
+            }
+            2 => {
+                self.put(b"\x1B");
+                for _ in 0..self.random.between(1, 3) {
+                    let byte = self.random.between(0x20, 0x2F) as u8;
+                    self.put(&[byte]);
+                }
+                let byte = self.random.between(0x30, 0x7E) as u8;
+                self.put(&[byte]);
+            }
+            3 => {
+                let number = self.random.pick(&["10000", "99999", "65537", "1;2;3;4;5;6;7;8;9"]);
+                let rest = self.random.pick(&["", "1", ";1", "5;6", ";;", ";;;;;;;;;", "00000"]);
+                let last = self.random.pick(FINALS);
+                self.put(format!("\x1B[{number}{rest}").as_bytes());
+                self.put(&[last]);
+            }
+            _ => self.command(),
+        }
+        if self.random.chance(65) && self.bytes.len() > before + 1 {
+            let place = self.random.between(before + 1, self.bytes.len() - 1);
+            let byte = match self.random.below(4) {
+                0 => self.random.between(0x20, 0x2F) as u8,
+                1 => self.random.pick(b":<=>?:?"),
+                2 => self.random.pick(NOISE),
+                _ => self.random.byte(),
+            };
+            self.bytes.insert(place, byte);
+        }
+    }
+
+    /// One sequence, after locks are lifted, so that its refusal shows alone.
+    pub fn probe(mut self) -> Vec<u8> {
+        self.escape(b'b');
+        self.aim();
+        self.sequence(45);
+        self.bytes
+    }
+
+    /// One byte outside or inside a sequence of each kind; `step` goes through all of them.
+    pub fn probe_byte(mut self, step: usize) -> Vec<u8> {
+        self.escape(b'b');
+        if self.random.chance(60) {
+            self.aim();
+        }
+        let before = match step % 6 {
+            0 => "",
+            1 => "\x1B",
+            2 => self.random.pick(&["\x1B#", "\x1B (", "\x1B/"]),
+            3 => "\x1B[",
+            4 => self.random.pick(&["\x1B[3", "\x1B[2;", "\x1B[;;;;;;;", "\x1B[9999", "\x1B[6;6"]),
+            _ => self.random.pick(&["\x1B[?", "\x1B[1 ", "\x1B[10000", "\x1B[;;;;;;;;", "\x1B[4:"]),
+        };
+        self.put(before.as_bytes());
+        self.put(&[(step / 6 % 256) as u8]);
+        if self.random.chance(40) {
+            let after =
+                self.random.pick(&["m", "5", "0n", "4;H", "H", ";1m", "C", "A", "\x18", "h"]);
+            self.put(after.as_bytes());
+        }
+        self.bytes
+    }
+
+    fn controls(&mut self) {
+        for _ in 0..self.random.between(1, 8) {
+            let byte = match self.random.below(6) {
+                0 => self.random.pick(&NOISE[..16]),
+                1 => self.random.between(0x20, 0x7E) as u8,
+                2 if self.random.chance(10) => self.random.between(0x80, 0xFF) as u8,
+                _ => self.random.pick(&[0x08, 0x09, 0x0A, 0x0D, 0x09, 0x18, 0x1A, 0x7F]),
+            };
+            self.put(&[byte]);
+        }
+    }
+
+    fn erase(&mut self) {
+        self.aim();
+        if self.random.chance(40) {
+            self.put(b"\x1B[6h");
+        }
+        let part = self.random.pick(&["K", "0K", "1K", "2K", "K", "1K", "J", "0J", "1J", "2J"]);
+        self.put(format!("\x1B[{part}").as_bytes());
+        if self.random.chance(70) {
+            self.put(b"\x1B[6l");
+        }
+    }
+
+    fn scroll(&mut self) {
+        let column = self.random.between(1, self.columns.into()) as u16;
+        if self.random.chance(50) {
+            self.goto((self.rows, column));
+            let part = self.random.pick(&["\x1BD", "\x1BE", "\n", "\x1BD\x1BD", "\r\n"]);
+            self.put(part.as_bytes());
+        } else {
+            self.goto((1, column));
+            self.put(b"\x1BM");
+        }
+        if self.random.chance(30) {
+            self.put(b"~\x1BM\x1BD");
+        }
+    }
+
+    fn tabs(&mut self) {
+        for _ in 0..self.random.between(2, 8) {
+            self.aim();
+            let part = self.random.pick(&[
+                "\x1BH",
+                "\x1BH",
+                "\x1B[W",
+                "\x1B[0W",
+                "\x09",
+                "\x1B[I",
+                "\x1B[2I",
+                "\x1B[Z",
+                "\x1B[2Z",
+                "\x1B[3Z",
+                "\x1B[2W",
+                "\x09\x09",
+                "\x1BH\x1B[I",
+                "\x1BH\x1B[Z",
+            ]);
+            self.put(part.as_bytes());
+        }
+        if self.random.chance(20) {
+            let part = self.random.pick(&["\x1B[5W", "\x1Bc"]);
+            self.put(part.as_bytes());
+            self.put(b"\x09");
+        }
+    }
+
+    fn send(&mut self) {
+        let part =
+            self.random.pick(&["\x1BS", "\x1BS", "\x1BS\x1BS", "\x1B[5n", "\x1B[6n", "\x1B[n"]);
+        self.put(part.as_bytes());
+    }
+
+    fn locks(&mut self) {
+        let part = self.random.pick(&[
+            "\x1B`",
+            "\x1B`",
+            "\x1Bb",
+            "\x1B[99d",
+            "\x1B`\x1B[7n",
+            "\x1Bx\x1Bb",
+            "\x1B`\x1Bb",
+            "\x1B[3J",
+        ]);
+        self.put(part.as_bytes());
+    }
+
+    /// Text across the last cell, which goes to 1;1 and never scrolls.
+    fn last_cells(&mut self) {
+        let back = self.random.below(3) as u16;
+        self.goto((self.rows, self.columns - back));
+        self.text(6);
+    }
+
+    /// One scene of a host's work.
+    pub fn scene(mut self) -> Vec<u8> {
+        match self.random.below(100) {
+            0..=20 => self.form(),
+            21..=24 => self.dense_rows(),
+            25..=45 => {
+                for _ in 0..self.random.between(1, 4) {
+                    self.command();
+                }
+            }
+            46..=62 => self.broken(),
+            63..=68 => self.controls(),
+            69..=73 => self.erase(),
+            74..=77 => self.scroll(),
+            78..=84 => self.tabs(),
+            85..=89 => self.send(),
+            90..=92 => self.locks(),
+            93 => self.last_cells(),
+            94..=95 if self.rows < 48 || self.random.chance(30) => self.wall(),
+            _ => {
+                self.aim();
+                self.pen();
+                self.text(20);
+            }
+        }
+        self.bytes
+    }
+
+    /// Keys pressed one after another; `under` is the character at the cursor.
+    pub fn keys(self, under: u8) -> Vec<u32> {
+        let random = self.random;
+        let mut keys = Vec::new();
+        if random.chance(15) {
+            keys.push(u32::from(under));
+            keys.push(266);
+        }
+        let typed = |random: &mut Random| random.between(32, 126) as u32;
+        for _ in 0..random.between(1, 3) {
+            match random.below(20) {
+                0..=4 => (0..random.between(1, 6)).for_each(|_| keys.push(typed(random))),
+                5..=9 => {
+                    for _ in 0..random.between(1, 4) {
+                        keys.push(random.between(256, 262) as u32);
+                    }
+                }
+                10..=14 => {
+                    keys.extend([typed(random), typed(random), random.pick(&[258, 261, 256])]);
+                    keys.push(random.between(263, 265) as u32);
+                }
+                15 | 16 => keys.push(266),
+                17 => keys.push(267),
+                18 => keys.push(268),
+                _ => keys.push(random.pick(UNKNOWN_KEYS)),
+            }
+        }
+        keys
+    }
+}

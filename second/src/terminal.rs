@@ -1,0 +1,808 @@
+//! The terminal of document 01: page, state, host bytes, commands, keys, blocks and numbers.
+
+use crate::wrong;
+
+pub const PROTECTED: u8 = 0x01;
+pub const MODIFIED: u8 = 0x02;
+pub const VISUAL: u8 = 0x7C;
+
+pub const ROWS: [u16; 3] = [24, 27, 48];
+pub const COLUMNS: [u16; 3] = [80, 132, 160];
+pub const MOST_HOST_BYTES: usize = 65_536;
+const LARGEST_ARGUMENT: u16 = 9_999;
+
+// Kinds of the half-read sequence.
+const NONE: u8 = 0;
+const ESCAPE: u8 = 1;
+const INTERMEDIATE: u8 = 2;
+const BRACKET: u8 = 3;
+
+/// The half-read sequence; parts that its kind doesn't use are zero.
+#[derive(Clone, Copy, Debug, PartialEq, Eq)]
+pub struct Half {
+    pub kind: u8,
+    pub spoilt: bool,
+    pub count: u8,
+    pub arguments: [u16; 8],
+}
+
+#[derive(Clone, Debug, PartialEq, Eq)]
+pub struct State {
+    pub rows: u16,
+    pub columns: u16,
+    pub row: u16,
+    pub column: u16,
+    pub pen: u8,
+    pub erasure: bool,
+    pub manual: bool,
+    pub soft: bool,
+    pub message: u8,
+    pub half: Half,
+    pub stops: [bool; 160],
+}
+
+#[derive(Clone, Copy, Debug, PartialEq, Eq)]
+pub struct Answer {
+    pub number: u8,
+    pub taken: usize,
+    pub sent: usize,
+    pub stored: u32,
+}
+
+impl Answer {
+    /// A call that changed nothing: counts 0.
+    fn nothing(number: u8) -> Answer {
+        Answer { number, taken: 0, sent: 0, stored: 0 }
+    }
+}
+
+/// Number 3: a command's bytes exceed the room left.
+struct NoRoom;
+
+impl Half {
+    const OUTSIDE: Half = Half::of(NONE, false, 0);
+
+    const fn of(kind: u8, spoilt: bool, count: u8) -> Half {
+        Half { kind, spoilt, count, arguments: [0; 8] }
+    }
+
+    /// What the reader can leave: arguments not reached and unused parts 0, a spoilt one bare.
+    fn sound(&self) -> bool {
+        let count = usize::from(self.count);
+        match self.kind {
+            NONE | ESCAPE | INTERMEDIATE => *self == Half::of(self.kind, false, 0),
+            BRACKET if self.spoilt => *self == Half::of(BRACKET, true, 1),
+            BRACKET => {
+                (1..=8).contains(&count)
+                    && self.arguments.iter().all(|&n| n <= LARGEST_ARGUMENT)
+                    && (wrong::is(40) || self.arguments[count..].iter().all(|&n| n == 0))
+            }
+            _ => false,
+        }
+    }
+
+    /// Spoiling leaves one argument of 0.
+    fn spoil(&mut self) {
+        *self = Half::of(BRACKET, true, 1);
+    }
+
+    /// A digit builds the last argument; a number above 9,999 spoils.
+    fn digit(&mut self, digit: u8) {
+        if self.spoilt && !wrong::is(31) {
+            return;
+        }
+        let last = &mut self.arguments[usize::from(self.count) - 1];
+        let number = u32::from(*last) * 10 + u32::from(digit);
+        if number <= u32::from(LARGEST_ARGUMENT) {
+            *last = number as u16;
+        } else if wrong::is(20) {
+            *last = LARGEST_ARGUMENT;
+        } else {
+            self.spoil();
+        }
+    }
+
+    /// A semicolon begins the next argument; a ninth spoils.
+    fn next_argument(&mut self) {
+        if self.spoilt {
+            return;
+        }
+        if self.count < 8 {
+            self.count += 1;
+        } else if wrong::is(9) {
+            self.arguments[7] = 0;
+        } else {
+            self.spoil();
+        }
+    }
+}
+
+impl State {
+    pub const ZERO: State = State {
+        rows: 0,
+        columns: 0,
+        row: 0,
+        column: 0,
+        pen: 0,
+        erasure: false,
+        manual: false,
+        soft: false,
+        message: 0,
+        half: Half::OUTSIDE,
+        stops: [false; 160],
+    };
+
+    /// Cursor 1;1, plain pen, no stops, erasure mode reset, no lock or message, nothing half read.
+    fn fresh(rows: u16, columns: u16) -> State {
+        State { rows, columns, row: 1, column: 1, ..State::ZERO }
+    }
+
+    /// Number 2's part on the state; the size is a listed one.
+    pub fn sound(&self) -> bool {
+        (1..=self.rows).contains(&self.row)
+            && (1..=self.columns).contains(&self.column)
+            && self.pen & !(PROTECTED | VISUAL) == 0
+            && self.message <= 1
+            && self.half.sound()
+            && !self.stops[usize::from(self.columns)..].contains(&true)
+    }
+
+    fn locked(&self) -> bool {
+        self.manual || self.soft
+    }
+
+    /// The next stop to the right, else the last column.
+    fn tab_on(&mut self) {
+        let next = (self.column + 1..=self.columns).find(|&c| self.stop(c));
+        self.column = next.unwrap_or(if wrong::is(35) { self.column } else { self.columns });
+    }
+
+    /// The next stop to the left, else column 1.
+    fn tab_back(&mut self) {
+        self.column = (1..self.column).rev().find(|&c| self.stop(c)).unwrap_or(1);
+    }
+
+    fn stop(&self, column: u16) -> bool {
+        self.stops[usize::from(column) - 1]
+    }
+
+    fn set_stop(&mut self, on: bool) {
+        self.stops[usize::from(self.column) - 1] = on;
+    }
+}
+
+/// Number 1: the size is listed and both lent parts have its length.
+pub fn fits(rows: u16, columns: u16, characters: &[u8], marks: &[u8]) -> bool {
+    let cells = usize::from(rows) * usize::from(columns);
+    ROWS.contains(&rows)
+        && COLUMNS.contains(&columns)
+        && characters.len() == cells
+        && marks.len() == cells
+}
+
+pub fn good_character(byte: u8) -> bool {
+    (0x20..=0x7E).contains(&byte)
+}
+
+pub fn good_marks(byte: u8) -> bool {
+    byte < 0x80
+}
+
+/// Numbers 1 and 2, which every host and key call begins with.
+fn check(state: &State, characters: &[u8], marks: &[u8]) -> u8 {
+    if !fits(state.rows, state.columns, characters, marks) {
+        return 1;
+    }
+    let page = characters.iter().all(|&byte| good_character(byte))
+        && marks.iter().all(|&byte| good_marks(byte));
+    if state.sound() && page {
+        0
+    } else {
+        2
+    }
+}
+
+/// A fresh page; a refused start hands back a state of zeros and leaves the lent parts.
+pub fn start(rows: u16, columns: u16, characters: &mut [u8], marks: &mut [u8]) -> (State, Answer) {
+    if !fits(rows, columns, characters, marks) {
+        return (State::ZERO, Answer::nothing(1));
+    }
+    characters.fill(0x20);
+    marks.fill(0);
+    let stored = u32::from(rows) * u32::from(columns);
+    (State::fresh(rows, columns), Answer { number: 0, taken: 0, sent: 0, stored })
+}
+
+/// Host bytes, one after another, until all are taken or one command's bytes find no room.
+pub fn host(
+    state: &mut State,
+    characters: &mut [u8],
+    marks: &mut [u8],
+    bytes: &[u8],
+    output: &mut [u8],
+) -> Answer {
+    let number = check(state, characters, marks);
+    if number != 0 {
+        return Answer::nothing(number);
+    }
+    if bytes.len() > MOST_HOST_BYTES - usize::from(wrong::is(39)) {
+        return Answer::nothing(6);
+    }
+    let mut screen = Screen { state, characters, marks, output, sent: 0, stored: 0 };
+    let stop = bytes.iter().position(|&byte| screen.byte(byte).is_err());
+    if wrong::is(2) {
+        screen.state.half = Half::OUTSIDE;
+    }
+    let mut taken = stop.unwrap_or(bytes.len());
+    if wrong::is(33) && stop.is_some() {
+        screen.state.half = Half::OUTSIDE;
+        taken += 1;
+    }
+    let number = if stop.is_some() { 3 } else { 0 };
+    Answer { number, taken, sent: screen.sent, stored: screen.stored }
+}
+
+/// One key; every number but 0 leaves all as it was.
+pub fn key(
+    state: &mut State,
+    characters: &mut [u8],
+    marks: &mut [u8],
+    key: u32,
+    output: &mut [u8],
+) -> Answer {
+    let number = check(state, characters, marks);
+    if number != 0 {
+        return Answer::nothing(number);
+    }
+    let unknown = !matches!(key, 32..=126 | 256..=268);
+    let refused = state.locked() && key != 268;
+    let mut screen = Screen { state, characters, marks, output, sent: 0, stored: 0 };
+    let needs = screen.key_lacks_its_cell(key);
+    let number = match (unknown, refused, needs) {
+        (true, true, _) if wrong::is(16) => 5,
+        (true, _, _) => 4,
+        (_, true, true) if wrong::is(18) => 7,
+        (_, true, _) => 5,
+        (_, _, true) => 7,
+        _ => 0,
+    };
+    if number != 0 {
+        return Answer::nothing(number);
+    }
+    match screen.key(key) {
+        Ok(()) => Answer { number: 0, taken: 0, sent: screen.sent, stored: screen.stored },
+        Err(NoRoom) => Answer::nothing(3),
+    }
+}
+
+/// What one call works on: the state, the lent parts, and what it has sent and stored so far.
+struct Screen<'a> {
+    state: &'a mut State,
+    characters: &'a mut [u8],
+    marks: &'a mut [u8],
+    output: &'a mut [u8],
+    sent: usize,
+    stored: u32,
+}
+
+// The page.
+impl Screen<'_> {
+    fn cells(&self) -> usize {
+        self.characters.len()
+    }
+
+    fn width(&self) -> usize {
+        usize::from(self.state.columns)
+    }
+
+    /// The cursor's place in page order, from 0.
+    fn here(&self) -> usize {
+        usize::from(self.state.row - 1) * self.width() + usize::from(self.state.column - 1)
+    }
+
+    fn go(&mut self, place: usize) {
+        self.state.row = (place / self.width()) as u16 + 1;
+        self.state.column = (place % self.width()) as u16 + 1;
+    }
+
+    fn protected(&self, place: usize) -> bool {
+        self.marks[place] & PROTECTED != 0
+    }
+
+    /// A row begins here: fields end at the right edge.
+    fn margin(&self, place: usize) -> bool {
+        if wrong::is(11) {
+            return place == 0;
+        }
+        place.is_multiple_of(self.width())
+    }
+
+    fn starts_field(&self, place: usize) -> bool {
+        !self.protected(place) && (self.margin(place) || self.protected(place - 1))
+    }
+
+    fn field_start(&self, place: usize) -> usize {
+        (0..=place).rev().find(|&p| self.starts_field(p)).unwrap_or(place)
+    }
+
+    /// The place after the last cell of the field that has this cell.
+    fn field_end(&self, place: usize) -> usize {
+        let mut beyond = place + 1..self.cells();
+        beyond.find(|&p| self.margin(p) || self.protected(p)).unwrap_or(self.cells())
+    }
+
+    /// Erasing puts 20 with marks 0; with erasure mode reset it passes protected cells by.
+    fn erase(&mut self, from: usize, to: usize) {
+        for place in from..to {
+            if self.state.erasure || !self.protected(place) || wrong::is(13) {
+                self.characters[place] = 0x20;
+                self.marks[place] = 0;
+                self.stored += 1;
+            }
+        }
+    }
+
+    /// Rows move up by one and a row of 20 with marks 0 comes in; every cell counts as stored.
+    fn scroll_up(&mut self) {
+        let (width, cells) = (self.width(), self.cells());
+        self.characters.copy_within(width.., 0);
+        self.characters[cells - width..].fill(0x20);
+        if !wrong::is(14) {
+            self.marks.copy_within(width.., 0);
+        }
+        self.marks[cells - width..].fill(0);
+        self.stored += cells as u32;
+    }
+
+    fn scroll_down(&mut self) {
+        let (width, cells) = (self.width(), self.cells());
+        self.characters.copy_within(..cells - width, width);
+        self.characters[..width].fill(0x20);
+        self.marks.copy_within(..cells - width, width);
+        self.marks[..width].fill(0);
+        self.stored += cells as u32;
+    }
+}
+
+// What is sent.
+impl Screen<'_> {
+    /// The bytes go out whole or not at all.
+    fn send(&mut self, bytes: &[u8]) -> Result<(), NoRoom> {
+        let room = self.output.len() - self.sent;
+        if bytes.len() + usize::from(wrong::is(37)) > room {
+            return Err(NoRoom);
+        }
+        self.output[self.sent..][..bytes.len()].copy_from_slice(bytes);
+        self.sent += bytes.len();
+        Ok(())
+    }
+
+    /// Each field sent, in page order: its place and all its characters; then 03.
+    fn block(&self, changed: bool) -> Vec<u8> {
+        let mut bytes = Vec::new();
+        let mut place = 0;
+        while place < self.cells() {
+            if !self.starts_field(place) {
+                place += 1;
+                continue;
+            }
+            let end = self.field_end(place);
+            let looked_at = if wrong::is(34) { place + 1 } else { end };
+            let modified = self.marks[place..looked_at].iter().any(|m| m & MODIFIED != 0);
+            if modified || !changed {
+                let (row, column) = (place / self.width() + 1, place % self.width() + 1);
+                bytes.extend_from_slice(format!("\x1B[{row};{column}f").as_bytes());
+                bytes.extend_from_slice(&self.characters[place..end]);
+            }
+            place = end;
+        }
+        bytes.push(0x03);
+        bytes
+    }
+
+    /// A block that is sent clears modified on all unprotected cells; a refused one doesn't.
+    fn send_block(&mut self, changed: bool) -> Result<(), NoRoom> {
+        let bytes = self.block(changed);
+        if wrong::is(4) {
+            self.clear_modified();
+        }
+        self.send(&bytes)?;
+        self.clear_modified();
+        Ok(())
+    }
+
+    fn clear_modified(&mut self) {
+        for marks in self.marks.iter_mut().filter(|marks| **marks & PROTECTED == 0) {
+            *marks &= !MODIFIED;
+        }
+    }
+}
+
+// Host bytes and commands.
+impl Screen<'_> {
+    /// One host byte; on `NoRoom` nothing has changed and the byte isn't taken.
+    fn byte(&mut self, byte: u8) -> Result<(), NoRoom> {
+        let inside = self.state.half.kind != NONE;
+        match byte {
+            0x1A if inside && wrong::is(8) => self.refuse(),
+            0x18 | 0x1A => self.state.half = Half::OUTSIDE,
+            0x1B => self.state.half = Half::of(ESCAPE, false, 0),
+            0x80.. if wrong::is(32) && !inside => {}
+            0x80.. => self.refuse(),
+            0x7F if inside && wrong::is(7) => {}
+            0x0D if inside && wrong::is(21) => self.control(byte),
+            ..0x20 | 0x7F if inside => self.refuse(),
+            ..0x20 | 0x7F => self.control(byte),
+            _ => match self.state.half.kind {
+                ESCAPE => return self.after_escape(byte),
+                INTERMEDIATE if byte < 0x30 => {}
+                INTERMEDIATE => self.refuse(),
+                BRACKET => return self.after_bracket(byte),
+                _ => self.text(byte),
+            },
+        }
+        Ok(())
+    }
+
+    /// Soft lock and message 1; a half-read sequence is over; nothing else changes.
+    fn refuse(&mut self) {
+        self.state.half = Half::OUTSIDE;
+        self.state.soft = true;
+        self.state.message = 1;
+    }
+
+    /// Text takes the pen, is not modified, and never scrolls.
+    fn text(&mut self, byte: u8) {
+        let here = self.here();
+        let kept = if wrong::is(27) { self.marks[here] & MODIFIED } else { 0 };
+        self.characters[here] = byte;
+        self.marks[here] = self.state.pen | kept;
+        self.stored += 1;
+        if here + 1 < self.cells() {
+            self.go(here + 1);
+        } else if wrong::is(3) {
+            self.scroll_up();
+            self.state.column = 1;
+        } else {
+            self.go(0);
+        }
+    }
+
+    /// Control bytes outside a sequence; those not listed are ignored.
+    fn control(&mut self, byte: u8) {
+        match byte {
+            0x08 => self.left(1),
+            0x09 => self.state.tab_on(),
+            0x0A => self.line_down(),
+            0x0D => self.state.column = 1,
+            _ => {}
+        }
+    }
+
+    fn up(&mut self, n: u16) {
+        self.state.row = self.state.row.saturating_sub(n).max(1);
+    }
+
+    fn down(&mut self, n: u16) {
+        self.state.row = (self.state.row + n).min(self.state.rows);
+    }
+
+    fn left(&mut self, n: u16) {
+        self.state.column = self.state.column.saturating_sub(n).max(1);
+    }
+
+    fn right(&mut self, n: u16) {
+        self.state.column = (self.state.column + n).min(self.state.columns);
+    }
+
+    /// Down one; at the last row the page scrolls up.
+    fn line_down(&mut self) {
+        if self.state.row == self.state.rows {
+            self.scroll_up();
+        } else {
+            self.down(1);
+        }
+    }
+
+    /// Up one; at row 1 the page scrolls down.
+    fn line_up(&mut self) {
+        if self.state.row == 1 {
+            self.scroll_down();
+        } else {
+            self.up(1);
+        }
+    }
+
+    /// The byte after ESC, 20 to 7E.
+    fn after_escape(&mut self, byte: u8) -> Result<(), NoRoom> {
+        match byte {
+            0x20..=0x2F => {
+                self.state.half.kind = INTERMEDIATE;
+                return Ok(());
+            }
+            b'[' => {
+                self.state.half = Half::of(BRACKET, false, 1);
+                return Ok(());
+            }
+            b'D' => self.line_down(),
+            b'E' => {
+                self.line_down();
+                self.state.column = 1;
+            }
+            b'M' => self.line_up(),
+            b'H' => self.state.set_stop(true),
+            b'V' => self.state.pen |= PROTECTED,
+            b'W' => self.state.pen &= !PROTECTED,
+            b'S' => self.send_block(false)?,
+            b'c' => self.as_fresh(),
+            b'`' => self.state.manual = true,
+            b'b' => {
+                self.state.manual = false;
+                self.state.soft = false;
+                self.state.message = 0;
+            }
+            _ => {
+                self.refuse();
+                return Ok(());
+            }
+        }
+        self.state.half = Half::OUTSIDE;
+        Ok(())
+    }
+
+    /// ESC c: page and state as a start makes them, every cell stored.
+    fn as_fresh(&mut self) {
+        let stops = self.state.stops;
+        self.characters.fill(0x20);
+        self.marks.fill(0);
+        *self.state = State::fresh(self.state.rows, self.state.columns);
+        if wrong::is(15) {
+            self.state.stops = stops;
+        }
+        if !wrong::is(19) {
+            self.stored += self.cells() as u32;
+        }
+    }
+
+    /// A byte after ESC [, 20 to 7E.
+    fn after_bracket(&mut self, byte: u8) -> Result<(), NoRoom> {
+        match byte {
+            b'0'..=b'9' => self.state.half.digit(byte - b'0'),
+            b';' => self.state.half.next_argument(),
+            ..0x40 => self.state.half.spoil(),
+            _ => {
+                if self.sequence(byte)? {
+                    self.state.half = Half::OUTSIDE;
+                } else {
+                    self.refuse();
+                }
+            }
+        }
+        Ok(())
+    }
+
+    /// How many arguments a final byte allows; unlisted ones allow none.
+    fn allowed(last: u8) -> u8 {
+        match last {
+            b'A'..=b'G' | b'I' | b'J' | b'K' | b'W' | b'Z' | b'd' | b'n' => 1,
+            b'H' | b'f' => 2,
+            b'h' | b'l' | b'm' => 8,
+            _ => 0,
+        }
+    }
+
+    /// A finished ESC [ sequence; false if it is refused, and then nothing has changed.
+    fn sequence(&mut self, last: u8) -> Result<bool, NoRoom> {
+        let half = self.state.half;
+        if half.spoilt || half.count > Screen::allowed(last) {
+            return Ok(false);
+        }
+        let arguments = &half.arguments[..usize::from(half.count)];
+        let number = arguments[0];
+        let many = number.max(1);
+        match last {
+            b'A' => self.up(many),
+            b'B' => self.down(many),
+            b'C' => self.right(many),
+            b'D' => self.left(many),
+            b'E' => {
+                self.down(many);
+                self.state.column = 1;
+            }
+            b'F' => {
+                self.up(many);
+                self.state.column = 1;
+            }
+            b'G' if many <= self.state.columns => self.state.column = many,
+            b'G' => return Ok(!wrong::is(23)),
+            b'd' if many <= self.state.rows => self.state.row = many,
+            b'd' => return Ok(false),
+            b'H' => return Ok(self.address(many, half.arguments[1].max(1))),
+            b'f' => return Ok(self.address_keeping(number, half.arguments[1])),
+            // No row has more than 160 stops: further steps stay at the edge.
+            b'I' => (0..many.min(160)).for_each(|_| self.state.tab_on()),
+            b'Z' => (0..many.min(160)).for_each(|_| self.state.tab_back()),
+            b'W' => match number {
+                0 => self.state.set_stop(true),
+                2 => self.state.set_stop(false),
+                5 => self.state.stops = [false; 160],
+                _ => return Ok(false),
+            },
+            b'J' => return Ok(self.erase_part(number, 0, self.cells())),
+            b'K' => {
+                let first = usize::from(self.state.row - 1) * self.width();
+                return Ok(self.erase_part(number, first, first + self.width()));
+            }
+            b'm' => return Ok(self.visual_marks(arguments)),
+            b'h' | b'l' => {
+                let good = |&n: &u16| n == 6 || (n == 0 && wrong::is(25));
+                if !arguments.iter().all(good) {
+                    return Ok(false);
+                }
+                self.state.erasure = last == b'h';
+            }
+            b'n' => match number {
+                5 => self.send(b"\x1B[0n")?,
+                6 => {
+                    let (row, column) = (self.state.row, self.state.column);
+                    let report = if wrong::is(10) {
+                        format!("\x1B[{row:02};{column:02}R")
+                    } else {
+                        format!("\x1B[{row};{column}R")
+                    };
+                    self.send(report.as_bytes())?;
+                }
+                _ => return Ok(false),
+            },
+            _ => return Ok(false),
+        }
+        Ok(true)
+    }
+
+    /// Row and column, each within the page or refused.
+    fn address(&mut self, row: u16, column: u16) -> bool {
+        let good = row <= self.state.rows && column <= self.state.columns;
+        if good {
+            self.state.row = row;
+            self.state.column = column;
+        }
+        good
+    }
+
+    /// As H, but a 0 column with a row above 0 keeps the column.
+    fn address_keeping(&mut self, row: u16, column: u16) -> bool {
+        let keep = column == 0 && (row > 0 || wrong::is(22)) && !wrong::is(1);
+        let column = if keep { self.state.column } else { column.max(1) };
+        self.address(row.max(1), column)
+    }
+
+    /// Within a page or row: 0 from the cursor, 1 up to it, both with its cell, 2 all.
+    fn erase_part(&mut self, which: u16, first: usize, end: usize) -> bool {
+        let here = self.here();
+        match which {
+            0 => self.erase(here, end),
+            1 => self.erase(first, here + usize::from(!wrong::is(30))),
+            2 => self.erase(first, end),
+            _ => return false,
+        }
+        true
+    }
+
+    /// The whole list is looked at before the pen changes; protection stays.
+    fn visual_marks(&mut self, arguments: &[u16]) -> bool {
+        let mut pen = self.state.pen;
+        for argument in arguments {
+            match argument {
+                0 if wrong::is(26) => pen = 0,
+                0 => pen &= !VISUAL,
+                1 => pen |= 0x04,
+                4 => pen |= 0x08,
+                5 => pen |= 0x10,
+                7 => pen |= 0x20,
+                8 => pen |= 0x40,
+                _ => return false,
+            }
+            if wrong::is(6) {
+                self.state.pen = pen;
+            }
+        }
+        self.state.pen = pen;
+        true
+    }
+}
+
+// Keys.
+impl Screen<'_> {
+    /// Number 7: typing and field editing need an unprotected cell, field search needs a field.
+    fn key_lacks_its_cell(&self, key: u32) -> bool {
+        match key {
+            32..=126 | 263..=265 => self.protected(self.here()),
+            260 | 261 => (0..self.cells()).all(|place| self.protected(place)),
+            _ => false,
+        }
+    }
+
+    fn key(&mut self, key: u32) -> Result<(), NoRoom> {
+        let (here, cells) = (self.here(), self.cells());
+        match key {
+            32..=126 => self.typed(key as u8),
+            256 => self.up(1),
+            257 => self.down(1),
+            258 => self.left(1),
+            259 => self.right(1),
+            // The first field that starts after the cursor, else the first.
+            260 => {
+                let mut order = (here + 1..cells).chain(0..cells);
+                self.go(order.find(|&p| self.starts_field(p)).unwrap_or(here));
+            }
+            // The last field that starts before the cursor, else the last.
+            261 => {
+                let around = if wrong::is(12) { here } else { cells };
+                let mut order = (0..here).rev().chain((0..around).rev());
+                self.go(order.find(|&p| self.starts_field(p)).unwrap_or(here));
+            }
+            262 => self.go((0..cells).find(|&p| !self.protected(p)).unwrap_or(0)),
+            263 => {
+                let start = self.field_start(here);
+                let end = self.field_end(here);
+                self.characters[start..end].fill(0x20);
+                self.store(start, end);
+                self.go(start);
+            }
+            // The rest of the field closes up, a 20 at its end.
+            264 => {
+                let end = self.field_end(here);
+                self.characters.copy_within(here + 1..end, here);
+                self.characters[end - 1] = 0x20;
+                if wrong::is(38) {
+                    self.marks.copy_within(here + 1..end, here);
+                }
+                self.store(here, end);
+                if wrong::is(36) {
+                    self.stored -= 1;
+                }
+            }
+            // A 20 comes in, the rest moves right, the last character is lost.
+            265 => {
+                let end = self.field_end(here);
+                self.characters.copy_within(here..end - 1, here + 1);
+                self.characters[here] = 0x20;
+                self.store(here, end);
+            }
+            266 => self.send_block(true)?,
+            267 => self.send_block(false)?,
+            _ => {
+                self.state.soft = false;
+                self.state.message = 0;
+                if wrong::is(17) {
+                    self.state.manual = false;
+                }
+            }
+        }
+        Ok(())
+    }
+
+    /// Keeps visual marks, sets modified, and goes on to the next unprotected cell, round the page.
+    fn typed(&mut self, character: u8) {
+        let (here, cells) = (self.here(), self.cells());
+        let same = self.characters[here] == character;
+        self.characters[here] = character;
+        if !(same && wrong::is(5)) {
+            self.marks[here] |= MODIFIED;
+        }
+        if wrong::is(28) {
+            self.marks[here] = MODIFIED | self.state.pen & VISUAL;
+        }
+        self.stored += 1;
+        let mut onward = (here + 1..cells).chain(0..here);
+        self.go(onward.find(|&p| !self.protected(p)).unwrap_or(here));
+    }
+
+    /// The cells that a field key stored: modified, and counted.
+    fn store(&mut self, from: usize, to: usize) {
+        for marks in &mut self.marks[from..to] {
+            *marks |= MODIFIED;
+        }
+        self.stored += (to - from) as u32;
+    }
+}

@@ -1,0 +1,204 @@
+//! Document 01's examples.
+
+use crate::frames::Mode;
+use crate::terminal::{host, key, start, Answer, State, MODIFIED, PROTECTED};
+
+/// A page of the size asked for, fresh, with its output.
+struct Page {
+    state: State,
+    characters: Vec<u8>,
+    marks: Vec<u8>,
+    output: Vec<u8>,
+}
+
+impl Page {
+    fn sized(rows: u16, columns: u16) -> Page {
+        let cells = usize::from(rows) * usize::from(columns);
+        let (mut characters, mut marks) = (vec![0; cells], vec![0; cells]);
+        let (state, answer) = start(rows, columns, &mut characters, &mut marks);
+        assert_eq!(answer, Answer { number: 0, taken: 0, sent: 0, stored: cells as u32 });
+        assert!(characters.iter().all(|&c| c == 0x20) && marks.iter().all(|&m| m == 0));
+        Page { state, characters, marks, output: vec![0xA5; 65_536] }
+    }
+
+    fn fresh() -> Page {
+        Page::sized(24, 80)
+    }
+
+    fn from_4_20() -> Page {
+        let mut page = Page::fresh();
+        assert_eq!(page.host(b"\x1B[4;20H").number, 0);
+        page
+    }
+
+    fn host(&mut self, bytes: &[u8]) -> Answer {
+        let Page { state, characters, marks, output } = self;
+        host(state, characters, marks, bytes, output)
+    }
+
+    fn key(&mut self, number: u32) -> Answer {
+        let Page { state, characters, marks, output } = self;
+        key(state, characters, marks, number, output)
+    }
+
+    fn cursor(&self) -> (u16, u16) {
+        (self.state.row, self.state.column)
+    }
+
+    fn refused(&self) -> bool {
+        self.state.soft && self.state.message == 1
+    }
+
+    fn room(mut self, room: usize) -> Page {
+        self.output.truncate(room);
+        self
+    }
+}
+
+/// Host bytes on a fresh page: the cursor after them, and whether something was refused.
+fn after(bytes: &[u8]) -> ((u16, u16), bool) {
+    let mut page = Page::fresh();
+    assert_eq!(page.host(bytes).number, 0);
+    (page.cursor(), page.refused())
+}
+
+#[test]
+fn whole_example() {
+    let input = b"001850
+011B564B4E1B5720201B562E1B57
+011B5B313B3366
+020034
+02010A
+02010A
+";
+    let output = b"00010100000780
+00010600000005
+00010300000000
+00010400000001
+000104000000001B5B313B3366342003
+0001040000000003
+";
+    assert_eq!(Mode::Transcript.run(input), output);
+    assert_eq!(Mode::Transcript.run(&input[..input.len() - 1]), output);
+}
+
+#[test]
+fn addresses() {
+    assert_eq!(after(b"\x1B[24;80H"), ((24, 80), false));
+    assert_eq!(after(b"\x1B[25;1H"), ((1, 1), true));
+    assert_eq!(after(b"\x1B[81G"), ((1, 1), false));
+    assert_eq!(after(b"\x1B[25d"), ((1, 1), true));
+    for (bytes, cursor) in [(b"\x1B[3G", (4, 3)), (b"\x1B[5f", (5, 20)), (b"\x1B[5H", (5, 1))] {
+        let mut page = Page::from_4_20();
+        assert_eq!(page.host(bytes).number, 0);
+        assert_eq!((page.cursor(), page.refused()), (cursor, false));
+    }
+}
+
+#[test]
+fn text_in_the_last_cell() {
+    let mut page = Page::fresh();
+    page.host(b"top\x1B[24;80H");
+    assert_eq!(page.host(b"A"), Answer { number: 0, taken: 1, sent: 0, stored: 1 });
+    assert_eq!(page.cursor(), (1, 1));
+    assert_eq!((&page.characters[..3], page.characters[1_919]), (&b"top"[..], b'A'));
+}
+
+#[test]
+fn arguments() {
+    assert_eq!(after(b"\x1B[1;1;1;1;1;1;1;1m"), ((1, 1), false));
+    assert_eq!(after(b"\x1B[1;1;1;1;1;1;1;1;1m"), ((1, 1), true));
+    assert_eq!(after(b"\x1B[9999C"), ((1, 80), false));
+    assert_eq!(after(b"\x1B[10000C"), ((1, 1), true));
+}
+
+#[test]
+fn lengths_of_a_host_call() {
+    let mut page = Page::fresh();
+    assert_eq!(page.host(b""), Answer { number: 0, taken: 0, sent: 0, stored: 0 });
+    let all = Answer { number: 0, taken: 65_536, sent: 0, stored: 65_536 };
+    assert_eq!(page.host(&[b'x'; 65_536]), all);
+    let before = page.state.clone();
+    assert_eq!(page.host(&[b'y'; 65_537]), Answer { number: 6, taken: 0, sent: 0, stored: 0 });
+    assert_eq!(page.state, before);
+    assert!(!page.characters.contains(&b'y'));
+}
+
+#[test]
+fn room_for_a_changed_block() {
+    let mut page = Page::fresh().room(0);
+    assert_eq!(page.key(266), Answer { number: 3, taken: 0, sent: 0, stored: 0 });
+    let mut page = Page::fresh().room(1);
+    assert_eq!(page.key(266), Answer { number: 0, taken: 0, sent: 1, stored: 0 });
+    assert_eq!(page.output, [0x03]);
+}
+
+#[test]
+fn sequence_across_calls() {
+    let mut page = Page::fresh();
+    for byte in b"\x1B[12;34H" {
+        assert_eq!(page.host(&[*byte]).taken, 1);
+    }
+    assert_eq!(page.cursor(), (12, 34));
+}
+
+#[test]
+fn no_room_leaves_the_tag() {
+    let mut page = Page::fresh().room(5);
+    assert_eq!(page.key(65).stored, 1);
+    let before = (page.state.clone(), page.marks.clone());
+    assert_eq!(page.key(266).number, 3);
+    assert_eq!((page.state.clone(), page.marks.clone()), before);
+    let answer = page.host(b"B\x1BSC");
+    assert_eq!(answer, Answer { number: 3, taken: 2, sent: 0, stored: 1 });
+    assert_eq!((page.marks[0], page.characters[1], page.characters[2]), (MODIFIED, b'B', 0x20));
+    assert_eq!(page.state.half.kind, 1);
+    assert_eq!(page.output, [0xA5; 5]);
+}
+
+#[test]
+fn same_character_sets_the_tag() {
+    let mut page = Page::fresh();
+    page.host(b"A\x1B[H");
+    assert_eq!(page.key(65).stored, 1);
+    assert_eq!(page.marks[0], MODIFIED);
+}
+
+#[test]
+fn refused_list_leaves_the_pen() {
+    let mut page = Page::fresh();
+    page.host(b"\x1B[1;99m");
+    assert_eq!((page.state.pen, page.refused()), (0, true));
+}
+
+#[test]
+fn refused_start() {
+    let (mut characters, mut marks) = (vec![7; 2_000], vec![9; 2_000]);
+    let (state, answer) = start(25, 80, &mut characters, &mut marks);
+    assert_eq!((state, answer), (State::ZERO, Answer { number: 1, taken: 0, sent: 0, stored: 0 }));
+    assert!(characters == [7; 2_000] && marks == [9; 2_000]);
+    let output = Mode::Transcript.run(b"0141\n001850\n001950\n0141\n\n");
+    assert_eq!(output, b"FF\n00010100000780\n01000000000000\nFF\nFF\n");
+}
+
+#[test]
+fn longest_block() {
+    let mut page = Page::sized(48, 160);
+    for (place, marks) in page.marks.iter_mut().enumerate() {
+        let column = place % 160 + 1;
+        *marks = if column > 1 && column % 2 == 1 { PROTECTED } else { 0 };
+    }
+    assert_eq!(page.key(267), Answer { number: 0, taken: 0, sent: 35_185, stored: 0 });
+    let answer = page.host(b"\x1BS\x1BS");
+    assert_eq!(answer, Answer { number: 3, taken: 3, sent: 35_185, stored: 0 });
+    let mut page = page.room(35_184);
+    assert_eq!(page.key(267).number, 3);
+}
+
+#[test]
+fn calls_frames() {
+    let output = Mode::Calls.run(b"2400030002\n2100\n21");
+    let zeros = "0".repeat(720);
+    let call = format!("01{}\n00000 {zeros}\n000000\n0000\n", "0".repeat(24));
+    assert_eq!(String::from_utf8_lossy(&output), format!("00\n{call}{call}"));
+}

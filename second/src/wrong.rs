@@ -1,0 +1,20 @@
+//! Forty wrong edits kept as switches; WRONG.md has a line on each. 0 is the right program.
+
+use std::cell::Cell;
+
+pub const COUNT: u8 = 40;
+
+/// Edits that no transcript can show; only `calls` reaches them.
+pub const CALLS_ONLY: [u8; 4] = [4, 37, 39, 40];
+
+thread_local! {
+    static CHOSEN: Cell<u8> = const { Cell::new(0) };
+}
+
+pub fn choose(number: u8) {
+    CHOSEN.with(|chosen| chosen.set(number));
+}
+
+pub fn is(number: u8) -> bool {
+    CHOSEN.with(|chosen| chosen.get() == number)
+}
