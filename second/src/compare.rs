@@ -13,7 +13,7 @@ pub fn generated(mode: Mode, seed: u64, frames: usize) -> Vec<u8> {
 }
 
 /// The other program's whole output; a bad end is told in a last line.
-fn run(program: &[String], input: &[u8]) -> Result<Vec<u8>, String> {
+pub fn run(program: &[String], input: &[u8]) -> Result<Vec<u8>, String> {
     let failed = |error| format!("{}: {error}", program[0]);
     let mut command = Command::new(&program[0]);
     command.args(&program[1..]).stdin(Stdio::piped()).stdout(Stdio::piped());

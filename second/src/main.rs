@@ -5,6 +5,7 @@ mod frames;
 mod generate;
 mod generate_calls;
 mod random;
+mod rooms;
 mod streams;
 mod teeth;
 mod terminal;
@@ -20,6 +21,7 @@ const USAGE: &str = "usage: second [--wrong N] COMMAND
   transcript | dump | calls                         standard input to standard output
   generate SEED FRAMES | generate-calls SEED FRAMES
   compare MODE PROGRAM.. -- SEED_FROM SEED_COUNT FRAMES
+  rooms PROGRAM..                                   its `calls`, at every room up to a message's length
   teeth SEED_FROM SEED_COUNT FRAMES";
 
 fn number(text: &str) -> Result<u64, String> {
@@ -60,6 +62,7 @@ fn run(arguments: &[String]) -> Result<bool, String> {
             let program = &arguments[2..arguments.len() - 4];
             compare::compare(mode, program, number(from)?, number(count)?, number(frames)? as usize)
         }
+        ["rooms", _, ..] => rooms::rooms(&arguments[1..]),
         ["teeth", from, count, frames] => {
             Ok(teeth::teeth(number(from)?, number(count)?, number(frames)? as usize))
         }
