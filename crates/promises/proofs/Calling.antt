@@ -47,7 +47,7 @@ total-joined : (t : Terminal) (first second : List Stepped) (outcome : Outcome) 
 total-joined t first second outcome did =
     rw (after-joined t first second, sent-joined first second, stored-joined first second, length-append (storedBy first) (storedBy second), did .sent, did .stored)
 
-first-done : {outcome : Outcome} {later : List Outcome} → AllDone (outcome ∷ later) → outcome .number ≡ 0
+pub first-done : {outcome : Outcome} {later : List Outcome} → AllDone (outcome ∷ later) → outcome .number ≡ 0
 first-done (done outcome later number further) = number
 
 later-done : {outcome : Outcome} {later : List Outcome} → AllDone (outcome ∷ later) → AllDone later

@@ -7,7 +7,6 @@ pub mod Omitted
 pub mod OurLaws
 pub mod FeedingRuns
 pub mod FeedingReads
-pub mod FeedingCalls
 pub mod FeedingPlace
 pub mod FeedingSender
 pub mod FeedingCells
@@ -17,3 +16,12 @@ pub mod Feeding
 pub mod Sending
 pub mod Refusing
 pub mod Theorems
+pub mod Sheets
+pub mod Computing
+pub mod WrongAnswers
+pub mod WrongReads
+pub mod WrongKeys
+pub mod WrongBounds
+pub mod WrongFeeding
+pub mod WrongCopies
+pub mod Worked

@@ -4,7 +4,7 @@ use mathlib.Core.Bool.{true, false, not}
 use mathlib.Core.List.{List, [], _∷_, _++_}
 use Prim.Native.Nat.{ℕ, _+_, _-_, _<_, _≤_}
 use native.Mathlib.Omega.{arith}
-use borrow.Author.Tests.{ltb-true, ltb-false, lt-ltb}
+use borrow.Author.Tests.{ltb-true, ltb-false, lt-ltb, le-ltb}
 use lib.Dec.{ltb}
 use lib.ListN.{length, length-append}
 use Rattle.words.proofs.Choosing.{either-way, less-or-not}
@@ -21,7 +21,7 @@ use Rattle.terminal.specs.Lines.{exceedsRoom, isValid}
 use Rattle.terminal.specs.Calls.{unstarted, startStep, startCall, hostCall, keyCall}
 use Rattle.terminal.specs.Table.{Line3}
 use Rattle.terminal.proofs.Deciding
-use Rattle.terminal.proofs.Deciding.{is-valid, fits-on, stops-there}
+use Rattle.terminal.proofs.Deciding.{is-valid, valid-holds, fits-on, stops-there}
 use Rattle.terminal.proofs.Running.{steps-count}
 use Rattle.terminal.proofs.Exceeding.{line-3, line-3-done}
 
@@ -38,6 +38,15 @@ all-fit room (step ∷ later) all =
     let rest = all-fit (room - length (bytesOf (step .message))) later (omega (arith, counted)) in
     let bytes = length-append (bytesOf (step .message)) (sentBy later) in
     (here ∙ ap (λ (steps : List Stepped). step ∷ steps) (rest .0), omega (arith, bytes, rest .1)))
+
+-- And where their messages fit, no step is left out.
+none-left-out : (room : ℕ) (steps : List Stepped) → length (sentBy steps) ≤ room → fitting room steps ≡ steps
+unfolding fitting sentBy
+none-left-out room [] fit = refl
+none-left-out room (step ∷ later) fit =
+    let bytes = length-append (bytesOf (step .message)) (sentBy later) in
+    fits-on room step later (omega (arith, bytes))
+    ∙ ap (λ (steps : List Stepped). step ∷ steps) (none-left-out (room - length (bytesOf (step .message))) later (omega (arith, bytes)))
 
 module _ (t : Terminal) (bytes output : List ℕ) where
   pub data HostCase : Type 0 where
@@ -59,6 +68,16 @@ module _ (t : Terminal) (bytes output : List ℕ) where
       (Deciding.host-done t bytes output size valid short fits
       ∙ ap (λ (steps : List Stepped). did Done (length steps) t output steps) (all .0)
       ∙ ap (λ (n : ℕ). did Done n t output (stepsOf t bytes)) (steps-count t bytes)))
+
+  -- Where nothing stands in its way, all is done.
+  pub host-did : Valid t → length bytes ≤ 65536 → length (sentBy (stepsOf t bytes)) ≤ length output → hostCall t bytes output ≡ did Done (length bytes) t output (stepsOf t bytes)
+  unfolding exceedsRoom
+  host-did valid short fit =
+      let all = none-left-out (length output) (stepsOf t bytes) fit in
+      let fits : length (stepsOf t bytes) ≤ length (fitting (length output) (stepsOf t bytes)) = omega (arith, ap (length {A = Stepped}) all) in
+      Deciding.host-done t bytes output (valid .size) (valid-holds t valid) short (le-ltb _ _ fits)
+      ∙ ap (λ (steps : List Stepped). did Done (length steps) t output steps) all
+      ∙ ap (λ (n : ℕ). did Done n t output (stepsOf t bytes)) (steps-count t bytes)
 
   pub host-case : HostCase
   unfolding numberOf

@@ -99,7 +99,7 @@ module _ (t : Terminal) (key : ℕ) (output : List ℕ) where
   pub key-exactly : (n : ℕ) → (keyCall t key output .number ≡ n) ↔ Decides (keyTable t key (length output)) n
   key-exactly n = (λ is. subst (Decides (keyTable t key (length output))) is key-decides, λ decides. decides-one key-decides decides)
 
-leaves : (answer : Answer) (t : Terminal) (lent : List ℕ) {outcome : Outcome} → outcome ≡ unchanged answer t lent → Leaves t lent outcome
+pub leaves : (answer : Answer) (t : Terminal) (lent : List ℕ) {outcome : Outcome} → outcome ≡ unchanged answer t lent → Leaves t lent outcome
 unfolding unchanged
 leaves answer t lent is =
     record {
@@ -110,7 +110,7 @@ leaves answer t lent is =
       output = ap (λ (o : Outcome). o .output) is;
     }
 
-did-so : (answer : Answer) (taken : ℕ) (t : Terminal) (lent : List ℕ) (steps : List Stepped) {outcome : Outcome} → outcome ≡ did answer taken t lent steps → Did taken t lent steps outcome
+pub did-so : (answer : Answer) (taken : ℕ) (t : Terminal) (lent : List ℕ) (steps : List Stepped) {outcome : Outcome} → outcome ≡ did answer taken t lent steps → Did taken t lent steps outcome
 unfolding did
 did-so answer taken t lent steps is =
     record {
@@ -121,11 +121,11 @@ did-so answer taken t lent steps is =
       output = ap (λ (o : Outcome). o .output) is;
     }
 
-numbered : (answer : Answer) (t : Terminal) (lent : List ℕ) {outcome : Outcome} → outcome ≡ unchanged answer t lent → outcome .number ≡ numberOf answer
+pub numbered : (answer : Answer) (t : Terminal) (lent : List ℕ) {outcome : Outcome} → outcome ≡ unchanged answer t lent → outcome .number ≡ numberOf answer
 unfolding unchanged
 numbered answer t lent is = ap (λ (o : Outcome). o .number) is
 
-did-number : (answer : Answer) (taken : ℕ) (t : Terminal) (lent : List ℕ) (steps : List Stepped) {outcome : Outcome} → outcome ≡ did answer taken t lent steps → outcome .number ≡ numberOf answer
+pub did-number : (answer : Answer) (taken : ℕ) (t : Terminal) (lent : List ℕ) (steps : List Stepped) {outcome : Outcome} → outcome ≡ did answer taken t lent steps → outcome .number ≡ numberOf answer
 unfolding did
 did-number answer taken t lent steps is = ap (λ (o : Outcome). o .number) is
 
@@ -169,6 +169,15 @@ module _ (t : Terminal) (bytes output : List ℕ) where
       go (Cases.stopped valid line is) = absurd (omega (arith, sym (did-number _ _ _ _ _ is) ∙ is-done))
       go (Cases.done valid fits is) = did-so _ _ _ _ _ is
 
+  -- Only a valid terminal is given 0.
+  pub host-found-valid : hostCall t bytes output .number ≡ 0 → Valid t
+  host-found-valid is-done = go (host-case t bytes output)
+    where
+      go : HostCase t bytes output → Valid t
+      go (Cases.refused answer a b is) = absurd (a (sym (numbered _ _ _ is) ∙ is-done))
+      go (Cases.stopped valid line is) = valid
+      go (Cases.done valid fits is) = valid
+
 module _ (t : Terminal) (key : ℕ) (output : List ℕ) where
   -- Key: every refusal changes nothing, 3 too.
   pub key-refused : (keyCall t key output .number ≡ 0 → ⊥) → Leaves t output (keyCall t key output)
@@ -186,6 +195,13 @@ module _ (t : Terminal) (key : ℕ) (output : List ℕ) where
       go : KeyCase t key output → Did 0 t output (keyStep key t ∷ []) (keyCall t key output)
       go (Cases.refused answer a is) = absurd (a (sym (numbered _ _ _ is) ∙ is-done))
       go (Cases.pressed valid known free has fits is) = did-so _ _ _ _ _ is
+
+  pub key-found-valid : keyCall t key output .number ≡ 0 → Valid t
+  key-found-valid is-done = go (key-case t key output)
+    where
+      go : KeyCase t key output → Valid t
+      go (Cases.refused answer a is) = absurd (a (sym (numbered _ _ _ is) ∙ is-done))
+      go (Cases.pressed valid known free has fits is) = valid
 
 -- Any two results that a contract allows are equal.
 answerOf : ℕ → Answer
