@@ -27,7 +27,13 @@ fn main() {
     let started = terminal::start(24, 80, &mut characters, &mut marks);
     tell(0, started);
     let state = started.state;
-    let long = terminal::host(state, &mut characters, &mut marks, &bytes[..65536], &mut out);
+    let long = terminal::host(
+        state,
+        &mut characters,
+        &mut marks,
+        &bytes[..65536],
+        &mut out,
+    );
     tell(65536, long);
     let after = long.state;
     let longer = terminal::host(after, &mut characters, &mut marks, &bytes, &mut out);
