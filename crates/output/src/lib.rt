@@ -7,13 +7,13 @@ ghost use Rattle.words.specs.Output.{Wrote};
 ghost use Rattle.output.specs.Decimal.{decimal, placeBytes};
 
 // How often a unit goes into a number, and what is left.
-struct CountedOff {
-    times: usize,
-    left: usize,
+pub struct CountedOff {
+    pub times: usize,
+    pub left: usize,
 }
 
 // Counted by subtraction: there is no divide instruction on a small panel.
-fn count_off(number: usize, unit: usize) -> CountedOff
+pub fn count_off(number: usize, unit: usize) -> CountedOff
     requires { ⌜ 0 < unit ⌝ }
     ensures { λ r. ⌜ (r .times ≡ number / unit) × (r .left ≡ number % unit) ⌝ }
 {
@@ -46,14 +46,14 @@ pub fn put_byte(out: &mut [u8], at: usize, byte: u8) -> usize
     at + 1
 }
 
-fn put_digit(out: &mut [u8], at: usize, digit: usize) -> usize
+pub fn put_digit(out: &mut [u8], at: usize, digit: usize) -> usize
     requires { ⌜ (digit ≤ 9) × (at < length (now out)) ⌝ }
     ensures { λ r. ⌜ Wrote at ((0x30 + digit) ∷ []) (now (out .entry)) r (now (out .exit)) ⌝ }
 {
     put_byte(out, at, (0x30 + digit) as u8)
 }
 
-fn put_two_digits(out: &mut [u8], at: usize, number: usize) -> usize
+pub fn put_two_digits(out: &mut [u8], at: usize, number: usize) -> usize
     requires { ⌜ (number < 100) × (at + 2 ≤ length (now out)) ⌝ }
     ensures { λ r. ⌜ Wrote at ((0x30 + number / 10) ∷ (0x30 + number % 10) ∷ []) (now (out .entry)) r (now (out .exit)) ⌝ }
 {

@@ -1,0 +1,45 @@
+use mathlib.Core.Path.{_≡_, refl}
+use Prim.Native.Nat.{_-_}
+use native.Mathlib.Omega.{arith}
+use borrow.Author.Needs.{needs}
+use lib.ListN.{length}
+use Rattle.drawing.specs.Drawing.{spaced}
+use Rattle.drawing.proofs.Walks.{Walked, walk-starts, walk-goes-on, walk-ends, walk-reached, exactly-these}
+use Rattle.drawing.proofs.put_arguments.Statement.{statement}
+use Rattle.drawing.proofs.put_arguments.Tie as tie
+
+abbrev Inv-loop : tie.InvT-loop
+Inv-loop text₀ at arguments next₀ i₀ text next i = (length arguments ≡ 8) × Walked spaced arguments at text₀ i next text
+
+abbrev μ-loop : tie.MeasureT-loop
+μ-loop text₀ at arguments next₀ i₀ text next i = 8 - i
+
+loop-holds : tie.Need-loop-holds Inv-loop μ-loop
+loop-holds c = (search needs, walk-starts spaced (c .before .args .t3))
+
+put-argument-requires : tie.Need-put-argument-requires Inv-loop μ-loop
+put-argument-requires c κs = omega (arith, walk-reached spaced (c .before .before .before .before .args .t3) 6 (λ _. refl) (c .before .before .loop .inv .1))
+
+loop-again : tie.Need-loop-again Inv-loop μ-loop
+loop-again c =
+    (c .before .before .before .before .before .loop .inv .0, walk-goes-on spaced (c .before .before .before .before .before .before .before .args .t3) 0 (c .before .before .before .before .before .loop .inv .1) (omega arith) (search needs) (search needs) (c .before .before .put-argument .ensures))
+
+returns : tie.Need-returns Inv-loop μ-loop
+returns c =
+    rw (exactly-these 0 (c .before .before .before .args .t3) (c .before .loop .inv .0)) (walk-ends spaced (c .before .before .before .args .t3) (c .before .loop .inv .1) (omega arith))
+
+pub put-arguments-spec : {M : Type 1} → statement M
+put-arguments-spec =
+    tie.close
+    (tie.spec
+    Inv-loop
+    μ-loop
+    loop-holds
+    (λ c. search needs)
+    (λ c. search needs)
+    put-argument-requires
+    (λ c. search needs)
+    (λ c. search needs)
+    loop-again
+    (λ c. search needs)
+    returns)

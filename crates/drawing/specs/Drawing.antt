@@ -1,0 +1,106 @@
+-- A terminal drawn as text: six lines for the state, then each row's characters, then each row's marks.
+--     size 00024 00080
+--     cursor 00001 00006
+--     pen 00 erasure 0
+--     manual 0 soft 0 message 00000
+--     stops ....T...                                      (160 of them, column 1 first)
+--     half 00003 spoilt 0 count 00002 arguments 00001 00005 00000 00000 00000 00000 00000 00000
+--     |KN  .          |                                   (R lines)
+--     :010100000100..                                     (R lines)
+use mathlib.Core.Bool.{Bool, true, false}
+use mathlib.Core.List.{List, [], _∷_, _++_, flatMap}
+use Prim.Native.Nat.{ℕ, zero, suc, _<_}
+use lib.ListN.{take, drop}
+use Rattle.words.specs.Choice.{if_then_else_}
+use Rattle.sequence.specs.declared.HalfRead.{HalfRead}
+use Rattle.state.specs.declared.Modes.{Modes}
+use Rattle.state.specs.declared.Locks.{Locks}
+use Rattle.state.specs.declared.State.{State}
+use Rattle.drawing.specs.Figures.{bytes, fiveDigits, hexOf, flagOf, stopOf}
+
+abbrev pub lineEnd : List ℕ
+lineEnd = bytes "\n"
+
+-- A word, and the number or the flag that it names.
+abbrev pub numbered : List ℕ → ℕ → List ℕ
+numbered word number = word ++ fiveDigits number
+
+abbrev pub flagged : List ℕ → Bool → List ℕ
+flagged word flag = word ++ flagOf flag
+
+abbrev pub spaced : ℕ → List ℕ
+spaced number = numbered (bytes " ") number
+
+-- Exactly so many elements: a longer list is cut, a shorter one filled up. A state's lists have these lengths, but only its type in the code says so.
+unfoldable pub exactly : {A : Type 0} → ℕ → A → List A → List A
+exactly zero filler list = []
+exactly (suc n) filler [] = filler ∷ exactly n filler []
+exactly (suc n) filler (x ∷ list) = x ∷ exactly n filler list
+
+-- The lines of the state.
+abbrev pub pairLine : List ℕ → ℕ → ℕ → List ℕ
+pairLine word first second = numbered word first ++ spaced second ++ lineEnd
+
+unfoldable pub penLine : Modes → List ℕ
+penLine modes = bytes "pen " ++ hexOf (modes .pen) ++ flagged (bytes " erasure ") (modes .erasure) ++ lineEnd
+
+unfoldable pub locksLine : Locks → List ℕ
+locksLine locks =
+    flagged (bytes "manual ") (locks .manual)
+    ++ flagged (bytes " soft ") (locks .soft)
+    ++ numbered (bytes " message ") (locks .message)
+    ++ lineEnd
+
+abbrev pub allStops : List Bool → List ℕ
+allStops stops = flatMap stopOf (exactly 160 false stops)
+
+unfoldable pub stopsLine : List Bool → List ℕ
+stopsLine stops = bytes "stops " ++ allStops stops ++ lineEnd
+
+abbrev pub allArguments : List ℕ → List ℕ
+allArguments arguments = flatMap spaced (exactly 8 0 arguments)
+
+unfoldable pub halfLine : HalfRead → List ℕ
+halfLine half =
+    numbered (bytes "half ") (half .kind)
+    ++ flagged (bytes " spoilt ") (half .spoilt)
+    ++ numbered (bytes " count ") (half .count)
+    ++ bytes " arguments"
+    ++ allArguments (half .arguments)
+    ++ lineEnd
+
+unfoldable pub stateLines : State → List ℕ
+stateLines state =
+    pairLine (bytes "size ") (state .size .rows) (state .size .columns)
+    ++ pairLine (bytes "cursor ") (state .cursor .row) (state .cursor .column)
+    ++ penLine (state .modes)
+    ++ locksLine (state .locks)
+    ++ stopsLine (state .stops)
+    ++ halfLine (state .half)
+
+-- The rows of a page of so many columns.
+unfoldable pub rowsOf : ℕ → ℕ → List ℕ → List (List ℕ)
+rowsOf columns zero cells = []
+rowsOf columns (suc rows) cells = take columns cells ∷ rowsOf columns rows (drop columns cells)
+
+-- A row of marks, in hexadecimal; a row of characters, as they are.
+unfoldable pub rowLine : Bool → List ℕ → List ℕ
+rowLine inHex row =
+    if inHex then bytes ":" ++ flatMap hexOf row ++ lineEnd
+    else bytes "|" ++ row ++ bytes "|\n"
+
+abbrev pub rowLines : Bool → ℕ → ℕ → List ℕ → List ℕ
+rowLines inHex rows columns cells = flatMap (rowLine inHex) (rowsOf columns rows cells)
+
+unfoldable pub drawn : State → List ℕ → List ℕ → List ℕ
+drawn state characters marks =
+    stateLines state
+    ++ rowLines false (state .size .rows) (state .size .columns) characters
+    ++ rowLines true (state .size .rows) (state .size .columns) marks
+
+-- The numbers that could be large have five digits at most.
+pub record FiveDigitsEach (state : State) : Type 0 where
+  pub rows : state .size .rows < 100000
+  pub columns : state .size .columns < 100000
+  pub row : state .cursor .row < 100000
+  pub column : state .cursor .column < 100000

@@ -1,0 +1,255 @@
+// A terminal drawn as text, so that a person can read it and a program can compare it; see specs/Drawing.antt.
+// Every function writes into a lent text from a place on, and gives the place after.
+use sequence::HalfRead;
+use state::Locks;
+use state::Modes;
+use state::State;
+ghost use mathlib.Core.Path.{_≡_};
+ghost use mathlib.Core.List.{flatMap};
+ghost use Prim.Native.Nat.{_+_, _*_, _<_, _≤_};
+ghost use lib.ListN.{length};
+ghost use Rattle.words.specs.Choice.{if_then_else_};
+ghost use Rattle.words.specs.Output.{Wrote};
+ghost use Rattle.drawing.specs.Figures.{fiveDigits, hexDigit, hexOf};
+ghost use Rattle.drawing.specs.Drawing.{numbered, flagged, spaced, pairLine, penLine, locksLine, allStops, stopsLine, allArguments, halfLine, stateLines, rowLine, rowLines, drawn, FiveDigitsEach};
+
+fn put_all(text: &mut [u8], at: usize, bytes: &[u8]) -> usize
+    requires { ⌜ at + length (now bytes) ≤ length (now text) ⌝ }
+    ensures { λ r. ⌜ Wrote at (now (bytes .entry)) (now (text .entry)) r (now (text .exit)) ⌝ }
+{
+    let mut next = at;
+    let mut i = 0;
+    while i < bytes.len() {
+        next = output::put_byte(text, next, bytes[i]);
+        i += 1;
+    }
+    next
+}
+
+// With leading zeros: the first digit, then twice two.
+pub fn put_five(text: &mut [u8], at: usize, number: usize) -> usize
+    requires { ⌜ (number < 100000) × (at + 5 ≤ length (now text)) ⌝ }
+    ensures { λ r. ⌜ Wrote at (fiveDigits number) (now (text .entry)) r (now (text .exit)) ⌝ }
+{
+    let high = output::count_off(number, 10000);
+    let low = output::count_off(high.left, 100);
+    let thousands = output::put_digit(text, at, high.times);
+    let tens = output::put_two_digits(text, thousands, low.times);
+    output::put_two_digits(text, tens, low.left)
+}
+
+fn byte_if(test: bool, yes: u8, no: u8) -> u8
+    ensures { λ r. ⌜ r ≡ (if test then yes else no) ⌝ }
+{
+    if test {
+        return yes;
+    }
+    no
+}
+
+fn hex_digit(digit: u8) -> u8
+    requires { ⌜ digit < 16 ⌝ }
+    ensures { λ r. ⌜ r ≡ hexDigit digit ⌝ }
+{
+    if digit < 10 {
+        return 0x30 + digit;
+    }
+    0x37 + digit
+}
+
+fn put_hex_byte(text: &mut [u8], at: usize, byte: u8) -> usize
+    requires { ⌜ at + 2 ≤ length (now text) ⌝ }
+    ensures { λ r. ⌜ Wrote at (hexOf byte) (now (text .entry)) r (now (text .exit)) ⌝ }
+{
+    let high = hex_digit(byte / 16);
+    let low = hex_digit(byte % 16);
+    let next = output::put_byte(text, at, high);
+    output::put_byte(text, next, low)
+}
+
+// Two digits for each byte.
+pub fn put_hex(text: &mut [u8], at: usize, bytes: &[u8]) -> usize
+    requires { ⌜ at + 2 * length (now bytes) ≤ length (now text) ⌝ }
+    ensures { λ r. ⌜ Wrote at (flatMap hexOf (now (bytes .entry))) (now (text .entry)) r (now (text .exit)) ⌝ }
+{
+    let mut next = at;
+    let mut i = 0;
+    while i < bytes.len() {
+        next = put_hex_byte(text, next, bytes[i]);
+        i += 1;
+    }
+    next
+}
+
+fn put_number(text: &mut [u8], at: usize, word: &[u8], number: usize) -> usize
+    requires { ⌜ (number < 100000) × (at + length (now word) + 5 ≤ length (now text)) ⌝ }
+    ensures { λ r. ⌜ Wrote at (numbered (now (word .entry)) number) (now (text .entry)) r (now (text .exit)) ⌝ }
+{
+    let next = put_all(text, at, word);
+    put_five(text, next, number)
+}
+
+fn put_flag(text: &mut [u8], at: usize, word: &[u8], flag: bool) -> usize
+    requires { ⌜ at + length (now word) + 1 ≤ length (now text) ⌝ }
+    ensures { λ r. ⌜ Wrote at (flagged (now (word .entry)) flag) (now (text .entry)) r (now (text .exit)) ⌝ }
+{
+    let next = put_all(text, at, word);
+    output::put_byte(text, next, byte_if(flag, b'1', b'0'))
+}
+
+// The size's line or the cursor's.
+fn put_pair(text: &mut [u8], at: usize, word: &[u8], first: usize, second: usize) -> usize
+    requires { ⌜ (first < 100000) × (second < 100000) × (at + length (now word) + 12 ≤ length (now text)) ⌝ }
+    ensures { λ r. ⌜ Wrote at (pairLine (now (word .entry)) first second) (now (text .entry)) r (now (text .exit)) ⌝ }
+{
+    let gap = put_number(text, at, word, first);
+    let end = put_number(text, gap, b" ", second);
+    output::put_byte(text, end, b'\n')
+}
+
+fn put_modes(text: &mut [u8], at: usize, modes: Modes) -> usize
+    requires { ⌜ at + 17 ≤ length (now text) ⌝ }
+    ensures { λ r. ⌜ Wrote at (penLine modes) (now (text .entry)) r (now (text .exit)) ⌝ }
+{
+    let pen = put_all(text, at, b"pen ");
+    let erasure = put_hex_byte(text, pen, modes.pen);
+    let end = put_flag(text, erasure, b" erasure ", modes.erasure);
+    output::put_byte(text, end, b'\n')
+}
+
+fn put_locks(text: &mut [u8], at: usize, locks: Locks) -> usize
+    requires { ⌜ at + 30 ≤ length (now text) ⌝ }
+    ensures { λ r. ⌜ Wrote at (locksLine locks) (now (text .entry)) r (now (text .exit)) ⌝ }
+{
+    let soft = put_flag(text, at, b"manual ", locks.manual);
+    let message = put_flag(text, soft, b" soft ", locks.soft);
+    let end = put_number(text, message, b" message ", locks.message as usize);
+    output::put_byte(text, end, b'\n')
+}
+
+fn put_each_stop(text: &mut [u8], at: usize, stops: [bool; 160]) -> usize
+    requires { ⌜ at + 160 ≤ length (now text) ⌝ }
+    ensures { λ r. ⌜ Wrote at (allStops stops) (now (text .entry)) r (now (text .exit)) ⌝ }
+{
+    let mut next = at;
+    let mut i = 0;
+    while i < 160 {
+        next = output::put_byte(text, next, byte_if(stops[i], b'T', b'.'));
+        i += 1;
+    }
+    next
+}
+
+fn put_stops(text: &mut [u8], at: usize, stops: [bool; 160]) -> usize
+    requires { ⌜ at + 167 ≤ length (now text) ⌝ }
+    ensures { λ r. ⌜ Wrote at (stopsLine stops) (now (text .entry)) r (now (text .exit)) ⌝ }
+{
+    let each = put_all(text, at, b"stops ");
+    let end = put_each_stop(text, each, stops);
+    output::put_byte(text, end, b'\n')
+}
+
+fn put_argument(text: &mut [u8], at: usize, argument: u16) -> usize
+    requires { ⌜ at + 6 ≤ length (now text) ⌝ }
+    ensures { λ r. ⌜ Wrote at (spaced argument) (now (text .entry)) r (now (text .exit)) ⌝ }
+{
+    put_number(text, at, b" ", argument as usize)
+}
+
+fn put_arguments(text: &mut [u8], at: usize, arguments: [u16; 8]) -> usize
+    requires { ⌜ at + 48 ≤ length (now text) ⌝ }
+    ensures { λ r. ⌜ Wrote at (allArguments arguments) (now (text .entry)) r (now (text .exit)) ⌝ }
+{
+    let mut next = at;
+    let mut i = 0;
+    while i < 8 {
+        next = put_argument(text, next, arguments[i]);
+        i += 1;
+    }
+    next
+}
+
+fn put_half(text: &mut [u8], at: usize, half: HalfRead) -> usize
+    requires { ⌜ at + 90 ≤ length (now text) ⌝ }
+    ensures { λ r. ⌜ Wrote at (halfLine half) (now (text .entry)) r (now (text .exit)) ⌝ }
+{
+    let arguments = half.arguments;
+    let spoilt = put_number(text, at, b"half ", half.kind as usize);
+    let count = put_flag(text, spoilt, b" spoilt ", half.spoilt);
+    let word = put_number(text, count, b" count ", half.count as usize);
+    let each = put_all(text, word, b" arguments");
+    let end = put_arguments(text, each, arguments);
+    output::put_byte(text, end, b'\n')
+}
+
+fn put_state(text: &mut [u8], at: usize, state: State) -> usize
+    requires { ⌜ FiveDigitsEach state ⌝ }
+    requires { ⌜ at + 340 ≤ length (now text) ⌝ }
+    ensures { λ r. ⌜ Wrote at (stateLines state) (now (text .entry)) r (now (text .exit)) ⌝ }
+{
+    let stops = state.stops;
+    let cursor = put_pair(text, at, b"size ", state.size.rows, state.size.columns);
+    let modes = put_pair(
+        text,
+        cursor,
+        b"cursor ",
+        state.cursor.row,
+        state.cursor.column,
+    );
+    let locks = put_modes(text, modes, state.modes);
+    let tabs = put_locks(text, locks, state.locks);
+    let half = put_stops(text, tabs, stops);
+    put_half(text, half, state.half)
+}
+
+fn put_row(text: &mut [u8], at: usize, row: &[u8], in_hex: bool) -> usize
+    requires { ⌜ at + length (rowLine in_hex (now row)) ≤ length (now text) ⌝ }
+    ensures { λ r. ⌜ Wrote at (rowLine in_hex (now (row .entry))) (now (text .entry)) r (now (text .exit)) ⌝ }
+{
+    if in_hex {
+        let digits = output::put_byte(text, at, b':');
+        let end = put_hex(text, digits, row);
+        return output::put_byte(text, end, b'\n');
+    }
+    let characters = output::put_byte(text, at, b'|');
+    let bar = put_all(text, characters, row);
+    put_all(text, bar, b"|\n")
+}
+
+// A page's rows, as characters or, for marks, in hexadecimal.
+fn put_rows(
+    text: &mut [u8],
+    at: usize,
+    cells: &[u8],
+    rows: usize,
+    columns: usize,
+    in_hex: bool,
+) -> usize
+    requires { ⌜ length (now cells) ≡ rows * columns ⌝ }
+    requires { ⌜ at + length (rowLines in_hex rows columns (now cells)) ≤ length (now text) ⌝ }
+    ensures { λ r. ⌜ Wrote at (rowLines in_hex rows columns (now (cells .entry))) (now (text .entry)) r (now (text .exit)) ⌝ }
+{
+    let mut next = at;
+    let mut from = 0;
+    let mut left = rows;
+    while 0 < left {
+        let to = from + columns;
+        next = put_row(text, next, &cells[from..to], in_hex);
+        from = to;
+        left -= 1;
+    }
+    next
+}
+
+pub fn draw(state: State, characters: &[u8], marks: &[u8], text: &mut [u8], at: usize) -> usize
+    requires { ⌜ FiveDigitsEach state ⌝ }
+    requires { ⌜ (length (now characters) ≡ state .size .rows * state .size .columns) × (length (now marks) ≡ state .size .rows * state .size .columns) ⌝ }
+    requires { ⌜ at + length (drawn state (now characters) (now marks)) ≤ length (now text) ⌝ }
+    ensures { λ r. ⌜ Wrote at (drawn state (now (characters .entry)) (now (marks .entry))) (now (text .entry)) r (now (text .exit)) ⌝ }
+{
+    let rows = state.size.rows;
+    let columns = state.size.columns;
+    let first_row = put_state(text, at, state);
+    let first_marks = put_rows(text, first_row, characters, rows, columns, false);
+    put_rows(text, first_marks, marks, rows, columns, true)
+}

@@ -1,0 +1,183 @@
+-- 256 calls are enough for a frame: no message of a host byte exceeds the output, so a call given 3 takes a byte at least.
+use mathlib.Core.Path.{_≡_, sym, ap, _∙_}
+use mathlib.Core.Bool.{true}
+use mathlib.Core.List.{List, [], _∷_, _++_}
+use Prim.Native.Nat.{ℕ, zero, suc, _+_, _<_, _≤_}
+use native.Mathlib.Omega.{arith}
+use borrow.Author.Tests.{eqb-true, leb-true, ltb-true, ltb-false}
+use lib.Dec.{eqb, ltb}
+use lib.ListN.{length, length-drop}
+use Rattle.words.specs.Choice.{if_then_else_}
+use Rattle.words.proofs.Choosing.{true-is-not-false, then-case, else-case, either-line, either-way, both}
+use Rattle.output.proofs.Digits.{three-at-most, place-long}
+use Rattle.blocks.proofs.Theorems.{longest-block}
+use Rattle.sequence.specs.declared.HalfRead.{HalfRead}
+use Rattle.sequence.specs.declared.Event.{Event}
+use Rattle.sequence.specs.declared.Event.the-variants.{Nothing, Text, Control, EscCommand, BracketCommand, Refused}
+use Rattle.sequence.specs.Reading.{advanceOf}
+use Rattle.state.specs.State.{withHalf}
+use Rattle.state.specs.Validity.{sizeFits}
+use Rattle.state.proofs.Keeping.{size-bounds}
+use Rattle.steps.specs.Steps.{Terminal, Stepped, bytesOf, blockMessage, withState}
+use Rattle.steps.specs.Commands.{escStep, sendBlock, toColumn, toRow, toPlace, readyReport, cursorReport, statusReport, listedStep, bracketStep}
+use Rattle.steps.specs.Host.{eventStep, hostStep}
+use Rattle.steps.proofs.Soundness.{sized}
+use Rattle.commands.proofs.Silent.{text-silent, control-silent, esc-silent, tab-silent, erase-silent, rendition-silent, mode-silent}
+use Rattle.terminal.specs.Runs.{stepsOf, fitting}
+use Rattle.terminal.specs.Answers.{Outcome, numberOf, unchanged, did}
+use Rattle.terminal.specs.Lines.{exceedsRoom, isValid}
+use Rattle.terminal.specs.Calls.{hostCall}
+use Rattle.terminal.proofs.Deciding.{fits-on, host-wrong-size, host-wrong-state, host-too-long, host-no-room, host-done}
+use Rattle.frames.specs.Hexadecimal.{bytesIn}
+use Rattle.frames.specs.Frames.{Frame, start, host, key, noFrame, frameIn, frameOf, restOf}
+use Rattle.frames.specs.Sessions.{Session, noSession, session, output, started, hosted, keyed, uncalled, callOf, frameDone, lineDone}
+use Rattle.frames.proofs.Calling.{output-long, host-within}
+
+-- A message that fits in the output.
+abbrev Short : Stepped → Type 0
+Short step = length (bytesOf (step .message)) ≤ 65536
+
+quiet : {bytes : List ℕ} → bytes ≡ [] → length bytes ≤ 65536
+quiet none = omega (arith, ap (length {A = ℕ}) none)
+
+block-short : (t : Terminal) → sizeFits (t .state .size) (t .page) ≡ true → Short (sendBlock true t)
+unfolding sendBlock blockMessage bytesOf
+block-short t fits =
+    let size = sized (t .state .size) (t .page) fits in
+    let bounds = size-bounds (t .state .size) (size .listed) in
+    let most = longest-block true (t .state .size .rows) (t .state .size .columns) (t .page) (bounds .rows-most) (bounds .columns-most) (size .marks) (size .characters ∙ sym (size .marks)) in
+    omega arith
+
+esc-short : (byte : ℕ) (t : Terminal) → sizeFits (t .state .size) (t .page) ≡ true → Short (escStep byte t)
+unfolding escStep if_then_else_
+esc-short byte t fits =
+    either-way (eqb byte 0x53)
+    (λ is. rw (eqb-true byte 0x53 is) (block-short t fits))
+    (λ other. quiet (esc-silent byte t other))
+
+status-short : (what : ℕ) (t : Terminal) → Short (statusReport what t)
+unfolding statusReport readyReport cursorReport bytesOf
+status-short what t =
+    either-line Short _ _ _ (λ _. omega arith)
+    (λ _. either-line Short _ _ _
+    (λ _. omega (arith, place-long (t .state .cursor .row) (t .state .cursor .column) 0x52, three-at-most (t .state .cursor .row), three-at-most (t .state .cursor .column)))
+    (λ _. omega arith))
+
+listed-short : (final : ℕ) (arguments : List ℕ) (count : ℕ) (t : Terminal) → Short (listedStep final arguments count t)
+unfolding listedStep toColumn toRow toPlace bytesOf
+listed-short final arguments count t =
+    either-line Short _ _ _ (λ _. omega arith)
+    (λ _. either-line Short _ _ _ (λ _. omega arith)
+    (λ _. either-line Short _ _ _ (λ _. omega arith)
+    (λ _. either-line Short _ _ _ (λ _. omega arith)
+    (λ _. either-line Short _ _ _ (λ _. omega arith)
+    (λ _. either-line Short _ _ _ (λ _. omega arith)
+    (λ _. either-line Short _ _ _ (λ _. either-line Short _ _ _ (λ _. omega arith) (λ _. omega arith))
+    (λ _. either-line Short _ _ _ (λ _. either-line Short _ _ _ (λ _. omega arith) (λ _. omega arith))
+    (λ _. either-line Short _ _ _ (λ _. either-line Short _ _ _ (λ _. omega arith) (λ _. omega arith))
+    (λ _. either-line Short _ _ _ (λ _. either-line Short _ _ _ (λ _. omega arith) (λ _. omega arith))
+    (λ _. either-line Short _ _ _ (λ _. omega arith)
+    (λ _. either-line Short _ _ _ (λ _. omega arith)
+    (λ _. either-line Short _ _ _ (λ _. quiet (tab-silent _ t))
+    (λ _. either-line Short _ _ _ (λ _. quiet (erase-silent _ _ _ t))
+    (λ _. either-line Short _ _ _ (λ _. quiet (erase-silent _ _ _ t))
+    (λ _. either-line Short _ _ _ (λ _. quiet (rendition-silent _ t))
+    (λ _. either-line Short _ _ _ (λ _. quiet (mode-silent _ _ t))
+    (λ _. either-line Short _ _ _ (λ _. quiet (mode-silent _ _ t))
+    (λ _. status-short _ t))))))))))))))))))
+
+event-short : (half : HalfRead) (event : Event) (t : Terminal) → sizeFits (t .state .size) (t .page) ≡ true → Short (eventStep half event t)
+unfolding eventStep bracketStep bytesOf
+event-short half Nothing t fits = omega arith
+event-short half (Text byte) t fits = quiet (text-silent byte t)
+event-short half (Control byte) t fits = quiet (control-silent byte t)
+event-short half (EscCommand byte) t fits = esc-short byte t fits
+event-short half (BracketCommand final) t fits = either-line Short _ _ _ (λ _. omega arith) (λ _. listed-short final (half .arguments) (half .count) t)
+event-short half Refused t fits = omega arith
+
+host-short : (byte : ℕ) (t : Terminal) → sizeFits (t .state .size) (t .page) ≡ true → Short (hostStep byte t)
+unfolding hostStep
+host-short byte t fits =
+    event-short (t .state .half) (advanceOf (t .state .half) byte .event) (withState t (withHalf (t .state) (advanceOf (t .state .half) byte .half))) fits
+
+-- A call given 3 takes a byte at least.
+module _ (t : Terminal) (size : sizeFits (t .state .size) (t .page) ≡ true) where
+  takes-one : (bytes : List ℕ) → exceedsRoom (length output) (stepsOf t bytes) ≡ true → 0 < length (fitting (length output) (stepsOf t bytes))
+  unfolding exceedsRoom stepsOf fitting
+  takes-one [] exceeds = absurd (true-is-not-false (sym exceeds))
+  takes-one (byte ∷ later) exceeds =
+      let fits : length (bytesOf (hostStep byte t .message)) ≤ length output = omega (arith, host-short byte t size, output-long) in
+      omega (arith, ap (length {A = Stepped}) (fits-on (length output) (hostStep byte t) (stepsOf (hostStep byte t .terminal) later) fits))
+
+pub three-takes : (t : Terminal) (bytes : List ℕ) → hostCall t bytes output .number ≡ 3 → 0 < hostCall t bytes output .taken
+unfolding unchanged did numberOf
+three-takes t bytes three =
+    either-way (sizeFits (t .state .size) (t .page))
+    (λ size. either-way (isValid t)
+    (λ valid. either-way (ltb 65536 (length bytes))
+    (λ long. refused (host-too-long t bytes output size valid (ltb-true 65536 (length bytes) long)) (λ e. omega (arith, e)))
+    (λ short. either-way (exceedsRoom (length output) (stepsOf t bytes))
+    (λ exceeds. rw (host-no-room t bytes output size valid (ltb-false 65536 (length bytes) short) exceeds) (takes-one t size bytes exceeds))
+    (λ fit. refused (host-done t bytes output size valid (ltb-false 65536 (length bytes) short) fit) (λ e. omega (arith, e)))))
+    (λ invalid. refused (host-wrong-state t bytes output size invalid) (λ e. omega (arith, e))))
+    (λ wrong. refused (host-wrong-size t bytes output wrong) (λ e. omega (arith, e)))
+  where
+    refused : {one : Outcome} → hostCall t bytes output ≡ one → (one .number ≡ 3 → ⊥) → 0 < hostCall t bytes output .taken
+    refused is other = absurd (other (sym (ap (λ (o : Outcome). o .number) is) ∙ three))
+
+-- So what is left of a frame has fewer host bytes.
+unfoldable hostBytes : Frame → ℕ
+hostBytes (host bytes) = length bytes
+hostBytes (start rows columns) = 0
+hostBytes (key number) = 0
+hostBytes noFrame = 0
+
+fewer-left : (frame : Frame) (s : Session) → callOf frame s .more ≡ true → hostBytes (restOf frame (callOf frame s .taken)) < hostBytes frame
+unfolding hostBytes callOf restOf started hosted keyed uncalled
+fewer-left (start rows columns) s more = absurd (true-is-not-false (sym more))
+fewer-left (host bytes) noSession more = absurd (true-is-not-false (sym more))
+fewer-left (host bytes) (session t) more =
+    let taken = three-takes t bytes (eqb-true (hostCall t bytes output .number) 3 more) in
+    let within = host-within t output output-long bytes in
+    omega (arith, length-drop (hostCall t bytes output .taken) bytes, within .taken)
+fewer-left (key number) noSession more = absurd (true-is-not-false (sym more))
+fewer-left (key number) (session t) more = absurd (true-is-not-false (sym more))
+fewer-left noFrame s more = absurd (true-is-not-false (sym more))
+
+lasts : (m n : ℕ) (frame : Frame) (s : Session) → hostBytes frame ≤ m → hostBytes frame ≤ n → frameDone (suc m) frame s ≡ frameDone (suc n) frame s
+unfolding frameDone
+lasts zero n frame s enough too =
+    either-way (callOf frame s .more)
+    (λ more. absurd (omega (arith, fewer-left frame s more)))
+    (λ last. else-case _ _ _ last ∙ sym (else-case _ _ _ last))
+lasts (suc m) zero frame s enough too =
+    either-way (callOf frame s .more)
+    (λ more. absurd (omega (arith, fewer-left frame s more)))
+    (λ last. else-case _ _ _ last ∙ sym (else-case _ _ _ last))
+lasts (suc m) (suc n) frame s enough too =
+    either-way (callOf frame s .more)
+    (λ more.
+    let fewer = fewer-left frame s more in
+    let later = lasts m n (restOf frame (callOf frame s .taken)) (callOf frame s .after) (omega arith) (omega arith) in
+    then-case _ _ _ more
+    ∙ (λ i. record { after = later i .after; text = callOf frame s .text ++ later i .text })
+    ∙ sym (then-case _ _ _ more))
+    (λ last. else-case _ _ _ last ∙ sym (else-case _ _ _ last))
+
+few-bytes : (bytes : List ℕ) → hostBytes (frameIn bytes) ≤ 255
+unfolding frameIn hostBytes
+few-bytes [] = omega arith
+few-bytes (first ∷ rest) =
+    either-line Few _ _ _ (λ _. omega arith)
+    (λ _. either-line Few _ _ _ (λ test. leb-true (length rest) 255 (both test .1))
+    (λ _. either-line Few _ _ _ (λ _. omega arith) (λ _. omega arith)))
+  where
+    Few : Frame → Type 0
+    Few frame = hostBytes frame ≤ 255
+
+pub calls-enough : (line : List ℕ) (s : Session) (more : ℕ) → frameDone (256 + more) (frameOf line) s ≡ lineDone line s
+unfolding lineDone frameOf
+calls-enough line s more =
+    let few = few-bytes (bytesIn line) in
+    let next : 256 + more ≡ suc (255 + more) = omega arith in
+    rw next (lasts (255 + more) 255 (frameIn (bytesIn line)) s (omega arith) few)

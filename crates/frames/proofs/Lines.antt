@@ -1,0 +1,118 @@
+-- Laws of a line as the code holds it.
+use mathlib.Core.Path.{_≡_, refl, sym, ap, _∙_}
+use mathlib.Core.Bool.{Bool, true, false, not}
+use mathlib.Core.List.{List, [], _∷_, _++_}
+use Prim.Native.Nat.{ℕ, _+_, _%_, _<_, _≤_, min}
+use native.Mathlib.Numerals.{add-one}
+use borrow.Author.Tests.{le-leb, lt-leb, lt-ltb, le-ltb, eqb-true, not-true}
+use lib.Dec.{eqb, ltb}
+use native.Mathlib.Omega.{arith}
+use lib.ListN.{length, take, set, length-append, length-set}
+use lib.Seq.{length-take-le, take-suc-set}
+use Rattle.words.proofs.Choosing.{then-case, else-case, either-line, either-way, less-or-not, both}
+use Rattle.words.specs.Lists.{every}
+use Rattle.words.specs.Output.{Wrote}
+use Rattle.words.proofs.Output.{placed-length}
+use Rattle.frames.specs.Hexadecimal.{isHexadecimal, bytesIn, pairsOf}
+use Rattle.frames.specs.Frames.{noFrame, frameIn, frameOf}
+use Rattle.frames.specs.Transcript.{withFirst, linesOf}
+use Rattle.frames.specs.Held.{longer, lineIn}
+use Rattle.frames.proofs.Digits.{pairs-most, pairs-least}
+use Rattle.frames.proofs.Framing.{no-bytes, too-many-bytes}
+
+no-bytes-in : bytesIn [] ≡ []
+unfolding bytesIn pairsOf
+no-bytes-in = either-line (λ (bytes : List ℕ). bytes ≡ []) (isHexadecimal []) _ _ (λ _. refl) (λ _. refl)
+
+module _ (buffer : List ℕ) (digits : ℕ) where
+  pub line-kept : digits ≤ 512 → lineIn buffer digits ≡ take digits buffer
+  unfolding lineIn
+  line-kept fits = then-case _ _ _ (le-leb _ _ fits)
+
+  -- The bytes of a line that is too long, of one that is not hexadecimal, and of one that is.
+  pub line-too-long : 512 < digits → bytesIn (lineIn buffer digits) ≡ []
+  unfolding lineIn bytesIn pairsOf
+  line-too-long long = ap bytesIn (else-case _ _ _ (lt-leb _ _ long)) ∙ no-bytes-in
+
+  pub not-hexadecimal : digits ≤ 512 → isHexadecimal (take digits buffer) ≡ false → bytesIn (lineIn buffer digits) ≡ []
+  unfolding bytesIn
+  not-hexadecimal fits wrong = ap bytesIn (line-kept fits) ∙ else-case _ _ _ wrong
+
+  pub is-hexadecimal : digits ≤ 512 → isHexadecimal (take digits buffer) ≡ true → bytesIn (lineIn buffer digits) ≡ pairsOf (take digits buffer)
+  unfolding bytesIn
+  is-hexadecimal fits right = ap bytesIn (line-kept fits) ∙ then-case _ _ _ right
+
+-- The bytes of a line leave the line as long as it was, and fit in it.
+pub decoded-fits : (buffer : List ℕ) (digits : ℕ) → digits ≤ length buffer → {count : ℕ} {now : List ℕ} → Wrote 0 (pairsOf (take digits buffer)) buffer count now → count ≤ length now
+decoded-fits buffer digits fits wrote =
+    let few = pairs-most (take digits buffer) in
+    let short = length-take-le digits buffer fits in
+    let same = ap (length {A = ℕ}) (wrote .left) ∙ placed-length 0 (pairsOf (take digits buffer)) buffer (omega arith) in
+    omega (arith, wrote .next-is)
+
+-- A line of more than 512 digits is no frame.
+long-line : (line : List ℕ) → 512 < length line → frameIn (bytesIn line) ≡ noFrame
+unfolding bytesIn isHexadecimal
+long-line line long =
+    either-way (isHexadecimal line)
+    (λ is.
+    let even = eqb-true (length line % 2) 0 (both is .0) in
+    let many : 256 < length (pairsOf line) = omega (arith, pairs-least line) in
+    ap frameIn (then-case _ _ _ is) ∙ too-many-bytes (pairsOf line) many)
+    (λ wrong. ap frameIn (else-case _ _ _ wrong) ∙ no-bytes [] refl)
+
+-- What the code has of a line of which all bytes so far were collected.
+pub record Collected (line buffer : List ℕ) (digits : ℕ) : Type 0 where
+  pub room : length buffer ≡ 512
+  pub counted : digits ≡ min (length line) 513
+  pub stands : length line ≤ 512 → take digits buffer ≡ line
+
+pub none-collected : (buffer : List ℕ) → length buffer ≡ 512 → Collected [] buffer 0
+none-collected buffer room = record { room = room; counted = omega arith; stands = λ _. refl }
+
+pub more-collected : {line buffer : List ℕ} {digits : ℕ} (byte : ℕ) → Collected line buffer digits → Collected (line ++ (byte ∷ [])) (set buffer digits byte) (longer digits)
+unfolding longer
+more-collected {line} {buffer} {digits} byte so-far =
+    let one-more = length-append line (byte ∷ []) in
+    less-or-not digits 512
+    (λ fits.
+    let next = then-case (ltb digits 512) (digits + 1) 513 (lt-ltb digits 512 fits) in
+    let inside : digits < length buffer = omega (arith, so-far .room) in
+    record {
+      room = length-set buffer digits byte ∙ so-far .room;
+      counted = next ∙ omega (arith, one-more, so-far .counted);
+      stands = λ short. rw (next, add-one digits) (take-suc-set buffer digits byte inside ∙ ap (λ (l : List ℕ). l ++ (byte ∷ [])) (so-far .stands (omega (arith, one-more))));
+    })
+    (λ full.
+    record {
+      room = length-set buffer digits byte ∙ so-far .room;
+      counted = else-case (ltb digits 512) (digits + 1) 513 (le-ltb digits 512 full) ∙ omega (arith, one-more, so-far .counted);
+      stands = λ short. absurd (omega (arith, one-more, so-far .counted));
+    })
+
+-- The frame found is that of the whole line, also of one that is too long.
+pub frame-found : {line buffer : List ℕ} {digits : ℕ} → Collected line buffer digits → frameOf (lineIn buffer digits) ≡ frameOf line
+unfolding frameOf
+frame-found {line} {buffer} {digits} all =
+    less-or-not 512 (length line)
+    (λ long. ap frameIn (line-too-long buffer digits (omega (arith, all .counted))) ∙ no-bytes [] refl ∙ sym (long-line line long))
+    (λ short. ap (λ (l : List ℕ). frameIn (bytesIn l)) (line-kept buffer digits (omega (arith, all .counted)) ∙ all .stands short))
+
+-- The lines of an input, as they are read: up to each 0A, and what is past the last one.
+abbrev noLineFeed : ℕ → Bool
+noLineFeed byte = not (eqb byte 0x0A)
+
+other-byte : (byte : ℕ) (later : List ℕ) → noLineFeed byte ≡ true → linesOf (byte ∷ later) ≡ withFirst byte (linesOf later)
+unfolding linesOf
+other-byte byte later other = else-case _ _ _ (not-true _ other)
+
+pub lines-cut : (line later : List ℕ) → every noLineFeed line ≡ true → linesOf (line ++ (0x0A ∷ later)) ≡ line ∷ linesOf later
+unfolding every linesOf withFirst
+lines-cut [] later none = then-case _ _ _ refl
+lines-cut (byte ∷ line) later none =
+    other-byte byte (line ++ (0x0A ∷ later)) (both none .0) ∙ ap (withFirst byte) (lines-cut line later (both none .1))
+
+pub lines-last : (byte : ℕ) (line : List ℕ) → every noLineFeed (byte ∷ line) ≡ true → linesOf (byte ∷ line) ≡ (byte ∷ line) ∷ []
+unfolding every linesOf withFirst
+lines-last byte [] none = other-byte byte [] (both none .0)
+lines-last byte (next ∷ line) none = other-byte byte (next ∷ line) (both none .0) ∙ ap (withFirst byte) (lines-last next line (both none .1))

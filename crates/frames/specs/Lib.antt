@@ -1,0 +1,6 @@
+pub mod Hexadecimal
+pub mod Frames
+pub mod Printing
+pub mod Sessions
+pub mod Transcript
+pub mod Held

@@ -1,0 +1,25 @@
+-- The line printed for a call: number, row, column, stored count in four bytes, bytes sent.
+use mathlib.Core.List.{List, [], _∷_, _++_}
+use Prim.Native.Nat.{ℕ}
+use lib.ListN.{take}
+use Rattle.terminal.specs.Answers.{Outcome}
+use Rattle.frames.specs.Hexadecimal.{hexOf, highFirst}
+
+unfoldable pub lineOf : List ℕ → List ℕ
+lineOf bytes = hexOf bytes ++ (0x0A ∷ [])
+
+abbrev pub bytesSent : Outcome → List ℕ
+bytesSent outcome = take (outcome .sent) (outcome .output)
+
+unfoldable pub printed : Outcome → List ℕ
+printed outcome =
+    lineOf
+    (highFirst 1 (outcome .number)
+    ++ (highFirst 1 (outcome .terminal .state .cursor .row)
+    ++ (highFirst 1 (outcome .terminal .state .cursor .column)
+    ++ (highFirst 4 (outcome .stored)
+    ++ bytesSent outcome))))
+
+-- Another line, or one before a good start.
+abbrev pub refusal : List ℕ
+refusal = lineOf (0xFF ∷ [])
