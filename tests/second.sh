@@ -1,0 +1,20 @@
+#!/usr/bin/env bash
+# The programs against the second program (second/), which was written from document 01 alone: on fixed seeds, which
+# decide, and on new ones, which are printed. A difference is shown as a short transcript.
+set -eu
+command -v cargo >/dev/null || apt-get install -y -qq cargo >/dev/null
+build() { cargo "$@" --quiet --release --offline --manifest-path second/Cargo.toml --target-dir target/second; }
+build build
+build test >target/second/tests.log 2>&1 || { cat target/second/tests.log; exit 1; }
+second=target/second/release/second
+
+# the sample sessions, as stored
+./run <sample/stow.txt | cmp - sample/stow.out
+./run dump <sample/page.txt | cmp - sample/page.out
+
+new=$(date +%s)
+printf 'new seeds: %s and the 49 after it\n' "$new"
+for mode in transcript dump; do
+    $second compare $mode ./run $mode -- 1 200 300
+    $second compare $mode ./run $mode -- "$new" 50 300
+done
