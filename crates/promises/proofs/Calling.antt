@@ -27,7 +27,7 @@ unfolding after
 after-joined t [] second = refl
 after-joined t (step ∷ later) second = after-joined (step .terminal) later second
 
-sent-joined : (first second : List Stepped) → sentBy (first ++ second) ≡ sentBy first ++ sentBy second
+pub sent-joined : (first second : List Stepped) → sentBy (first ++ second) ≡ sentBy first ++ sentBy second
 unfolding sentBy
 sent-joined [] second = refl
 sent-joined (step ∷ later) second = rw (append-assoc, sent-joined later second)
@@ -37,7 +37,7 @@ unfolding storedBy
 stored-joined [] second = refl
 stored-joined (step ∷ later) second = rw (append-assoc, stored-joined later second)
 
-steps-joined : (m : Machine) (t : Terminal) (first second : List Input) → steps m t (first ++ second) ≡ steps m t first ++ steps m (after t (steps m t first)) second
+pub steps-joined : (m : Machine) (t : Terminal) (first second : List Input) → steps m t (first ++ second) ≡ steps m t first ++ steps m (after t (steps m t first)) second
 unfolding steps after
 steps-joined m t [] second = refl
 steps-joined m t (input ∷ later) second = rw (steps-joined m (stepOf m input t .terminal) later second)
@@ -54,7 +54,7 @@ later-done : {outcome : Outcome} {later : List Outcome} → AllDone (outcome ∷
 later-done (done outcome later number further) = further
 
 module _ (m : Machine) (step-laws : StepLaws m) (call-laws : CallLaws m) where
-  steps-keep-valid : (t : Terminal) → Valid t → (inputs : List Input) → Valid (after t (steps m t inputs))
+  pub steps-keep-valid : (t : Terminal) → Valid t → (inputs : List Input) → Valid (after t (steps m t inputs))
   unfolding steps after
   steps-keep-valid t valid [] = valid
   steps-keep-valid t valid (input ∷ later) = steps-keep-valid (stepOf m input t .terminal) (step-laws .every-step input t valid .valid) later

@@ -15,6 +15,7 @@ pub mod FeedingFields
 pub mod Feeding
 pub mod Sending
 pub mod Refusing
+pub mod CopiedCalls
 pub mod Theorems
 pub mod Sheets
 pub mod Computing

@@ -1,6 +1,7 @@
 -- What the terminal of document 01 promises: each claim of specs/Promises.antt.
+use Rattle.terminal.proofs.Theorems as Terminals
 use Rattle.promises.specs.Streams.{ours}
-use Rattle.promises.specs.Promises.{Numbers, Refusals, StaysValid, Cutting, Continuing, FeedingBack, KeysKeep, BlocksKeep, Copying, Omission, CallsAreSteps, Bounded}
+use Rattle.promises.specs.Promises.{Numbers, Refusals, OneResult, StaysValid, Cutting, Continuing, FeedingBack, KeysKeep, BlocksKeep, Copying, Omission, CallsAreSteps, CopyingCalls, Bounded}
 use Rattle.promises.proofs.OurLaws.{our-step-laws, our-call-laws}
 use Rattle.promises.proofs.Refusing.{our-numbers, our-refusals, our-stays-valid, our-keys-keep}
 use Rattle.promises.proofs.Calling.{calls-are-steps-of, cutting-of, continuing-of}
@@ -8,6 +9,7 @@ use Rattle.promises.proofs.Feeding as Feeding
 use Rattle.promises.proofs.Sending.{blocks-keep-of, bounded-of}
 use Rattle.promises.proofs.Copied.{copying-of}
 use Rattle.promises.proofs.Omitted.{omission-of}
+use Rattle.promises.proofs.CopiedCalls.{copying-calls-of}
 
 -- Demand 1.
 pub numbers : Numbers ours
@@ -15,6 +17,9 @@ numbers = our-numbers
 
 pub refusals : Refusals ours
 refusals = our-refusals
+
+pub one-result : OneResult
+one-result one other page there output lent outcome a b = Terminals.one-result a b
 
 pub stays-valid : StaysValid ours
 stays-valid = our-stays-valid
@@ -44,6 +49,9 @@ omission = omission-of ours our-step-laws
 
 pub calls-are-steps : CallsAreSteps ours
 calls-are-steps = calls-are-steps-of ours our-step-laws our-call-laws
+
+pub copying-calls : CopyingCalls ours
+copying-calls = copying-calls-of ours our-step-laws our-call-laws
 
 pub bounded : Bounded ours
 bounded = bounded-of ours our-step-laws

@@ -3,7 +3,7 @@
 -- terminals with one fault each, for which a promise is refuted (proofs/Wrong*.antt).
 use mathlib.Core.Path.{_≡_}
 use mathlib.Core.Bool.{Bool, true, false}
-use mathlib.Core.List.{List, [], _∷_, map, List·Memᴰ}
+use mathlib.Core.List.{List, [], _∷_, _++_, map, List·Memᴰ}
 use mathlib.Core.Logic.{_↔_}
 use Prim.Native.Nat.{ℕ, _<_, _≤_}
 use lib.ListN.{length, drop, getD}
@@ -16,7 +16,9 @@ use Rattle.keys.proofs.Claims.{ProtectedKept}
 use Rattle.terminal.specs.Runs.{stepsOf, after, sentBy, storedBy}
 use Rattle.terminal.specs.Calls.{unstarted}
 use Rattle.terminal.specs.Table.{Line3, Decides, startTable, hostTable, keyTable}
-use Rattle.terminal.specs.Claims.{Leaves, Did}
+use Rattle.terminal.specs.declared.Reply.{Reply}
+use Rattle.terminal.specs.Answers.{Outcome, given}
+use Rattle.terminal.specs.Claims.{Leaves, Did, SameResult}
 use Rattle.promises.specs.Streams.{Machine, Input, byte, stepOf, steps, Call, outcomes, bytesSent, total, inputsDone, AllDone, Read, reads, joinedBytes}
 use Rattle.promises.specs.Copying.{StoresNothing, copyOf, CopyHolds, OmissionHolds}
 
@@ -33,6 +35,12 @@ pub record Refusals (m : Machine) : Type 0 where
   pub of-host : (t : Terminal) (bytes output : List ℕ) → (m .host t bytes output .number ≡ 0 → ⊥) → (m .host t bytes output .number ≡ 3 → ⊥) → Leaves t output (m .host t bytes output)
   pub of-host-3 : (t : Terminal) (bytes output : List ℕ) → m .host t bytes output .number ≡ 3 → (line : Line3 (length output) (stepsOf t bytes)) × Did (length (line .before)) t output (line .before) (m .host t bytes output)
   pub of-key : (t : Terminal) (key : ℕ) (output : List ℕ) → (m .key t key output .number ≡ 0 → ⊥) → Leaves t output (m .key t key output)
+
+-- Any two results that a contract allows are equal: each says that what was given and left is one outcome.
+abbrev pub OneResult : Type 0
+OneResult =
+    (one other : Reply) (page there : Page) (output lent : List ℕ) (outcome : Outcome) → given one page output ≡ outcome → given other there lent ≡ outcome →
+    SameResult one other page there output lent
 
 -- A start given 0 leaves a valid terminal, and so does any list of calls on a valid one: it never meets 1 or 2 again.
 pub record StaysValid (m : Machine) : Type 0 where
@@ -109,6 +117,20 @@ abbrev pub CallsAreSteps : Machine → Type 0
 CallsAreSteps m =
     (t : Terminal) → Valid t → (calls : List Call) →
     total t (outcomes m t calls) ≡ record { terminal = after t (steps m t (inputsDone m t calls)); sent = sentBy (steps m t (inputsDone m t calls)); stored = length (storedBy (steps m t (inputsDone m t calls))) }
+
+-- Demand 3, of calls: wherever in a list of calls the full block was sent, in the middle of a host call too, also of one given 3.
+-- What the calls sent are the messages before it, the block, and the messages after it; over those, the copy and omission hold.
+pub record CopiedOver (m : Machine) (t : Terminal) (calls : List Call) (before : List Input) (first : Input) (later : List Input) (block : List ℕ) : Type 0 where
+  pub sent : total t (outcomes m t calls) .sent ≡ sentBy (steps m t before) ++ (block ++ sentBy (steps m (stepOf m first (after t (steps m t before)) .terminal) later))
+  pub at-first : block ≡ copyOf (stepOf m first (after t (steps m t before)) .terminal)
+  pub copy : CopyHolds block (steps m (stepOf m first (after t (steps m t before)) .terminal) later)
+  pub omission : OmissionHolds (stepOf m first (after t (steps m t before)) .terminal) [] (steps m (stepOf m first (after t (steps m t before)) .terminal) later)
+
+abbrev pub CopyingCalls : Machine → Type 0
+CopyingCalls m =
+    (t : Terminal) → Valid t → (calls : List Call) (before : List Input) (first : Input) (later : List Input) (block : List ℕ) →
+    inputsDone m t calls ≡ before ++ (first ∷ later) → stepOf m first (after t (steps m t before)) .message ≡ fullBlock block →
+    StoresNothing m (stepOf m first (after t (steps m t before)) .terminal) later → CopiedOver m t calls before first later block
 
 -- No block that is sent exceeds 35,185 bytes.
 abbrev pub Bounded : Machine → Type 0

@@ -33,7 +33,7 @@ use Rattle.terminal.specs.Runs.{stepsOf, fitting, after, sentBy, storedB
 use Rattle.terminal.specs.Answers.{numberOf, Outcome, given, unchanged, did, gives}
 use Rattle.terminal.specs.Lines.{isValid, firstOf, startLines, hostLines, keyLines}
 use Rattle.terminal.specs.Calls.{unstarted, startStep, startCall, hostCall, keyCall}
-use Rattle.terminal.specs.Claims.{Leaves, Did}
+use Rattle.terminal.specs.Claims.{Leaves, Did, SameResult}
 use Rattle.terminal.specs.Table.{Line3, Line6, Decides, startTable, hostTable, keyTable}
 use Rattle.terminal.proofs.Deciding.{fits-on, stops-there}
 use Rattle.terminal.proofs.Matching.{ends, next, first-decides-row, decides-one}
@@ -225,11 +225,6 @@ numbers-differ UnknownKey = refl
 numbers-differ Locked = refl
 numbers-differ TooLong = refl
 numbers-differ NoCell = refl
-
-pub record SameResult (one other : Reply) (page there : Page) (output lent : List ℕ) : Type 0 where
-  pub replies : one ≡ other
-  pub pages : page ≡ there
-  pub outputs : output ≡ lent
 
 pub one-result : {one other : Reply} {page there : Page} {output lent : List ℕ} {outcome : Outcome} → given one page output ≡ outcome → given other there lent ≡ outcome → SameResult one other page there output lent
 one-result {one} {other} a b =

@@ -1,10 +1,12 @@
--- What is claimed of a call: that it changed nothing, or that it did some steps.
+-- What is claimed of a call: that it changed nothing, that it did some steps, that two results are the same.
 use mathlib.Core.List.{List}
 use mathlib.Core.Path.{_≡_}
 use Prim.Native.Nat.{ℕ}
 use lib.ListN.{length}
 use Rattle.words.specs.Output.{placed}
+use Rattle.page.specs.Page.{Page}
 use Rattle.steps.specs.Steps.{Terminal, Stepped}
+use Rattle.terminal.specs.declared.Reply.{Reply}
 use Rattle.terminal.specs.Runs.{after, sentBy, storedBy}
 use Rattle.terminal.specs.Answers.{Outcome}
 
@@ -23,3 +25,9 @@ pub record Did (taken : ℕ) (t : Terminal) (lent : List ℕ) (steps : List Step
   pub stored : outcome .stored ≡ length (storedBy steps)
   pub terminal : outcome .terminal ≡ after t steps
   pub output : outcome .output ≡ placed 0 (sentBy steps) lent
+
+-- Two results with what they left are the same.
+pub record SameResult (one other : Reply) (page there : Page) (output lent : List ℕ) : Type 0 where
+  pub replies : one ≡ other
+  pub pages : page ≡ there
+  pub outputs : output ≡ lent
