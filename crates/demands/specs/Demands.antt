@@ -1,0 +1,42 @@
+-- The demands, said of calls that run: what each function gives and leaves is that of its calls, and then the promise.
+use mathlib.Core.Path.{_≡_}
+use mathlib.Core.Bool.{true, false}
+use mathlib.Core.List.{List, [], _∷_, _++_, map, List·Memᴰ}
+use Prim.Native.Nat.{ℕ, _+_, _<_}
+use lib.ListN.{length, take, drop, getD}
+use Rattle.page.specs.Marks.{unprotected}
+use Rattle.page.specs.Page.{Page}
+use Rattle.steps.specs.Steps.{Terminal, Stepped}
+use Rattle.terminal.specs.Answers.{Outcome, numberOf, given}
+use Rattle.terminal.specs.Calls.{hostCall, keyCall}
+use Rattle.promises.specs.Streams.{ours, byte, steps, bytesSent, total}
+use Rattle.promises.specs.Promises.{Receives}
+use Rattle.demands.specs.declared.Replies.{Replies}
+
+-- Demand 2, cutting: host bytes in two reads, each with an output of its own. The page between them is the first call's.
+pub record InTwoReads (t : Terminal) (bytes : List ℕ) (cut : ℕ) (lent lentLater : List ℕ) (replies : Replies) (page : Page) (output outputLater : List ℕ) : Type 0 where
+  pub first : given (replies .first) (hostCall t (take cut bytes) lent .terminal .page) output ≡ hostCall t (take cut bytes) lent
+  pub second : given (replies .second) page outputLater ≡ hostCall (hostCall t (take cut bytes) lent .terminal) (drop cut bytes) lentLater
+  pub as-one : numberOf (replies .first .answer) ≡ 0 → numberOf (replies .second .answer) ≡ 0 →
+      (enough : List ℕ) → hostCall t bytes enough .number ≡ 0 →
+      record {
+        terminal = record { state = replies .second .state; page = page };
+        sent = take (replies .first .sent) output ++ take (replies .second .sent) outputLater;
+        stored = replies .first .stored + replies .second .stored;
+      } ≡ total t (hostCall t bytes enough ∷ [])
+
+-- Demand 2, feeding back: what a receiver's call gave and left that was fed the sender's full block.
+pub record Restored (sender receiver : Terminal) (block : List ℕ) (outcome : Outcome) : Type 0 where
+  pub answered : outcome .number ≡ 0
+  pub nothing-sent : outcome .sent ≡ 0
+  pub nothing-refused : (step : Stepped) → List·Memᴰ step (steps ours receiver (map byte block)) → step .wasRefused ≡ false
+  pub characters : (cell : ℕ) → cell < length (sender .page .marks) → unprotected (sender .page .marks) cell ≡ true → getD (outcome .terminal .page .characters) cell 0 ≡ getD (sender .page .characters) cell 0
+  pub protected-character : (cell : ℕ) → unprotected (sender .page .marks) cell ≡ false → getD (outcome .terminal .page .characters) cell 0 ≡ getD (receiver .page .characters) cell 0
+  pub protection : (cell : ℕ) → cell < length (sender .page .marks) → unprotected (outcome .terminal .page .marks) cell ≡ unprotected (sender .page .marks) cell
+  pub protected-mark : (cell : ℕ) → unprotected (sender .page .marks) cell ≡ false → getD (outcome .terminal .page .marks) cell 0 ≡ getD (receiver .page .marks) cell 0
+
+-- Key 267 at the sender, and the bytes that it sent as host bytes to the receiver.
+pub record SentOn (sender receiver : Terminal) (lent lentThere : List ℕ) (sends gets : Outcome) : Type 0 where
+  pub first : sends ≡ keyCall sender 267 lent
+  pub second : gets ≡ hostCall receiver (bytesSent sends) lentThere
+  pub fed-back : sends .number ≡ 0 → Receives sender receiver → Restored sender receiver (bytesSent sends) gets

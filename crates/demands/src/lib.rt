@@ -1,0 +1,64 @@
+// The three demands, said of what runs: each function calls the entries, and its contract has the promise.
+// The contracts are in specs/Demands.antt; what they rest on is proved in `promises`.
+use state::State;
+use terminal::Reply;
+ghost use Prim.Native.Nat.{_≤_};
+ghost use mathlib.Core.Path.{_≡_};
+ghost use lib.ListN.{length, take, drop};
+ghost use Rattle.page.specs.Page.{pageOf};
+ghost use Rattle.terminal.specs.Answers.{given};
+ghost use Rattle.demands.specs.Demands.{InTwoReads, SentOn};
+
+// What two calls handed back.
+pub struct Replies {
+    pub first: Reply,
+    pub second: Reply,
+}
+
+// A cut past the end is one at the end.
+fn place_of_cut(bytes: &[u8], cut: usize) -> usize
+    ensures { λ r. ⌜ (r ≤ length (now (bytes .entry))) × (take r (now (bytes .entry)) ≡ take cut (now (bytes .entry))) × (drop r (now (bytes .entry)) ≡ drop cut (now (bytes .entry))) ⌝ }
+{
+    if cut <= bytes.len() {
+        return cut;
+    }
+    bytes.len()
+}
+
+// Host bytes, cut anywhere, in two calls.
+pub fn host_in_two(
+    state: State,
+    characters: &mut [u8],
+    marks: &mut [u8],
+    bytes: &[u8],
+    cut: usize,
+    out: &mut [u8],
+    out_later: &mut [u8],
+) -> Replies
+    ensures { λ r. ⌜ InTwoReads (record { state = state; page = pageOf (now (characters .entry)) (now (marks .entry)) }) (now (bytes .entry)) cut (now (out .entry)) (now («out_later» .entry)) r (pageOf (now (characters .exit)) (now (marks .exit))) (now (out .exit)) (now («out_later» .exit)) ⌝ }
+{
+    let at = place_of_cut(bytes, cut);
+    let first = terminal::host(state, characters, marks, &bytes[..at], out);
+    let between = first.state;
+    let second = terminal::host(between, characters, marks, &bytes[at..], out_later);
+    Replies { first, second }
+}
+
+// The full block of one terminal, fed to another.
+pub fn send_on(
+    state: State,
+    characters: &mut [u8],
+    marks: &mut [u8],
+    out: &mut [u8],
+    state_there: State,
+    characters_there: &mut [u8],
+    marks_there: &mut [u8],
+    out_there: &mut [u8],
+) -> Replies
+    ensures { λ r. ⌜ SentOn (record { state = state; page = pageOf (now (characters .entry)) (now (marks .entry)) }) (record { state = «state_there»; page = pageOf (now («characters_there» .entry)) (now («marks_there» .entry)) }) (now (out .entry)) (now («out_there» .entry)) (given (r .first) (pageOf (now (characters .exit)) (now (marks .exit))) (now (out .exit))) (given (r .second) (pageOf (now («characters_there» .exit)) (now («marks_there» .exit))) (now («out_there» .exit))) ⌝ }
+{
+    let first = terminal::key(state, characters, marks, 267, out);
+    let sent = first.sent;
+    let second = terminal::host(state_there, characters_there, marks_there, &out[..sent], out_there);
+    Replies { first, second }
+}
