@@ -17,7 +17,7 @@ use Rattle.blocks.specs.Decode.{inFront, cut, readNumber, readEntry, dec
 use Rattle.blocks.proofs.Claims.{validEntry}
 
 -- What holds of a number's one, two or three digits.
-digits : (P : List ℕ → Type 0) (number : ℕ)
+pub digits : (P : List ℕ → Type 0) (number : ℕ)
     → (number < 10 → P ((0x30 + number) ∷ []))
     → (number < 100 → P ((0x30 + number / 10) ∷ (0x30 + number % 10) ∷ []))
     → P ((0x30 + number / 100) ∷ (0x30 + number / 10 % 10) ∷ (0x30 + number % 10) ∷ [])
@@ -28,7 +28,7 @@ digits P number one two three =
     (λ _. either-line P (ltb number 100) _ _ (λ t. two (ltb-true number 100 t)) (λ _. three))
 
 -- A byte that is neither ESC nor 03, as are all that stand between two ESCs.
-abbrev plain : ℕ → Bool
+abbrev pub plain : ℕ → Bool
 plain byte = leb 0x20 byte
 
 plain-digit : (value : ℕ) → plain (0x30 + value) ≡ true
@@ -49,14 +49,14 @@ plain-characters (character ∷ later) h =
     both-hold _ _ (le-leb 0x20 character (range-holds character 0x20 0x7E (p .0) .0)) (plain-characters later (p .1))
 
 -- What follows an entry's ESC.
-runOf : Entry → List ℕ
+pub runOf : Entry → List ℕ
 runOf entry = 0x5B ∷ (decimal (entry .row) ++ (0x3B ∷ (decimal (entry .column) ++ (0x66 ∷ entry .characters))))
 
-entry-is : (entry : Entry) → entryBytes entry ≡ 0x1B ∷ runOf entry
+pub entry-is : (entry : Entry) → entryBytes entry ≡ 0x1B ∷ runOf entry
 unfolding entryBytes placeBytes runOf
 entry-is entry = simp append-assoc
 
-plain-run : (entry : Entry) → every validCharacter (entry .characters) ≡ true → every plain (runOf entry) ≡ true
+pub plain-run : (entry : Entry) → every validCharacter (entry .characters) ≡ true → every plain (runOf entry) ≡ true
 unfolding runOf every _and_
 plain-run entry h =
     every-append plain (decimal (entry .row)) _ (plain-decimal (entry .row))
@@ -106,12 +106,12 @@ read-entry entry row column =
     rw (read-decimal (entry .row) 0x3B (decimal (entry .column) ++ (0x66 ∷ entry .characters)) row refl, read-decimal (entry .column) 0x66 (entry .characters) column refl)
 
 -- What a valid entry is.
-record Valid (entry : Entry) : Type 0 where
-  row : entry .row < 1000
-  column : entry .column < 1000
-  characters : every validCharacter (entry .characters) ≡ true
+pub record Valid (entry : Entry) : Type 0 where
+  pub row : entry .row < 1000
+  pub column : entry .column < 1000
+  pub characters : every validCharacter (entry .characters) ≡ true
 
-valid : (entry : Entry) → validEntry entry ≡ true → Valid entry
+pub valid : (entry : Entry) → validEntry entry ≡ true → Valid entry
 unfolding validEntry
 valid entry h =
     let p = both h in

@@ -16,7 +16,8 @@ pub enum Sent {
     NoRoom,
 }
 
-fn put_characters(out: &mut [u8], at: usize, characters: &[u8], from: usize, to: usize) -> usize
+// A part of a slice, written.
+pub fn put_characters(out: &mut [u8], at: usize, characters: &[u8], from: usize, to: usize) -> usize
     requires { ⌜ (from ≤ to) × (to ≤ length (now characters)) × (at + (to - from) ≤ length (now out)) ⌝ }
     ensures { λ r. ⌜ Wrote at (take (to - from) (drop from (now (characters .entry)))) (now (out .entry)) r (now (out .exit)) ⌝ }
 {
