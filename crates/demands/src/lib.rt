@@ -1,13 +1,16 @@
 // The three demands, said of what runs: each function calls the entries, and its contract has the promise.
 // The contracts are in specs/Demands.antt; what they rest on is proved in `promises`.
+use laying::Laid;
 use state::State;
+use terminal::Answer;
 use terminal::Reply;
 ghost use Prim.Native.Nat.{_≤_};
 ghost use mathlib.Core.Path.{_≡_};
+ghost use lib.Dec.{eqb};
 ghost use lib.ListN.{length, take, drop};
 ghost use Rattle.page.specs.Page.{pageOf};
-ghost use Rattle.terminal.specs.Answers.{given};
-ghost use Rattle.demands.specs.Demands.{InTwoReads, SentOn};
+ghost use Rattle.terminal.specs.Answers.{given, numberOf};
+ghost use Rattle.demands.specs.Demands.{InTwoReads, SentOn, allAnswered, ThreeKeys, CopyKept};
 
 // What two calls handed back.
 pub struct Replies {
@@ -61,4 +64,100 @@ pub fn send_on(
     let sent = first.sent;
     let second = terminal::host(state_there, characters_there, marks_there, &out[..sent], out_there);
     Replies { first, second }
+}
+
+// What keys 267, any one, and 266 handed back.
+pub struct KeyReplies {
+    pub full: Reply,
+    pub typed: Reply,
+    pub changed: Reply,
+}
+
+// What became of the host's copy: it was laid, or one of the keys was refused.
+pub enum Copy {
+    Made(Laid),
+    NotSent,
+}
+
+pub struct Copied {
+    pub replies: KeyReplies,
+    pub copy: Copy,
+}
+
+fn is_done(reply: Reply) -> bool
+    ensures { λ r. ⌜ r ≡ eqb (numberOf (reply .answer)) 0 ⌝ }
+{
+    let answer = reply.answer;
+    match answer {
+        Answer::Done => true,
+        _ => false,
+    }
+}
+
+fn all_done(replies: KeyReplies) -> bool
+    ensures { λ r. ⌜ r ≡ allAnswered replies ⌝ }
+{
+    let full = replies.full;
+    if !is_done(full) {
+        return false;
+    }
+    let typed = replies.typed;
+    if !is_done(typed) {
+        return false;
+    }
+    let changed = replies.changed;
+    is_done(changed)
+}
+
+// A full block, one key, and a changed block, each into an output of its own.
+fn press_three(
+    state: State,
+    characters: &mut [u8],
+    marks: &mut [u8],
+    key: usize,
+    full: &mut [u8],
+    typed: &mut [u8],
+    changed: &mut [u8],
+) -> KeyReplies
+    ensures { λ r. ⌜ ThreeKeys (record { state = state; page = pageOf (now (characters .entry)) (now (marks .entry)) }) key (now (full .entry)) (now (typed .entry)) (now (changed .entry)) r (pageOf (now (characters .exit)) (now (marks .exit))) (now (full .exit)) (now (typed .exit)) (now (changed .exit)) ⌝ }
+{
+    let first = terminal::key(state, characters, marks, 267, full);
+    let sent = first.state;
+    let second = terminal::key(sent, characters, marks, key, typed);
+    let pressed = second.state;
+    let third = terminal::key(pressed, characters, marks, 266, changed);
+    KeyReplies {
+        full: first,
+        typed: second,
+        changed: third,
+    }
+}
+
+// A full block, one key, and a changed block, which is laid over the full one: the host's copy.
+pub fn keep_copy(
+    state: State,
+    characters: &mut [u8],
+    marks: &mut [u8],
+    key: usize,
+    full: &mut [u8],
+    typed: &mut [u8],
+    changed: &mut [u8],
+    copy: &mut [u8],
+) -> Copied
+    ensures { λ r. ⌜ CopyKept (record { state = state; page = pageOf (now (characters .entry)) (now (marks .entry)) }) key (now (full .entry)) (now (typed .entry)) (now (changed .entry)) (now (copy .entry)) r (pageOf (now (characters .exit)) (now (marks .exit))) (now (full .exit)) (now (typed .exit)) (now (changed .exit)) (now (copy .exit)) ⌝ }
+{
+    let replies = press_three(state, characters, marks, key, full, typed, changed);
+    if !all_done(replies) {
+        return Copied {
+            replies,
+            copy: Copy::NotSent,
+        };
+    }
+    let full_sent = replies.full.sent;
+    let changed_sent = replies.changed.sent;
+    let laid = laying::lay(&changed[..changed_sent], &full[..full_sent], copy);
+    Copied {
+        replies,
+        copy: Copy::Made(laid),
+    }
 }

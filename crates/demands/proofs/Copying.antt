@@ -1,0 +1,214 @@
+-- Demand 3: a changed block that 266 sent, laid over the full block that 267 sent before one key, is the copy of the page.
+use mathlib.Core.Path.{_≡_, refl, sym, ap, _∙_, subst}
+use mathlib.Core.Bool.{Bool, true, false}
+use mathlib.Core.List.{List, [], _∷_, append-nil}
+use Prim.Native.Nat.{ℕ, _≤_}
+use borrow.Author.Tests.{eqb-true}
+use denote.Enum.Declared
+use lib.Dec.{eqb}
+use lib.ListN.{length, take}
+use types.Run
+use Rattle.words.specs.Choice.{if_then_else_, _and_, _is_to_}
+use Rattle.words.proofs.Choosing.{both}
+use Rattle.page.specs.Page.{Page}
+use Rattle.blocks.specs.Blocks.{entriesSent, block}
+use Rattle.blocks.specs.Lay.{lay}
+use Rattle.blocks.proofs.Pages.{valid-entries}
+use Rattle.steps.specs.Steps.{Terminal, Message, silent, report, fullBlock, changedBlock, Stepped, bytesOf, blockMessage, Valid}
+use Rattle.steps.specs.Commands.{sendBlock}
+use Rattle.steps.specs.Keys.{isTyping, keyStep}
+use Rattle.terminal.specs.declared.Answer.{Answer}
+use Rattle.terminal.specs.declared.Answer.the-variants.{Done, WrongSize, WrongState, NoRoom, UnknownKey, Locked, TooLong, NoCell}
+use Rattle.terminal.specs.declared.Reply.{Reply}
+use Rattle.terminal.specs.Runs.{after, sentBy}
+use Rattle.terminal.specs.Answers.{Outcome, numberOf, given}
+use Rattle.terminal.specs.Calls.{keyCall}
+use Rattle.terminal.proofs.Answer.{the-type}
+use Rattle.terminal.proofs.Theorems.{key-done, bytes-sent}
+use Rattle.promises.specs.Streams.{ours, press, stepOf, steps, typing, outcomeOf, bytesSent}
+use Rattle.promises.specs.Copying.{StoresNothing, copyOf, laid, RightAfter, CopyHolds}
+use Rattle.promises.proofs.Keeping.{sendable, same-full-block}
+use Rattle.promises.proofs.OurLaws.{our-step-laws, our-call-laws}
+use Rattle.promises.proofs.Theorems as Promised
+use Rattle.laying.specs.declared.Laid.{Laid}
+use Rattle.laying.specs.Laying.{IsBlock, laying}
+use Rattle.laying.proofs.Laws.{is-block}
+use Rattle.demands.specs.declared.KeyReplies.{KeyReplies}
+use Rattle.demands.specs.declared.Copied.{Copied}
+use Rattle.demands.specs.declared.Copy.the-variants.{Made, NotSent}
+use Rattle.demands.specs.Demands.{fullCall, typedCall, changedCall, ThreeKeys, allAnswered, copying, CopyKept}
+use Rattle.demands.proofs.Laws.{sent-fits}
+
+-- Every answer but the first has another number than 0.
+pub not-done : (answer : Answer) → Run.OneOf (1 ∷ 2 ∷ 3 ∷ 4 ∷ 5 ∷ 6 ∷ 7 ∷ []) (Declared.tagOf the-type answer) → false ≡ eqb (numberOf answer) 0
+unfolding numberOf
+not-done Done others = absurd (Run.miss (1 ∷ 2 ∷ 3 ∷ 4 ∷ 5 ∷ 6 ∷ 7 ∷ []) 0 tt others)
+not-done WrongSize others = refl
+not-done WrongState others = refl
+not-done NoRoom others = refl
+not-done UnknownKey others = refl
+not-done Locked others = refl
+not-done TooLong others = refl
+not-done NoCell others = refl
+
+-- The three calls, each on what the one before left.
+module _ (t : Terminal) (key : ℕ) (lentFull lentTyped lentChanged : List ℕ) where
+  pub three-keys : {first second third : Reply} {afterFirst afterSecond page : Page} {full typed changed : List ℕ} →
+      given first afterFirst full ≡ keyCall t 267 lentFull →
+      given second afterSecond typed ≡ keyCall (record { state = first .state; page = afterFirst }) key lentTyped →
+      given third page changed ≡ keyCall (record { state = second .state; page = afterSecond }) 266 lentChanged →
+      ThreeKeys t key lentFull lentTyped lentChanged (record { full = first; typed = second; changed = third }) page full typed changed
+  three-keys {first} {second} {third} {full} {typed} one is-second is-third =
+      let left = ap (λ (o : Outcome). o .terminal) one in
+      let two = is-second ∙ ap (λ (u : Terminal). keyCall u key lentTyped) left in
+      let left-then = ap (λ (o : Outcome). o .terminal) two in
+      record {
+        first = (λ i. given first (sym left i .page) full) ∙ one;
+        second = (λ i. given second (sym left-then i .page) typed) ∙ two;
+        third = is-third ∙ ap (λ (u : Terminal). keyCall u 266 lentChanged) left-then;
+      }
+
+-- What the two keys that send, send.
+module _ (t : Terminal) where
+  abbrev blockOf : Bool → List ℕ
+  blockOf full = block full (t .state .size .columns) (t .page)
+
+  full-sent : keyStep 267 t .message ≡ fullBlock (blockOf true)
+  unfolding keyStep isTyping sendBlock blockMessage if_then_else_ _is_to_ _and_
+  full-sent = refl
+
+  changed-sent : keyStep 266 t .message ≡ changedBlock (blockOf false)
+  unfolding keyStep isTyping sendBlock blockMessage if_then_else_ _is_to_ _and_
+  changed-sent = refl
+
+  block-is-block : Valid t → (full : Bool) → IsBlock (blockOf full)
+  unfolding block
+  block-is-block valid full = is-block (entriesSent full (t .state .size .columns) (t .page)) (valid-entries (t .state .size .columns) (t .page) (sendable valid) full)
+
+-- The three steps.
+module _ (t : Terminal) (valid : Valid t) (key : ℕ) where
+  abbrev one : Stepped
+  one = keyStep 267 t
+
+  abbrev two : Stepped
+  two = keyStep key (one .terminal)
+
+  abbrev three : Stepped
+  three = keyStep 266 (two .terminal)
+
+  abbrev first-block : List ℕ
+  first-block = blockOf t true
+
+  one-valid : Valid (one .terminal)
+  unfolding stepOf
+  one-valid = our-step-laws .every-step (press 267) t valid .valid
+
+  two-valid : Valid (two .terminal)
+  unfolding stepOf
+  two-valid = our-step-laws .every-step (press key) (one .terminal) one-valid .valid
+
+  first-is-copy : first-block ≡ copyOf (one .terminal)
+  unfolding stepOf
+  first-is-copy = Promised.copying t valid (press 267) first-block (full-sent t) .0
+
+  holds : RightAfter (two .message) (laid (two .message) first-block) (two .terminal) × RightAfter (three .message) (laid (three .message) (laid (two .message) first-block)) (three .terminal)
+  unfolding stepOf steps StoresNothing CopyHolds
+  holds =
+      let all = Promised.copying t valid (press 267) first-block (full-sent t) .1 (press key ∷ press 266 ∷ []) tt in
+      (all .0, all .1 .0)
+
+  -- The key between leaves the copy: if it sends a block itself, it stores nothing.
+  page-unstored : two .cells ≡ [] → copyOf (two .terminal) ≡ first-block
+  unfolding stepOf
+  page-unstored no-cell =
+      sym (same-full-block (one .terminal) one-valid two (our-step-laws .every-step (press key) (one .terminal) one-valid) no-cell) ∙ sym first-is-copy
+
+  copy-stays : (message : Message) → two .message ≡ message → laid message first-block ≡ first-block
+  unfolding laid RightAfter stepOf
+  copy-stays silent sends = refl
+  copy-stays (report bytes) sends = refl
+  copy-stays (fullBlock bytes) sends =
+      subst (λ (m : Message). RightAfter m (laid m first-block) (two .terminal)) sends (holds .0)
+      ∙ page-unstored (our-step-laws .every-step (press key) (one .terminal) one-valid .full-block bytes sends .no-cell)
+  copy-stays (changedBlock bytes) sends =
+      subst (λ (m : Message). RightAfter m (laid m first-block) (two .terminal)) sends (holds .0)
+      ∙ page-unstored (our-step-laws .every-step (press key) (one .terminal) one-valid .changed-block bytes sends .no-cell)
+
+  copy-right : lay (blockOf (two .terminal) false) first-block ≡ copyOf (three .terminal)
+  unfolding laid RightAfter
+  copy-right =
+      ap (lay (blockOf (two .terminal) false)) (sym (copy-stays (two .message) refl))
+      ∙ subst (λ (m : Message). RightAfter m (laid m (laid (two .message) first-block)) (three .terminal)) (changed-sent (two .terminal)) (holds .1)
+
+-- A key call given 0 is its key's step.
+record Pressed (t : Terminal) (key : ℕ) (outcome : Outcome) : Type 0 where
+  valid : Valid t
+  terminal : outcome .terminal ≡ keyStep key t .terminal
+  sent : bytesSent outcome ≡ bytesOf (keyStep key t .message)
+
+pressed : (t : Terminal) (key : ℕ) (lent : List ℕ) → keyCall t key lent .number ≡ 0 → Pressed t key (keyCall t key lent)
+unfolding outcomeOf after sentBy
+pressed t key lent zero =
+    let did = key-done t key lent zero in
+    record { valid = our-call-laws .done-is-valid (typing key lent) t zero; terminal = did .terminal; sent = bytes-sent did ∙ append-nil _ }
+
+-- What the calls sent, and where all were given 0, what that is.
+module _ {t : Terminal} {key : ℕ} {lentFull lentTyped lentChanged : List ℕ} {replies : KeyReplies} {page : Page} {full typed changed : List ℕ} (keys : ThreeKeys t key lentFull lentTyped lentChanged replies page full typed changed) where
+  pub full-fits : replies .full .sent ≤ length full
+  full-fits = sent-fits t 267 lentFull (keys .first)
+
+  pub changed-fits : replies .changed .sent ≤ length changed
+  changed-fits = sent-fits (typedCall t key lentFull lentTyped .terminal) 266 lentChanged (keys .third)
+
+  module _ (answered : allAnswered replies ≡ true) where
+    numbers : (numberOf (replies .full .answer) ≡ 0) × (numberOf (replies .typed .answer) ≡ 0) × (numberOf (replies .changed .answer) ≡ 0)
+    unfolding allAnswered
+    numbers = let p = both answered in let q = both (p .1) in (eqb-true _ _ (p .0), eqb-true _ _ (q .0), eqb-true _ _ (q .1))
+
+    first-pressed : Pressed t 267 (fullCall t lentFull)
+    first-pressed = pressed t 267 lentFull (sym (ap (λ (o : Outcome). o .number) (keys .first)) ∙ numbers .0)
+
+    second-pressed : Pressed (fullCall t lentFull .terminal) key (typedCall t key lentFull lentTyped)
+    second-pressed = pressed _ key lentTyped (sym (ap (λ (o : Outcome). o .number) (keys .second)) ∙ numbers .1)
+
+    third-pressed : Pressed (typedCall t key lentFull lentTyped .terminal) 266 (changedCall t key lentFull lentTyped lentChanged)
+    third-pressed = pressed _ 266 lentChanged (sym (ap (λ (o : Outcome). o .number) (keys .third)) ∙ numbers .2)
+
+    before-changed : typedCall t key lentFull lentTyped .terminal ≡ two t (first-pressed .valid) key .terminal
+    before-changed = second-pressed .terminal ∙ ap (λ (u : Terminal). keyStep key u .terminal) (first-pressed .terminal)
+
+    full-bytes : take (replies .full .sent) full ≡ blockOf t true
+    unfolding bytesOf
+    full-bytes = ap bytesSent (keys .first) ∙ first-pressed .sent ∙ ap bytesOf (full-sent t)
+
+    changed-bytes : take (replies .changed .sent) changed ≡ blockOf (typedCall t key lentFull lentTyped .terminal) false
+    unfolding bytesOf
+    changed-bytes = ap bytesSent (keys .third) ∙ third-pressed .sent ∙ ap bytesOf (changed-sent (typedCall t key lentFull lentTyped .terminal))
+
+    pub full-is-block : IsBlock (take (replies .full .sent) full)
+    full-is-block = subst IsBlock (sym full-bytes) (block-is-block t (first-pressed .valid) true)
+
+    pub changed-is-block : IsBlock (take (replies .changed .sent) changed)
+    changed-is-block = subst IsBlock (sym changed-bytes) (block-is-block (typedCall t key lentFull lentTyped .terminal) (third-pressed .valid) false)
+
+    laid-right : lay (take (replies .changed .sent) changed) (take (replies .full .sent) full) ≡ copyOf (record { state = replies .changed .state; page = page })
+    laid-right =
+        (λ i. lay (changed-bytes i) (full-bytes i))
+        ∙ ap (λ (u : Terminal). lay (blockOf u false) (blockOf t true)) before-changed
+        ∙ copy-right t (first-pressed .valid) key
+        ∙ ap (λ (u : Terminal). copyOf (keyStep 266 u .terminal)) (sym before-changed)
+        ∙ ap copyOf (sym (third-pressed .terminal))
+        ∙ ap (λ (o : Outcome). copyOf (o .terminal)) (sym (keys .third))
+
+    pub copy-made : (lent : List ℕ) {output : List ℕ} {answer : Laid} →
+        record { answer = answer; output = output } ≡ laying (lay (take (replies .changed .sent) changed) (take (replies .full .sent) full)) lent →
+        CopyKept t key lentFull lentTyped lentChanged lent (record { replies = replies; copy = Made answer }) page full typed changed output
+    unfolding copying
+    copy-made lent made =
+        let as-copy = made ∙ ap (λ (bytes : List ℕ). laying bytes lent) laid-right in
+        record { keys = keys; is-copy = (λ i. record { copy = Made (as-copy i .answer); output = as-copy i .output }) ∙ ap (λ (all : Bool). copying all (copyOf (record { state = replies .changed .state; page = page })) lent) (sym answered) }
+
+  pub copy-not-made : (lent : List ℕ) → allAnswered replies ≡ false → CopyKept t key lentFull lentTyped lentChanged lent (record { replies = replies; copy = NotSent }) page full typed changed lent
+  unfolding copying
+  copy-not-made lent refused =
+      record { keys = keys; is-copy = ap (λ (all : Bool). copying all (copyOf (record { state = replies .changed .state; page = page })) lent) (sym refused) }
