@@ -25,7 +25,7 @@ use Rattle.terminal.specs.Answers.{Outcome, numberOf, given}
 use Rattle.terminal.specs.Calls.{keyCall}
 use Rattle.terminal.proofs.Answer.{the-type}
 use Rattle.terminal.proofs.Theorems.{key-done, bytes-sent}
-use Rattle.promises.specs.Streams.{ours, press, stepOf, steps, typing, outcomeOf, bytesSent}
+use Rattle.promises.specs.Streams.{press, stepOf, steps, typing, outcomeOf, bytesSent}
 use Rattle.promises.specs.Copying.{StoresNothing, copyOf, laid, RightAfter, CopyHolds}
 use Rattle.promises.proofs.Keeping.{sendable, same-full-block}
 use Rattle.promises.proofs.OurLaws.{our-step-laws, our-call-laws}
@@ -34,7 +34,6 @@ use Rattle.laying.specs.declared.Laid.{Laid}
 use Rattle.laying.specs.Laying.{IsBlock, laying}
 use Rattle.laying.proofs.Laws.{is-block}
 use Rattle.demands.specs.declared.KeyReplies.{KeyReplies}
-use Rattle.demands.specs.declared.Copied.{Copied}
 use Rattle.demands.specs.declared.Copy.the-variants.{Made, NotSent}
 use Rattle.demands.specs.Demands.{fullCall, typedCall, changedCall, ThreeKeys, allAnswered, copying, CopyKept}
 use Rattle.demands.proofs.Laws.{sent-fits}

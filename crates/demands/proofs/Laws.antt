@@ -1,19 +1,18 @@
 -- What the functions' calls give, put together.
-use mathlib.Core.Path.{_≡_, refl, sym, ap, _∙_, subst}
+use mathlib.Core.Path.{_≡_, sym, ap, _∙_, subst}
 use mathlib.Core.List.{List, [], _∷_, _++_, append-nil}
 use Prim.Native.Nat.{ℕ, _+_, _-_, _<_, _≤_}
 use native.Mathlib.Nat.{add-zero}
 use native.Mathlib.Omega.{arith}
 use lib.ListN.{length, take, drop, length-drop, take-append-drop, drop-of-length-le}
 use lib.Seq.{take-all}
-use Rattle.words.specs.Output.{placed}
 use Rattle.words.proofs.Output.{placed-length}
 use Rattle.page.specs.Page.{Page}
 use Rattle.steps.specs.Steps.{Terminal, bytesOf}
 use Rattle.steps.specs.Keys.{keyStep}
 use Rattle.terminal.specs.declared.Reply.{Reply}
 use Rattle.terminal.specs.Runs.{sentBy}
-use Rattle.terminal.specs.Answers.{Outcome, numberOf, given, unchanged, did}
+use Rattle.terminal.specs.Answers.{Outcome, given, unchanged, did}
 use Rattle.terminal.specs.Calls.{hostCall, keyCall}
 use Rattle.terminal.proofs.Cases.{KeyCase, key-case}
 use Rattle.terminal.proofs.Cases as Cases
@@ -27,8 +26,7 @@ use Rattle.demands.specs.Demands.{InTwoReads, Restored, SentOn}
 pub past-the-end : (bytes : List ℕ) (cut : ℕ) → length bytes < cut → (length bytes ≤ length bytes) × (take (length bytes) bytes ≡ take cut bytes) × (drop (length bytes) bytes ≡ drop cut bytes)
 past-the-end bytes cut past =
     let at-end : length bytes ≤ length bytes = omega arith in
-    let after : length bytes ≤ cut = omega arith in
-    (
+    let after : length bytes ≤ cut = omega arith in (
       at-end,
       take-all (length bytes) bytes at-end ∙ sym (take-all cut bytes after),
       drop-of-length-le bytes at-end ∙ sym (drop-of-length-le bytes after),

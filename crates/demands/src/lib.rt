@@ -62,7 +62,13 @@ pub fn send_on(
 {
     let first = terminal::key(state, characters, marks, 267, out);
     let sent = first.sent;
-    let second = terminal::host(state_there, characters_there, marks_there, &out[..sent], out_there);
+    let second = terminal::host(
+        state_there,
+        characters_there,
+        marks_there,
+        &out[..sent],
+        out_there,
+    );
     Replies { first, second }
 }
 

@@ -2,15 +2,14 @@
 use mathlib.Core.Path.{_≡_, refl, sym, ap, _∙_}
 use mathlib.Core.Bool.{Bool, true, false}
 use mathlib.Core.List.{List, [], _∷_, _++_, append-assoc}
-use Prim.Native.Nat.{ℕ, _+_, _-_, _<_, _≤_, _/_, _%_}
-use native.Mathlib.Nat.{add-zero}
+use Prim.Native.Nat.{ℕ, _+_, _<_, _≤_, _/_, _%_}
 use native.Mathlib.Omega.{arith}
-use borrow.Author.Tests.{ltb-true, lt-ltb, le-leb, lt-leb, leb-true, eqb-true, eq-eqb, ne-eqb}
-use lib.Dec.{ltb, leb, eqb}
+use borrow.Author.Tests.{ltb-true, lt-ltb, le-leb, lt-leb, eqb-true, eq-eqb, ne-eqb}
+use lib.Dec.{ltb, eqb}
 use lib.ListN.{length, drop, getD, drop-of-length-le}
-use Rattle.words.specs.Choice.{if_then_else_, _and_, _or_}
+use Rattle.words.specs.Choice.{_and_, _or_}
 use Rattle.words.specs.Lists.{every}
-use Rattle.words.proofs.Choosing.{then-case, else-case, either-way, both, both-hold, first-decides, first-fails, first-holds, second-decides, second-fails, not-both}
+use Rattle.words.proofs.Choosing.{then-case, else-case, either-way, both, both-hold, first-decides, first-fails, first-holds, second-decides, not-both}
 use Rattle.words.proofs.Walking.{next-element}
 use Rattle.words.proofs.Passing.{every-append}
 use Rattle.output.specs.Decimal.{decimal, placeBytes}
@@ -18,7 +17,7 @@ use Rattle.blocks.specs.Blocks.{Entry, entryBytes, encode}
 use Rattle.blocks.specs.Lay.{samePlace}
 use Rattle.blocks.proofs.Claims.{validEntry}
 use Rattle.blocks.proofs.Decoding.{digits, plain, valid, encode-injective}
-use Rattle.laying.specs.Laying.{plainLength, entryEnd, sameHead}
+use Rattle.laying.specs.Laying.{plainLength, sameHead}
 
 -- The end of an entry: a byte below 20 ends it, and any other is passed.
 module _ (bytes : List ℕ) (end : ℕ) where

@@ -1,7 +1,7 @@
 -- Laying a block over a copy, entry by entry.
 use mathlib.Core.Path.{_≡_, refl, sym, ap, _∙_, subst}
 use mathlib.Core.Bool.{true, false}
-use mathlib.Core.List.{List, [], _∷_, _++_, map}
+use mathlib.Core.List.{List, [], _∷_, _++_}
 use Prim.Native.Nat.{ℕ, _+_, _-_, _<_, _≤_}
 use native.Mathlib.Nat.{add-zero}
 use native.Mathlib.Omega.{arith}
@@ -60,6 +60,7 @@ module _ (bytes : List ℕ) (at : ℕ) (block : IsBlock (drop at bytes)) where
     where
       some : length (drop at bytes) ≡ length bytes - at
       some = length-drop at bytes
+
       go : Shape (drop at bytes) → at < length bytes
       go (begins first) = omega (arith, some, ap (length {A = ℕ}) (first .are))
       go (ends is nothing) = omega (arith, some, ap (length {A = ℕ}) is)
