@@ -1,5 +1,5 @@
 #!/usr/bin/env bash
-# The programs against the second program (second/), which was written from document 01 alone: on fixed seeds, which
+# The programs against the second program (second/), which was written without sight of the Rattle code: on fixed seeds, which
 # decide, and on new ones, which are printed. A difference is shown as a short transcript.
 set -eu
 command -v cargo >/dev/null || apt-get install -y -qq cargo >/dev/null
