@@ -20,6 +20,7 @@ pub mod Theorems
 pub mod Sheets
 pub mod Computing
 pub mod WrongAnswers
+pub mod WrongContracts
 pub mod WrongReads
 pub mod WrongKeys
 pub mod WrongBounds

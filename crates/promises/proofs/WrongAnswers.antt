@@ -36,7 +36,7 @@ module _ {m : Machine} (kept : Numbers m) where
   key-number t key output = sym (our-numbers .of-key t key output _ .1 (kept .of-key t key output _ .0 refl))
 
 -- A field of one cell, modified, with the cursor on it; and the same terminal under the soft lock.
-abbrev oneField : Terminal
+abbrev pub oneField : Terminal
 oneField = at 1 (sheet (0x41 ∷ 0x20 ∷ 0x20 ∷ 0x20 ∷ 0x20 ∷ []) (2 ∷ 1 ∷ 1 ∷ 1 ∷ 1 ∷ []))
 
 abbrev locked : Terminal
@@ -69,10 +69,10 @@ unfolding calls keySteps
 lockedBeforeUnknown-breaks-numbers kept = eqb-false 5 4 refl (key-number kept locked 0 [] ∙ unknown-locked)
 
 -- A page of one cell is of no listed size: a start is given 1, and hands the page back as it was.
-abbrev tiny : Page
+abbrev pub tiny : Page
 tiny = pageOf (0x41 ∷ []) (0 ∷ [])
 
-abbrev oneByOne : Size
+abbrev pub oneByOne : Size
 oneByOne = record { rows = 1; columns = 1 }
 
 pub blanksRefusedStart-breaks-refusals : Refusals blanksRefusedStart → ⊥

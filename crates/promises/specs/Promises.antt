@@ -17,9 +17,10 @@ use Rattle.terminal.specs.Runs.{stepsOf, after, sentBy, storedBy}
 use Rattle.terminal.specs.Calls.{unstarted}
 use Rattle.terminal.specs.Table.{Line3, Decides, startTable, hostTable, keyTable}
 use Rattle.terminal.specs.declared.Reply.{Reply}
-use Rattle.terminal.specs.Answers.{Outcome, given}
+use Rattle.terminal.specs.Answers.{Outcome}
 use Rattle.terminal.specs.Claims.{Leaves, Did, SameResult}
 use Rattle.promises.specs.Streams.{Machine, Input, byte, stepOf, steps, Call, outcomes, bytesSent, total, inputsDone, AllDone, Read, reads, joinedBytes}
+use Rattle.promises.specs.Contracts.{Allowed, Contracts}
 use Rattle.promises.specs.Copying.{StoresNothing, copyOf, CopyHolds, OmissionHolds}
 
 -- Demand 1, the numbers: each call is given n exactly when n's line holds and none before it does.
@@ -36,11 +37,15 @@ pub record Refusals (m : Machine) : Type 0 where
   pub of-host-3 : (t : Terminal) (bytes output : List ℕ) → m .host t bytes output .number ≡ 3 → (line : Line3 (length output) (stepsOf t bytes)) × Did (length (line .before)) t output (line .before) (m .host t bytes output)
   pub of-key : (t : Terminal) (key : ℕ) (output : List ℕ) → (m .key t key output .number ≡ 0 → ⊥) → Leaves t output (m .key t key output)
 
--- Any two results that a contract allows are equal: each says that what was given and left is one outcome.
-abbrev pub OneResult : Type 0
-OneResult =
-    (one other : Reply) (page there : Page) (output lent : List ℕ) (outcome : Outcome) → given one page output ≡ outcome → given other there lent ≡ outcome →
-    SameResult one other page there output lent
+-- Demand 1, one result: whatever comes in, any two results that the contract of an entry allows are the same.
+abbrev pub AllSame : Allowed → Type 0
+AllSame allowed =
+    (one other : Reply) (page there : Page) (output lent : List ℕ) → allowed one page output → allowed other there lent → SameResult one other page there output lent
+
+pub record OneResult (contracts : Contracts) : Type 0 where
+  pub of-start : (size : Size) (page : Page) → AllSame (contracts .start size page)
+  pub of-host : (t : Terminal) (bytes output : List ℕ) → AllSame (contracts .host t bytes output)
+  pub of-key : (t : Terminal) (key : ℕ) (output : List ℕ) → AllSame (contracts .key t key output)
 
 -- A start given 0 leaves a valid terminal, and so does any list of calls on a valid one: it never meets 1 or 2 again.
 pub record StaysValid (m : Machine) : Type 0 where

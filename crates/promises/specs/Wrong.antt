@@ -1,5 +1,6 @@
 -- Wrong terminals, each ours with one thing changed: a promise that one of these kept would say nothing.
 -- That each breaks its promise is proved in proofs/Wrong*.antt.
+use mathlib.Core.Path.{_≡_}
 use mathlib.Core.Bool.{Bool, true, false}
 use mathlib.Core.List.{List, [], _∷_, _++_, map, reverse}
 use Prim.Native.Nat.{ℕ, _+_}
@@ -20,9 +21,10 @@ use Rattle.steps.specs.Host.{hostStep}
 use Rattle.steps.specs.Keys.{isTyping, isLocked, fieldsHere, run, keyStep}
 use Rattle.terminal.specs.declared.Answer.the-variants.{Done, Locked, TooLong}
 use Rattle.terminal.specs.Runs.{stepsOf, sentBy}
-use Rattle.terminal.specs.Answers.{Outcome, unchanged, did}
+use Rattle.terminal.specs.Answers.{Outcome, given, unchanged, did}
 use Rattle.terminal.specs.Calls.{startCall, hostCall, keyCall}
-use Rattle.promises.specs.Streams.{Machine, ours}
+use Rattle.promises.specs.Streams.{Machine, ours, bytesSent}
+use Rattle.promises.specs.Contracts.{Contracts}
 
 -- Ours with another function for one of the five.
 abbrev withOnByte : (ℕ → Terminal → Stepped) → Machine
@@ -40,7 +42,7 @@ withHost host = record { onByte = ours .onByte; onKey = ours .onKey; start = our
 abbrev withKey : (Terminal → ℕ → List ℕ → Outcome) → Machine
 withKey key = record { onByte = ours .onByte; onKey = ours .onKey; start = ours .start; host = ours .host; key = key }
 
--- An outcome with another terminal, other bytes taken, another count.
+-- An outcome with another terminal, other bytes taken, another count, another output.
 abbrev leaving : Terminal → Outcome → Outcome
 leaving t o = record { number = o .number; taken = o .taken; sent = o .sent; stored = o .stored; terminal = t; output = o .output }
 
@@ -49,6 +51,9 @@ taking taken o = record { number = o .number; taken = taken; sent = o .sent; sto
 
 abbrev counting : ℕ → Outcome → Outcome
 counting stored o = record { number = o .number; taken = o .taken; sent = o .sent; stored = stored; terminal = o .terminal; output = o .output }
+
+abbrev showing : List ℕ → Outcome → Outcome
+showing output o = record { number = o .number; taken = o .taken; sent = o .sent; stored = o .stored; terminal = o .terminal; output = output }
 
 -- A terminal with another page, with nothing half read, with no cell modified.
 abbrev withPage : Page → Terminal → Terminal
@@ -91,6 +96,26 @@ losesSequenceOn3 = withHost (λ t bytes output.
     let given = hostCall t bytes output in
     if eqb (given .number) 3 then leaving (withNothingRead (given .terminal)) given
     else given)
+
+-- One result. Contracts that compare only what is seen of an outcome.
+abbrev seeing : (Outcome → Outcome) → Contracts
+seeing seen = record {
+  start = λ size page reply left output. seen (given reply left output) ≡ seen (startCall size page);
+  host = λ t bytes lent reply left output. seen (given reply left output) ≡ seen (hostCall t bytes lent);
+  key = λ t key lent reply left output. seen (given reply left output) ≡ seen (keyCall t key lent);
+}
+
+-- They leave open the output past the bytes sent,
+abbrev pub openPastSent : Contracts
+openPastSent = seeing (λ o. showing (bytesSent o) o)
+
+-- or the count of cells stored,
+abbrev pub openCount : Contracts
+openCount = seeing (counting 0)
+
+-- or the half-read record.
+abbrev pub openHalfRead : Contracts
+openHalfRead = seeing (λ o. leaving (withNothingRead (o .terminal)) o)
 
 -- Validity. A host call leaves the cursor in row 0.
 abbrev pub leavesRow0 : Machine
@@ -221,14 +246,7 @@ inventsCount = withHost (λ t bytes output. let given = hostCall t bytes output 
 abbrev pub sendsBackwards : Machine
 sendsBackwards = withHost (λ t bytes output.
     let given = hostCall t bytes output in
-    record {
-      number = given .number;
-      taken = given .taken;
-      sent = given .sent;
-      stored = given .stored;
-      terminal = given .terminal;
-      output = placed 0 (sentBy (reverse (stepsOf t (take (given .taken) bytes)))) output;
-    })
+    showing (placed 0 (sentBy (reverse (stepsOf t (take (given .taken) bytes)))) output) given)
 
 -- The bound. A full block ends with 03 twice,
 abbrev pub endsTwice : Machine
