@@ -7,7 +7,7 @@ use lib.Seq.{take-length}
 use Rattle.steps.specs.Steps.{Terminal, Stepped, Valid}
 use Rattle.terminal.specs.Answers.{Outcome}
 use Rattle.terminal.specs.Runs.{after, sentBy, storedBy}
-use Rattle.promises.specs.Streams.{Machine, Input, byte, stepOf, steps, read, outcomeOf, outcomes, Total, bytesSent, total, inputsOf, inputsDone, AllDone, done, Read, reads, joinedBytes}
+use Rattle.promises.specs.Streams.{Machine, Input, byte, stepOf, steps, Call, read, outcomeOf, outcomes, Total, bytesSent, total, inputsOf, inputsDone, AllDone, done, Read, reads, joinedBytes}
 use Rattle.promises.specs.Laws.{StepLaws, DidSteps, CallLaws}
 use Rattle.promises.specs.Promises.{CallsAreSteps, Cutting, Continuing}
 
@@ -46,6 +46,11 @@ steps-joined m t (input ∷ later) second = rw (steps-joined m (stepOf m input t
 total-joined : (t : Terminal) (first second : List Stepped) (outcome : Outcome) → DidSteps t first outcome → inFront outcome (totalOf (after t first) second) ≡ totalOf t (first ++ second)
 total-joined t first second outcome did =
     rw (after-joined t first second, sent-joined first second, stored-joined first second, length-append (storedBy first) (storedBy second), did .sent, did .stored)
+
+-- What a call did, in front of what later calls did.
+pub inputs-in-front : (m : Machine) (t : Terminal) (call : Call) (calls : List Call) {outcome : Outcome} → outcomeOf m call t ≡ outcome → inputsDone m t (call ∷ calls) ≡ inputsOf call outcome ++ inputsDone m (outcome .terminal) calls
+unfolding inputsDone
+inputs-in-front m t call calls is = λ i. inputsOf call (is i) ++ inputsDone m (is i .terminal) calls
 
 pub first-done : {outcome : Outcome} {later : List Outcome} → AllDone (outcome ∷ later) → outcome .number ≡ 0
 first-done (done outcome later number further) = number

@@ -26,4 +26,5 @@ pub mod WrongKeys
 pub mod WrongBounds
 pub mod WrongFeeding
 pub mod WrongCopies
+pub mod WrongCalls
 pub mod Worked

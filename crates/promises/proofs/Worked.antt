@@ -1,15 +1,15 @@
 -- Demand 3 worked out on a form: two fields in row 1, AB and CD, with a protected colon between them.
-use mathlib.Core.Path.{_≡_, refl, sym, ap, _∙_, subst}
-use mathlib.Core.List.{List, [], _∷_, _++_, map, append-nil}
-use mathlib.Core.Bool.{Bool, true, false}
-use Prim.Native.Nat.{ℕ, _≤_}
+use mathlib.Core.Path.{_≡_, refl, ap, _∙_}
+use mathlib.Core.List.{List, [], _∷_, _++_, map}
+use mathlib.Core.Bool.{true, false}
+use Prim.Native.Nat.{ℕ}
 use native.Mathlib.Omega.{arith}
 use lib.ListN.{length, replicate}
-use Rattle.blocks.specs.Blocks.{Entry, block}
+use Rattle.blocks.specs.Blocks.{block}
 use Rattle.blocks.specs.Decode.{decode}
 use Rattle.blocks.specs.Lay.{lay}
 use Rattle.page.specs.Page.{Page}
-use Rattle.steps.specs.Steps.{Terminal, Message, silent, report, fullBlock, changedBlock, Stepped, Valid}
+use Rattle.steps.specs.Steps.{Terminal, silent, report, fullBlock, changedBlock, Stepped, Valid}
 use Rattle.words.specs.Output.{placed}
 use Rattle.terminal.specs.Runs.{stepsOf, sentBy}
 use Rattle.terminal.specs.Answers.{Outcome}
@@ -18,6 +18,7 @@ use Rattle.terminal.proofs.Deciding.{valid-holds, key-done}
 use Rattle.terminal.proofs.Cases.{host-did}
 use Rattle.promises.specs.Streams.{ours, Input, byte, press, stepOf, steps, Call, read, typing, outcomeOf, outcomes, bytesSent, inputsOf, inputsDone}
 use Rattle.promises.specs.Copying.{StoresNothing, CopyHolds, OmissionHolds}
+use Rattle.promises.proofs.Calling.{inputs-in-front}
 use Rattle.promises.proofs.Theorems.{copying, omission}
 use Rattle.promises.proofs.Sheets.{sheet, at, sheet-block}
 use Rattle.promises.proofs.Computing.{validity, blockBytes, laying, hostSteps, keySteps, calls, streams}
@@ -152,10 +153,10 @@ unfolding streams
 no-calls = record { outcomes-seen = refl; inputs-are = refl }
 
 next-call : {t : Terminal} {calls : List Call} {saw : List Seen} {inputs : List Input} (call : Call) (outcome : Outcome) → outcomeOf ours call t ≡ outcome → Told (outcome .terminal) calls saw inputs → Told t (call ∷ calls) (seen outcome ∷ saw) (inputsOf call outcome ++ inputs)
-unfolding outcomes inputsDone
+unfolding outcomes
 next-call {calls} call outcome is later = record {
   outcomes-seen = (λ i. seen (is i) ∷ map seen (outcomes ours (is i .terminal) calls)) ∙ ap (λ (rest : List Seen). seen outcome ∷ rest) (later .outcomes-seen);
-  inputs-are = (λ i. inputsOf call (is i) ++ inputsDone ours (is i .terminal) calls) ∙ ap (λ (rest : List Input). inputsOf call outcome ++ rest) (later .inputs-are);
+  inputs-are = inputs-in-front ours _ call calls is ∙ ap (λ (rest : List Input). inputsOf call outcome ++ rest) (later .inputs-are);
 }
 
 -- An outcome whose output is just the bytes sent.

@@ -2,7 +2,7 @@
 use mathlib.Core.Path.{_≡_, refl, sym, ap, _∙_}
 use mathlib.Core.Bool.{true, false}
 use mathlib.Core.List.{List, [], _∷_}
-use Prim.Native.Nat.{ℕ, _<_}
+use Prim.Native.Nat.{ℕ}
 use native.Mathlib.Omega.{arith}
 use borrow.Author.Tests.{eqb-false}
 use lib.ListN.{length, getD}
@@ -12,15 +12,14 @@ use Rattle.page.specs.Page.{Page, pageOf, sentMark, modifiedCleared}
 use Rattle.blocks.specs.Blocks.{block}
 use Rattle.state.specs.declared.Size.{Size}
 use Rattle.state.specs.State.{withLocks}
-use Rattle.state.specs.Validity.{validState}
-use Rattle.steps.specs.Steps.{Terminal, Stepped, withState, Valid}
+use Rattle.steps.specs.Steps.{Terminal, withState, Valid}
 use Rattle.terminal.specs.Runs.{stepsOf, after}
-use Rattle.terminal.specs.Calls.{startCall, hostCall, keyCall}
+use Rattle.terminal.specs.Calls.{hostCall, keyCall}
 use Rattle.terminal.specs.declared.Answer.the-variants.{NoRoom}
 use Rattle.terminal.specs.Answers.{numberOf, unchanged}
 use Rattle.terminal.proofs.Deciding.{valid-holds, key-no-room}
 use Rattle.terminal.proofs.Exceeding.{line-3-done}
-use Rattle.promises.specs.Streams.{ours, Machine, read, typing}
+use Rattle.promises.specs.Streams.{Machine, read, typing}
 use Rattle.promises.specs.Promises.{Numbers, Refusals, StaysValid}
 use Rattle.promises.specs.Wrong.{alwaysRefuses, lockedBeforeUnknown, blanksRefusedStart, clearsTagsRefused, losesSequenceOn3, leavesRow0, setsMessage2}
 use Rattle.promises.proofs.Refusing.{our-numbers}

@@ -2,7 +2,7 @@
 use mathlib.Core.Path.{_≡_, refl, ap, _∙_, subst}
 use mathlib.Core.Bool.{true}
 use mathlib.Core.List.{List, [], _∷_, append-nil}
-use Prim.Native.Nat.{ℕ, _<_, _≤_}
+use Prim.Native.Nat.{ℕ, _<_}
 use native.Mathlib.Omega.{arith}
 use borrow.Author.Tests.{eqb-false}
 use lib.ListN.{length, replicate}
@@ -18,7 +18,7 @@ use Rattle.promises.specs.Promises.{WroteFullBlock, by-key, Receives, Fe
 use Rattle.promises.specs.Wrong.{storesNoText, fixedAnswer, refusesLongReads}
 use Rattle.promises.proofs.Calling.{first-done}
 use Rattle.promises.proofs.Sheets.{sheet, at, sheet-block}
-use Rattle.promises.proofs.Computing.{tests, validity, blockBytes, keySteps, calls, streams}
+use Rattle.promises.proofs.Computing.{validity, blockBytes, keySteps, calls, streams}
 
 -- AB and CD, with a protected cell between them; and the same form, empty.
 abbrev filled : Page

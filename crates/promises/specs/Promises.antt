@@ -17,7 +17,6 @@ use Rattle.terminal.specs.Runs.{stepsOf, after, sentBy, storedBy}
 use Rattle.terminal.specs.Calls.{unstarted}
 use Rattle.terminal.specs.Table.{Line3, Decides, startTable, hostTable, keyTable}
 use Rattle.terminal.specs.declared.Reply.{Reply}
-use Rattle.terminal.specs.Answers.{Outcome}
 use Rattle.terminal.specs.Claims.{Leaves, Did, SameResult}
 use Rattle.promises.specs.Streams.{Machine, Input, byte, stepOf, steps, Call, outcomes, bytesSent, total, inputsDone, AllDone, Read, reads, joinedBytes}
 use Rattle.promises.specs.Contracts.{Allowed, Contracts}

@@ -5,8 +5,8 @@ use mathlib.Core.Bool.{Bool, true, false}
 use mathlib.Core.List.{List, [], _∷_, _++_, map, reverse}
 use Prim.Native.Nat.{ℕ, _+_}
 use lib.Dec.{ltb, eqb}
-use lib.ListN.{length, take, drop, getD, set, replicate}
-use Rattle.words.specs.Choice.{if_then_else_, _and_, _or_}
+use lib.ListN.{length, take, getD, set, replicate}
+use Rattle.words.specs.Choice.{if_then_else_, _and_}
 use Rattle.words.specs.Lists.{selected}
 use Rattle.words.specs.Output.{placed}
 use Rattle.sequence.specs.Record.{nothingRead}
@@ -19,19 +19,26 @@ use Rattle.state.specs.State.{withCursor, withLocks, withHalf}
 use Rattle.steps.specs.Steps.{Terminal, Message, silent, report, fullBlock, changedBlock, Stepped, withState, stores, sends, cursorCell, rowStart}
 use Rattle.steps.specs.Host.{hostStep}
 use Rattle.steps.specs.Keys.{isTyping, isLocked, fieldsHere, run, keyStep}
-use Rattle.terminal.specs.declared.Answer.the-variants.{Done, Locked, TooLong}
-use Rattle.terminal.specs.Runs.{stepsOf, sentBy}
-use Rattle.terminal.specs.Answers.{Outcome, given, unchanged, did}
+use Rattle.terminal.specs.declared.Answer.the-variants.{Done, NoRoom, Locked, TooLong}
+use Rattle.terminal.specs.Runs.{stepsOf, fitting, sentBy}
+use Rattle.terminal.specs.Answers.{Outcome, given, unchanged, did, gives}
+use Rattle.terminal.specs.Lines.{_answers_, firstOf, exceedsRoom, keyLines}
 use Rattle.terminal.specs.Calls.{startCall, hostCall, keyCall}
 use Rattle.promises.specs.Streams.{Machine, ours, bytesSent}
 use Rattle.promises.specs.Contracts.{Contracts}
 
--- Ours with another function for one of the five.
+-- Ours with another function for one of the five; another step of a key is also what its key call does, after lines 1, 2, 4, 5 and 7.
 abbrev withOnByte : (ℕ → Terminal → Stepped) → Machine
 withOnByte onByte = record { onByte = onByte; onKey = ours .onKey; start = ours .start; host = ours .host; key = ours .key }
 
+abbrev pub keyCallBy : (ℕ → Terminal → Stepped) → Terminal → ℕ → List ℕ → Outcome
+keyCallBy onKey t key output =
+    let room = length output in
+    let pressed = onKey key t ∷ [] in
+    gives (firstOf (take 5 (keyLines t key output) ++ (exceedsRoom room pressed answers NoRoom ∷ []))) 0 t output (fitting room pressed)
+
 abbrev withOnKey : (ℕ → Terminal → Stepped) → Machine
-withOnKey onKey = record { onByte = ours .onByte; onKey = onKey; start = ours .start; host = ours .host; key = ours .key }
+withOnKey onKey = record { onByte = ours .onByte; onKey = onKey; start = ours .start; host = ours .host; key = keyCallBy onKey }
 
 abbrev withStart : (Size → Page → Outcome) → Machine
 withStart start = record { onByte = ours .onByte; onKey = ours .onKey; start = start; host = ours .host; key = ours .key }
@@ -52,7 +59,7 @@ taking taken o = record { number = o .number; taken = taken; sent = o .sent; sto
 abbrev counting : ℕ → Outcome → Outcome
 counting stored o = record { number = o .number; taken = o .taken; sent = o .sent; stored = stored; terminal = o .terminal; output = o .output }
 
-abbrev showing : List ℕ → Outcome → Outcome
+abbrev pub showing : List ℕ → Outcome → Outcome
 showing output o = record { number = o .number; taken = o .taken; sent = o .sent; stored = o .stored; terminal = o .terminal; output = output }
 
 -- A terminal with another page, with nothing half read, with no cell modified.
