@@ -6,6 +6,7 @@ pub mod Unsent
 pub mod Omitted
 pub mod OurLaws
 pub mod FeedingRuns
+pub mod Asking
 pub mod FeedingReads
 pub mod FeedingPlace
 pub mod FeedingSender

@@ -5,12 +5,13 @@ use Rattle.terminal.specs.Calls.{startCall, hostCall, keyCall}
 use Rattle.terminal.proofs.Theorems as Terminals
 use Rattle.promises.specs.Streams.{ours}
 use Rattle.promises.specs.Contracts.{ourContracts}
-use Rattle.promises.specs.Promises.{Numbers, Refusals, AllSame, OneResult, StaysValid, Cutting, Continuing, FeedingBack, KeysKeep, BlocksKeep, Copying, Omission, CallsAreSteps, CopyingCalls, Bounded}
+use Rattle.promises.specs.Promises.{Numbers, Refusals, AllSame, OneResult, StaysValid, Cutting, Continuing, FeedingBack, KeysKeep, BlocksKeep, SendsBlocks, Copying, Omission, CallsAreSteps, CopyingCalls, Bounded}
 use Rattle.promises.proofs.OurLaws.{our-step-laws, our-call-laws}
 use Rattle.promises.proofs.Refusing.{our-numbers, our-refusals, our-stays-valid, our-keys-keep}
 use Rattle.promises.proofs.Calling.{calls-are-steps-of, cutting-of, continuing-of}
 use Rattle.promises.proofs.Feeding as Feeding
 use Rattle.promises.proofs.Sending.{blocks-keep-of, bounded-of}
+use Rattle.promises.proofs.Asking.{our-sends-blocks}
 use Rattle.promises.proofs.Copied.{copying-of}
 use Rattle.promises.proofs.Omitted.{omission-of}
 use Rattle.promises.proofs.CopiedCalls.{copying-calls-of}
@@ -52,6 +53,9 @@ pub blocks-keep : BlocksKeep ours
 blocks-keep = blocks-keep-of ours our-step-laws
 
 -- Demand 3, over steps, and that calls are steps.
+pub sends-blocks : SendsBlocks ours
+sends-blocks = our-sends-blocks
+
 pub copying : Copying ours
 copying = copying-of ours our-step-laws
 

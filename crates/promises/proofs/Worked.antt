@@ -11,15 +11,16 @@ use Rattle.blocks.specs.Lay.{lay}
 use Rattle.page.specs.Page.{Page}
 use Rattle.steps.specs.Steps.{Terminal, silent, report, fullBlock, changedBlock, Stepped, Valid}
 use Rattle.words.specs.Output.{placed}
-use Rattle.terminal.specs.Runs.{stepsOf, sentBy}
+use Rattle.terminal.specs.Runs.{stepsOf, after, sentBy}
 use Rattle.terminal.specs.Answers.{Outcome}
 use Rattle.terminal.specs.Calls.{hostCall, keyCall}
 use Rattle.terminal.proofs.Deciding.{valid-holds, key-done}
 use Rattle.terminal.proofs.Cases.{host-did}
 use Rattle.promises.specs.Streams.{ours, Input, byte, press, stepOf, steps, Call, read, typing, outcomeOf, outcomes, bytesSent, inputsOf, inputsDone}
-use Rattle.promises.specs.Copying.{StoresNothing, CopyHolds, OmissionHolds}
+use Rattle.promises.specs.Copying.{StoresNothing}
+use Rattle.promises.specs.Promises.{CopiedOver}
 use Rattle.promises.proofs.Calling.{inputs-in-front}
-use Rattle.promises.proofs.Theorems.{copying, omission}
+use Rattle.promises.proofs.Theorems.{copying-calls}
 use Rattle.promises.proofs.Sheets.{sheet, at, sheet-block}
 use Rattle.promises.proofs.Computing.{validity, blockBytes, laying, hostSteps, keySteps, calls, streams}
 
@@ -98,15 +99,6 @@ messages = λ i.
 stores-nothing : StoresNothing ours (stepOf ours (press 267) start .terminal) afterFirst
 unfolding hostSteps keySteps streams StoresNothing
 stores-nothing = (refl, (refl, (refl, (refl, (refl, (refl, (refl, (refl, tt))))))))
-
--- So demand 3 speaks of these steps: the copy is right after each of the three blocks that follow, and the changed one omits what was not stored.
-copy-holds : CopyHolds (fullBytes 0x41 0x43) (steps ours (stepOf ours (press 267) start .terminal) afterFirst)
-unfolding keySteps streams
-copy-holds = copying start start-valid (press 267) (fullBytes 0x41 0x43) (ap fullBlock (full-noTag 0x41 0x43)) .1 afterFirst stores-nothing
-
-omission-holds : OmissionHolds (stepOf ours (press 267) start .terminal) [] (steps ours (stepOf ours (press 267) start .terminal) afterFirst)
-unfolding keySteps streams
-omission-holds = omission start start-valid (press 267) (fullBytes 0x41 0x43) (ap fullBlock (full-noTag 0x41 0x43)) afterFirst stores-nothing
 
 -- The changed block has one field, the second, whose cell was stored since the block before; the first is omitted.
 one-field : decode changedBytes ≡ record { row = 1; column = 4; characters = 0x59 ∷ 0x44 ∷ [] } ∷ []
@@ -229,3 +221,8 @@ session-told =
     (next-call _ (leaves 0 0 0 [] (sentTwice 4)) refl
     (next-call _ (leaves 0 0 1 [] typedY) refl
     (next-call _ (leaves 0 0 0 changedBytes end) call-266 no-calls)))))))
+
+-- So demand 3 speaks of this session: the copy is right after each of the three blocks that follow, and the changed one omits what was not stored.
+session-copied : CopiedOver ours start session [] (press 267) afterFirst (fullBytes 0x41 0x43)
+unfolding keySteps streams after
+session-copied = copying-calls start start-valid session [] (press 267) afterFirst (fullBytes 0x41 0x43) (session-told .inputs-are) (ap fullBlock (full-noTag 0x41 0x43)) stores-nothing

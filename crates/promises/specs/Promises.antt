@@ -6,10 +6,11 @@ use mathlib.Core.Bool.{Bool, true, false}
 use mathlib.Core.List.{List, [], _∷_, _++_, map, List·Memᴰ}
 use mathlib.Core.Logic.{_↔_}
 use Prim.Native.Nat.{ℕ, _<_, _≤_}
-use lib.ListN.{length, drop, getD}
+use lib.ListN.{length, getD}
 use Rattle.sequence.specs.Record.{nothingRead}
 use Rattle.page.specs.Marks.{isProtected, unprotected}
 use Rattle.page.specs.Page.{Page}
+use Rattle.blocks.specs.Blocks.{block}
 use Rattle.state.specs.declared.Size.{Size}
 use Rattle.steps.specs.Steps.{Terminal, fullBlock, blockMessage, Stepped, Valid}
 use Rattle.keys.proofs.Claims.{ProtectedKept}
@@ -18,7 +19,7 @@ use Rattle.terminal.specs.Calls.{unstarted}
 use Rattle.terminal.specs.Table.{Line3, Decides, startTable, hostTable, keyTable}
 use Rattle.terminal.specs.declared.Reply.{Reply}
 use Rattle.terminal.specs.Claims.{Leaves, Did, SameResult}
-use Rattle.promises.specs.Streams.{Machine, Input, byte, stepOf, steps, Call, outcomes, bytesSent, total, inputsDone, AllDone, Read, reads, joinedBytes}
+use Rattle.promises.specs.Streams.{Machine, Input, byte, press, stepOf, steps, Call, outcomes, bytesSent, total, inputsDone, AllDone, Read, reads, joinedBytes, Carries}
 use Rattle.promises.specs.Contracts.{Allowed, Contracts}
 use Rattle.promises.specs.Copying.{StoresNothing, copyOf, CopyHolds, OmissionHolds}
 
@@ -57,14 +58,11 @@ Cutting m =
     (t : Terminal) (one other : List Read) → joinedBytes one ≡ joinedBytes other → AllDone (outcomes m t (reads one)) → AllDone (outcomes m t (reads other)) →
     total t (outcomes m t (reads one)) ≡ total t (outcomes m t (reads other))
 
--- Demand 2, a call given 3 and then one with the bytes not taken are one stream: they end as one call with room enough does.
+-- Demand 2, calls given 3: reads that carry the same stream, stopped for room wherever and however often, leave, send and store the same.
 abbrev pub Continuing : Machine → Type 0
 Continuing m =
-    (t : Terminal) (bytes short output enough : List ℕ) →
-    let first = m .host t bytes short in
-    let rest = m .host (first .terminal) (drop (first .taken) bytes) output in
-    let whole = m .host t bytes enough in
-    first .number ≡ 3 → rest .number ≡ 0 → whole .number ≡ 0 → total t (first ∷ rest ∷ []) ≡ total t (whole ∷ [])
+    (t : Terminal) (stream : List ℕ) (one other : List Read) → Carries m t stream one → Carries m t stream other →
+    total t (outcomes m t (reads one)) ≡ total t (outcomes m t (reads other))
 
 -- Demand 2, feeding back: the block that 267 or ESC S wrote, from any terminal that these calls find valid.
 pub data WroteFullBlock (m : Machine) (sender : Terminal) : List ℕ → Type 0 where
@@ -81,6 +79,7 @@ pub record Receives (sender receiver : Terminal) : Type 0 where
 
 pub record FedBack (m : Machine) (sender receiver : Terminal) (block : List ℕ) (cut : List Read) : Type 0 where
   pub answered : AllDone (outcomes m receiver (reads cut))
+  pub taken-whole : inputsDone m receiver (reads cut) ≡ map byte block
   pub nothing-sent : total receiver (outcomes m receiver (reads cut)) .sent ≡ []
   pub nothing-refused : (step : Stepped) → List·Memᴰ step (steps m receiver (map byte block)) → step .wasRefused ≡ false
   pub characters : (cell : ℕ) → cell < length (sender .page .marks) → unprotected (sender .page .marks) cell ≡ true → getD (total receiver (outcomes m receiver (reads cut)) .terminal .page .characters) cell 0 ≡ getD (sender .page .characters) cell 0
@@ -103,6 +102,18 @@ abbrev pub BlocksKeep : Machine → Type 0
 BlocksKeep m =
     (t : Terminal) → Valid t → (input : Input) (full : Bool) (bytes : List ℕ) → stepOf m input t .message ≡ blockMessage full bytes →
     (cell : ℕ) → unprotected (t .page .marks) cell ≡ false → getD (stepOf m input t .terminal .page .marks) cell 0 ≡ getD (t .page .marks) cell 0
+
+-- Demand 3, blocks. What asks for one, full or changed: 266, 267, and S after ESC.
+pub data Asks (t : Terminal) : Bool → Input → Type 0 where
+  changed-by-266 : Asks t false (press 266)
+  full-by-267 : Asks t true (press 267)
+  full-by-esc-s : t .state .half .kind ≡ 1 → Asks t true (byte 0x53)
+
+-- A step sends a block exactly when it is asked for, and it is that of the page as it stands.
+abbrev pub SendsBlocks : Machine → Type 0
+SendsBlocks m =
+    (t : Terminal) → Valid t → (input : Input) (full : Bool) (bytes : List ℕ) →
+    (stepOf m input t .message ≡ blockMessage full bytes) ↔ (Asks t full input × (bytes ≡ block full (t .state .size .columns) (t .page)))
 
 -- Demand 3, the copy: after a full block, wherever it was sent, keys and host bytes that store nothing follow.
 abbrev pub Copying : Machine → Type 0

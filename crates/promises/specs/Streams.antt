@@ -3,7 +3,7 @@ use mathlib.Core.Path.{_≡_}
 use mathlib.Core.List.{List, [], _∷_, _++_, map}
 use Prim.Native.Nat.{ℕ, _+_}
 use lib.Dec.{eqb}
-use lib.ListN.{take}
+use lib.ListN.{take, drop}
 use Rattle.words.specs.Choice.{if_then_else_}
 use Rattle.page.specs.Page.{Page}
 use Rattle.state.specs.declared.Size.{Size}
@@ -94,3 +94,11 @@ reads list = map (λ (r : Read). read (r .bytes) (r .output)) list
 unfoldable pub joinedBytes : List Read → List ℕ
 joinedBytes [] = []
 joinedBytes (r ∷ later) = r .bytes ++ joinedBytes later
+
+-- Reads carry a stream: one given 0 took its bytes; where one is given 3, those after it carry on with the bytes that it didn't take.
+pub data Carries (m : Machine) : Terminal → List ℕ → List Read → Type 0 where
+  ended : {t : Terminal} → Carries m t [] []
+  taken : {t : Terminal} (r : Read) {later : List ℕ} {further : List Read} → m .host t (r .bytes) (r .output) .number ≡ 0
+      → Carries m (m .host t (r .bytes) (r .output) .terminal) later further → Carries m t (r .bytes ++ later) (r ∷ further)
+  stopped : {t : Terminal} (r : Read) (later : List ℕ) {further : List Read} → m .host t (r .bytes) (r .output) .number ≡ 3
+      → Carries m (m .host t (r .bytes) (r .output) .terminal) (drop (m .host t (r .bytes) (r .output) .taken) (r .bytes) ++ later) further → Carries m t (r .bytes ++ later) (r ∷ further)
