@@ -7,7 +7,7 @@ use lib.Seq.{take-length}
 use Rattle.steps.specs.Steps.{Terminal, Stepped, Valid}
 use Rattle.terminal.specs.Answers.{Outcome}
 use Rattle.terminal.specs.Runs.{after, sentBy, storedBy}
-use Rattle.promises.specs.Streams.{Machine, Input, byte, stepOf, steps, Call, read, outcomeOf, outcomes, Total, bytesSent, total, inputsOf, inputsDone, AllDone, done, Read, reads, joinedBytes, Carries, ended, taken, stopped}
+use Rattle.promises.specs.Streams.{Machine, Input, byte, stepOf, steps, Call, read, outcomeOf, outcomes, Total, bytesSent, total, inputsOf, inputsDone, AllDone, done, Read, reads, joinedBytes, readAll, readOne, Carries, ended, taken, stopped}
 use Rattle.promises.specs.Laws.{StepLaws, DidSteps, CallLaws}
 use Rattle.promises.specs.Promises.{CallsAreSteps, Cutting, Continuing}
 
@@ -88,10 +88,10 @@ module _ (m : Machine) (step-laws : StepLaws m) (call-laws : CallLaws m) where
   carried-inputs ended = refl
   carried-inputs {t} (taken r {later} zero further) = rw (all-taken t (r .bytes) (r .output) zero, carried-inputs further, map-append byte (r .bytes) later)
   carried-inputs {t} (stopped r later three further) =
-      let n = m .host t (r .bytes) (r .output) .taken in
+      let n = readOne m t r .taken in
       rw (carried-inputs further, ← map-append byte (take n (r .bytes)) (drop n (r .bytes) ++ later), ← append-assoc (take n (r .bytes)) (drop n (r .bytes)) later, take-append-drop n (r .bytes))
 
-  carried : {t : Terminal} {stream : List ℕ} {list : List Read} → Carries m t stream list → total t (outcomes m t (reads list)) ≡ doneBy m t (map byte stream)
+  carried : {t : Terminal} {stream : List ℕ} {list : List Read} → Carries m t stream list → readAll m t list ≡ doneBy m t (map byte stream)
   unfolding outcomes outcomeOf total steps after sentBy storedBy
   carried ended = refl
   carried {t} {stream} {list} (taken r zero further) =

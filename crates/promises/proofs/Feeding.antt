@@ -15,7 +15,7 @@ use Rattle.blocks.proofs.Pages.{all-sent}
 use Rattle.blocks.proofs.Theorems.{longest-block}
 use Rattle.steps.specs.Steps.{Terminal, Valid}
 use Rattle.steps.proofs.Measuring.{measured}
-use Rattle.promises.specs.Streams.{ours, byte, outcomes, total, Read, reads, joinedBytes}
+use Rattle.promises.specs.Streams.{ours, byte, Read, joinedBytes, readAll}
 use Rattle.promises.specs.Promises.{WroteFullBlock, Receives, FedBack, FeedingBack}
 use Rattle.promises.proofs.OurLaws.{our-step-laws, our-call-laws}
 use Rattle.promises.proofs.Calling.{reads-done}
@@ -67,7 +67,7 @@ module _ (sender receiver : Terminal) (bytes : List ℕ) (cut : List Read) (wrot
 
   -- What the reads leave of a cell.
   abbrev left : Page
-  left = total receiver (outcomes ours receiver (reads cut)) .terminal .page
+  left = readAll ours receiver cut .terminal .page
 
   left-character : (cell : ℕ) → getD (left .characters) cell 0 ≡ getD (reached .end .page .characters) cell 0
   left-character cell = ap (λ (t : Terminal). getD (t .page .characters) cell 0) (through .terminal)

@@ -52,7 +52,7 @@ keys-keep = our-keys-keep
 pub blocks-keep : BlocksKeep ours
 blocks-keep = blocks-keep-of ours our-step-laws
 
--- Demand 3, over steps, and that calls are steps.
+-- Demand 3: over steps, and then over calls, which are steps.
 pub sends-blocks : SendsBlocks ours
 sends-blocks = our-sends-blocks
 

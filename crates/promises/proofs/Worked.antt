@@ -223,6 +223,6 @@ session-told =
     (next-call _ (leaves 0 0 0 changedBytes end) call-266 no-calls)))))))
 
 -- So demand 3 speaks of this session: the copy is right after each of the three blocks that follow, and the changed one omits what was not stored.
-session-copied : CopiedOver ours start session [] (press 267) afterFirst (fullBytes 0x41 0x43)
+session-copied : CopiedOver ours start session [] (fullBytes 0x41 0x43) (stepOf ours (press 267) start .terminal) afterFirst
 unfolding keySteps streams after
 session-copied = copying-calls start start-valid session [] (press 267) afterFirst (fullBytes 0x41 0x43) (session-told .inputs-are) (ap fullBlock (full-noTag 0x41 0x43)) stores-nothing

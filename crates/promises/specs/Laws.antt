@@ -1,4 +1,4 @@
--- The laws of a step and of a call from which demands 2 and 3 are proved: whatever terminal keeps these laws keeps those promises.
+-- The laws of a step and of a call: whatever terminal keeps them keeps cutting, continuing, calls as steps, what blocks keep, their bound, the copy and omission.
 use mathlib.Core.Path.{_≡_}
 use mathlib.Core.Bool.{Bool, true, false}
 use mathlib.Core.List.{List, [], List·Memᴰ}

@@ -19,7 +19,7 @@ use Rattle.terminal.specs.Calls.{unstarted}
 use Rattle.terminal.specs.Table.{Line3, Decides, startTable, hostTable, keyTable}
 use Rattle.terminal.specs.declared.Reply.{Reply}
 use Rattle.terminal.specs.Claims.{Leaves, Did, SameResult}
-use Rattle.promises.specs.Streams.{Machine, Input, byte, press, stepOf, steps, Call, outcomes, bytesSent, total, inputsDone, AllDone, Read, reads, joinedBytes, Carries}
+use Rattle.promises.specs.Streams.{Machine, Input, byte, press, stepOf, steps, Call, outcomes, bytesSent, total, inputsDone, AllDone, Read, reads, joinedBytes, readAll, Carries}
 use Rattle.promises.specs.Contracts.{Allowed, Contracts}
 use Rattle.promises.specs.Copying.{StoresNothing, copyOf, CopyHolds, OmissionHolds}
 
@@ -47,7 +47,7 @@ pub record OneResult (contracts : Contracts) : Type 0 where
   pub of-host : (t : Terminal) (bytes output : List ℕ) → AllSame (contracts .host t bytes output)
   pub of-key : (t : Terminal) (key : ℕ) (output : List ℕ) → AllSame (contracts .key t key output)
 
--- A start given 0 leaves a valid terminal, and so does any list of calls on a valid one: it never meets 1 or 2 again.
+-- Demand 1, validity: a start given 0 leaves a valid terminal, and any list of calls leaves a valid one valid: it never meets 1 or 2.
 pub record StaysValid (m : Machine) : Type 0 where
   pub from-start : (size : Size) (page : Page) → m .start size page .number ≡ 0 → Valid (m .start size page .terminal)
   pub through-calls : (t : Terminal) → Valid t → (calls : List Call) → Valid (total t (outcomes m t calls) .terminal)
@@ -56,13 +56,13 @@ pub record StaysValid (m : Machine) : Type 0 where
 abbrev pub Cutting : Machine → Type 0
 Cutting m =
     (t : Terminal) (one other : List Read) → joinedBytes one ≡ joinedBytes other → AllDone (outcomes m t (reads one)) → AllDone (outcomes m t (reads other)) →
-    total t (outcomes m t (reads one)) ≡ total t (outcomes m t (reads other))
+    readAll m t one ≡ readAll m t other
 
 -- Demand 2, calls given 3: reads that carry the same stream, stopped for room wherever and however often, leave, send and store the same.
 abbrev pub Continuing : Machine → Type 0
 Continuing m =
     (t : Terminal) (stream : List ℕ) (one other : List Read) → Carries m t stream one → Carries m t stream other →
-    total t (outcomes m t (reads one)) ≡ total t (outcomes m t (reads other))
+    readAll m t one ≡ readAll m t other
 
 -- Demand 2, feeding back: the block that 267 or ESC S wrote, from any terminal that these calls find valid.
 pub data WroteFullBlock (m : Machine) (sender : Terminal) : List ℕ → Type 0 where
@@ -80,24 +80,24 @@ pub record Receives (sender receiver : Terminal) : Type 0 where
 pub record FedBack (m : Machine) (sender receiver : Terminal) (block : List ℕ) (cut : List Read) : Type 0 where
   pub answered : AllDone (outcomes m receiver (reads cut))
   pub taken-whole : inputsDone m receiver (reads cut) ≡ map byte block
-  pub nothing-sent : total receiver (outcomes m receiver (reads cut)) .sent ≡ []
+  pub nothing-sent : readAll m receiver cut .sent ≡ []
   pub nothing-refused : (step : Stepped) → List·Memᴰ step (steps m receiver (map byte block)) → step .wasRefused ≡ false
-  pub characters : (cell : ℕ) → cell < length (sender .page .marks) → unprotected (sender .page .marks) cell ≡ true → getD (total receiver (outcomes m receiver (reads cut)) .terminal .page .characters) cell 0 ≡ getD (sender .page .characters) cell 0
-  pub protected-character : (cell : ℕ) → unprotected (sender .page .marks) cell ≡ false → getD (total receiver (outcomes m receiver (reads cut)) .terminal .page .characters) cell 0 ≡ getD (receiver .page .characters) cell 0
-  pub protection : (cell : ℕ) → cell < length (sender .page .marks) → unprotected (total receiver (outcomes m receiver (reads cut)) .terminal .page .marks) cell ≡ unprotected (sender .page .marks) cell
-  pub protected-mark : (cell : ℕ) → unprotected (sender .page .marks) cell ≡ false → getD (total receiver (outcomes m receiver (reads cut)) .terminal .page .marks) cell 0 ≡ getD (receiver .page .marks) cell 0
+  pub characters : (cell : ℕ) → cell < length (sender .page .marks) → unprotected (sender .page .marks) cell ≡ true → getD (readAll m receiver cut .terminal .page .characters) cell 0 ≡ getD (sender .page .characters) cell 0
+  pub protected-character : (cell : ℕ) → unprotected (sender .page .marks) cell ≡ false → getD (readAll m receiver cut .terminal .page .characters) cell 0 ≡ getD (receiver .page .characters) cell 0
+  pub protection : (cell : ℕ) → cell < length (sender .page .marks) → unprotected (readAll m receiver cut .terminal .page .marks) cell ≡ unprotected (sender .page .marks) cell
+  pub protected-mark : (cell : ℕ) → unprotected (sender .page .marks) cell ≡ false → getD (readAll m receiver cut .terminal .page .marks) cell 0 ≡ getD (receiver .page .marks) cell 0
 
 abbrev pub FeedingBack : Machine → Type 0
 FeedingBack m =
     (sender receiver : Terminal) (block : List ℕ) (cut : List Read) → WroteFullBlock m sender block → Receives sender receiver → joinedBytes cut ≡ block →
     FedBack m sender receiver block cut
 
--- Demand 2: no key ever changes a protected cell, nor which cells are protected; whatever the state, the slices and the room.
+-- Demand 2, keys: none ever changes a protected cell, nor which cells are protected; whatever the state, the slices and the room.
 pub record KeysKeep (m : Machine) : Type 0 where
   pub protected-cells : (t : Terminal) (key : ℕ) (output : List ℕ) (cell : ℕ) → unprotected (t .page .marks) cell ≡ false → ProtectedKept (t .page) (m .key t key output .terminal .page) cell
   pub protection : (t : Terminal) (key : ℕ) (output : List ℕ) (cell : ℕ) → unprotected (m .key t key output .terminal .page .marks) cell ≡ unprotected (t .page .marks) cell
 
--- A block leaves the marks of protected cells as they are, modified too.
+-- Demand 2, sending: a block leaves the marks of protected cells as they are, modified too.
 abbrev pub BlocksKeep : Machine → Type 0
 BlocksKeep m =
     (t : Terminal) → Valid t → (input : Input) (full : Bool) (bytes : List ℕ) → stepOf m input t .message ≡ blockMessage full bytes →
@@ -119,33 +119,38 @@ SendsBlocks m =
 abbrev pub Copying : Machine → Type 0
 Copying m =
     (t : Terminal) → Valid t → (first : Input) (block : List ℕ) → stepOf m first t .message ≡ fullBlock block →
-    (block ≡ copyOf (stepOf m first t .terminal)) × ((inputs : List Input) → StoresNothing m (stepOf m first t .terminal) inputs → CopyHolds block (steps m (stepOf m first t .terminal) inputs))
+    let there = stepOf m first t .terminal in
+    (block ≡ copyOf there) × ((inputs : List Input) → StoresNothing m there inputs → CopyHolds block (steps m there inputs))
 
 -- Demand 3, omission, over the same inputs.
 abbrev pub Omission : Machine → Type 0
 Omission m =
     (t : Terminal) → Valid t → (first : Input) (block : List ℕ) → stepOf m first t .message ≡ fullBlock block →
-    (inputs : List Input) → StoresNothing m (stepOf m first t .terminal) inputs → OmissionHolds (stepOf m first t .terminal) [] (steps m (stepOf m first t .terminal) inputs)
+    let there = stepOf m first t .terminal in
+    (inputs : List Input) → StoresNothing m there inputs → OmissionHolds there [] (steps m there inputs)
 
 -- Calls are the steps of what they did: their bytes are those messages joined, their count the cells that those steps name.
 abbrev pub CallsAreSteps : Machine → Type 0
 CallsAreSteps m =
     (t : Terminal) → Valid t → (calls : List Call) →
-    total t (outcomes m t calls) ≡ record { terminal = after t (steps m t (inputsDone m t calls)); sent = sentBy (steps m t (inputsDone m t calls)); stored = length (storedBy (steps m t (inputsDone m t calls))) }
+    let done = steps m t (inputsDone m t calls) in
+    total t (outcomes m t calls) ≡ record { terminal = after t done; sent = sentBy done; stored = length (storedBy done) }
 
 -- Demand 3, of calls: wherever in a list of calls the full block was sent, in the middle of a host call too, also of one given 3.
--- What the calls sent are the messages before it, the block, and the messages after it; over those, the copy and omission hold.
-pub record CopiedOver (m : Machine) (t : Terminal) (calls : List Call) (before : List Input) (first : Input) (later : List Input) (block : List ℕ) : Type 0 where
-  pub sent : total t (outcomes m t calls) .sent ≡ sentBy (steps m t before) ++ (block ++ sentBy (steps m (stepOf m first (after t (steps m t before)) .terminal) later))
-  pub at-first : block ≡ copyOf (stepOf m first (after t (steps m t before)) .terminal)
-  pub copy : CopyHolds block (steps m (stepOf m first (after t (steps m t before)) .terminal) later)
-  pub omission : OmissionHolds (stepOf m first (after t (steps m t before)) .terminal) [] (steps m (stepOf m first (after t (steps m t before)) .terminal) later)
+-- What the calls sent is the messages before it, the block, and the messages after it; over those, the copy and omission hold.
+-- `there` is the terminal that the block's step left.
+pub record CopiedOver (m : Machine) (t : Terminal) (calls : List Call) (before : List Input) (block : List ℕ) (there : Terminal) (later : List Input) : Type 0 where
+  pub sent : total t (outcomes m t calls) .sent ≡ sentBy (steps m t before) ++ (block ++ sentBy (steps m there later))
+  pub at-first : block ≡ copyOf there
+  pub copy : CopyHolds block (steps m there later)
+  pub omission : OmissionHolds there [] (steps m there later)
 
 abbrev pub CopyingCalls : Machine → Type 0
 CopyingCalls m =
     (t : Terminal) → Valid t → (calls : List Call) (before : List Input) (first : Input) (later : List Input) (block : List ℕ) →
-    inputsDone m t calls ≡ before ++ (first ∷ later) → stepOf m first (after t (steps m t before)) .message ≡ fullBlock block →
-    StoresNothing m (stepOf m first (after t (steps m t before)) .terminal) later → CopiedOver m t calls before first later block
+    inputsDone m t calls ≡ before ++ (first ∷ later) →
+    let step = stepOf m first (after t (steps m t before)) in
+    step .message ≡ fullBlock block → StoresNothing m (step .terminal) later → CopiedOver m t calls before block (step .terminal) later
 
 -- No block that is sent exceeds 35,185 bytes.
 abbrev pub Bounded : Machine → Type 0

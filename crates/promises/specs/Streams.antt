@@ -95,10 +95,17 @@ unfoldable pub joinedBytes : List Read → List ℕ
 joinedBytes [] = []
 joinedBytes (r ∷ later) = r .bytes ++ joinedBytes later
 
--- Reads carry a stream: one given 0 took its bytes; where one is given 3, those after it carry on with the bytes that it didn't take.
+-- What reads leave together.
+abbrev pub readAll : Machine → Terminal → List Read → Total
+readAll m t list = total t (outcomes m t (reads list))
+
+-- One read; and reads that carry a stream: one given 0 took its bytes; after one given 3 the others carry on with the bytes that it didn't take.
+abbrev pub readOne : Machine → Terminal → Read → Outcome
+readOne m t r = m .host t (r .bytes) (r .output)
+
 pub data Carries (m : Machine) : Terminal → List ℕ → List Read → Type 0 where
   ended : {t : Terminal} → Carries m t [] []
-  taken : {t : Terminal} (r : Read) {later : List ℕ} {further : List Read} → m .host t (r .bytes) (r .output) .number ≡ 0
-      → Carries m (m .host t (r .bytes) (r .output) .terminal) later further → Carries m t (r .bytes ++ later) (r ∷ further)
-  stopped : {t : Terminal} (r : Read) (later : List ℕ) {further : List Read} → m .host t (r .bytes) (r .output) .number ≡ 3
-      → Carries m (m .host t (r .bytes) (r .output) .terminal) (drop (m .host t (r .bytes) (r .output) .taken) (r .bytes) ++ later) further → Carries m t (r .bytes ++ later) (r ∷ further)
+  taken : {t : Terminal} (r : Read) {later : List ℕ} {further : List Read} → readOne m t r .number ≡ 0
+      → Carries m (readOne m t r .terminal) later further → Carries m t (r .bytes ++ later) (r ∷ further)
+  stopped : {t : Terminal} (r : Read) (later : List ℕ) {further : List Read} → readOne m t r .number ≡ 3
+      → Carries m (readOne m t r .terminal) (drop (readOne m t r .taken) (r .bytes) ++ later) further → Carries m t (r .bytes ++ later) (r ∷ further)
