@@ -25,10 +25,10 @@ use Rattle.promises.proofs.Sheets.{sheet, at, sheet-block}
 use Rattle.promises.proofs.Computing.{validity, blockBytes, laying, hostSteps, keySteps, calls, streams}
 
 -- The form, by the first character of each field and the marks; in three states of the marks.
-abbrev form : ℕ → ℕ → List ℕ → Page
+abbrev pub form : ℕ → ℕ → List ℕ → Page
 form one other marks = sheet (one ∷ 0x42 ∷ 0x3A ∷ other ∷ 0x44 ∷ []) marks
 
-abbrev noTag : List ℕ
+abbrev pub noTag : List ℕ
 noTag = 0 ∷ 0 ∷ 1 ∷ 0 ∷ 0 ∷ []
 
 abbrev firstTagged : List ℕ
@@ -38,7 +38,7 @@ abbrev secondTagged : List ℕ
 secondTagged = 0 ∷ 0 ∷ 1 ∷ 2 ∷ 0 ∷ []
 
 -- Where it begins: cursor 1;1, AB and CD, nothing modified.
-abbrev start : Terminal
+abbrev pub start : Terminal
 start = at 1 (form 0x41 0x43 noTag)
 
 start-valid : Valid start
@@ -53,7 +53,7 @@ abbrev afterFirst : List Input
 afterFirst = press 0x58 ∷ (map byte hostBytes ++ (press 259 ∷ press 259 ∷ press 0x59 ∷ press 266 ∷ []))
 
 -- The blocks: ESC [ 1 ; 1 f .. B ESC [ 1 ; 4 f .. D 03, and ESC [ 1 ; 4 f Y D 03; the report: ESC [ 1 ; 2 R.
-abbrev fullBytes : ℕ → ℕ → List ℕ
+abbrev pub fullBytes : ℕ → ℕ → List ℕ
 fullBytes one other = 0x1B ∷ 0x5B ∷ 0x31 ∷ 0x3B ∷ 0x31 ∷ 0x66 ∷ one ∷ 0x42 ∷ 0x1B ∷ 0x5B ∷ 0x31 ∷ 0x3B ∷ 0x34 ∷ 0x66 ∷ other ∷ 0x44 ∷ 0x03 ∷ []
 
 abbrev changedBytes : List ℕ
@@ -152,7 +152,7 @@ next-call {calls} call outcome is later = record {
 }
 
 -- An outcome whose output is just the bytes sent.
-abbrev leaves : ℕ → ℕ → ℕ → List ℕ → Terminal → Outcome
+abbrev pub leaves : ℕ → ℕ → ℕ → List ℕ → Terminal → Outcome
 leaves number taken stored sent t = record { number = number; taken = taken; sent = length sent; stored = stored; terminal = t; output = sent }
 
 -- The terminals that the calls leave: after X, after the host's bytes with the cursor in a column, after Y, after 266.
@@ -169,7 +169,7 @@ abbrev end : Terminal
 end = at 5 (form 0x58 0x59 noTag)
 
 -- The calls that send.
-call-267 : keyCall start 267 (replicate 17 0) ≡ leaves 0 0 0 (fullBytes 0x41 0x43) start
+pub call-267 : keyCall start 267 (replicate 17 0) ≡ leaves 0 0 0 (fullBytes 0x41 0x43) start
 unfolding validity keySteps calls
 call-267 =
     key-done start 267 (replicate 17 0) refl (valid-holds start start-valid) refl refl refl (omega (arith, ap length (full-noTag 0x41 0x43)))
