@@ -91,13 +91,14 @@ module _ (m : Machine) (step-laws : StepLaws m) (call-laws : CallLaws m) where
       let n = readOne m t r .taken in
       rw (carried-inputs further, ← map-append byte (take n (r .bytes)) (drop n (r .bytes) ++ later), ← append-assoc (take n (r .bytes)) (drop n (r .bytes)) later, take-append-drop n (r .bytes))
 
+  as-steps : {t : Terminal} {stream : List ℕ} {list : List Read} → Valid t → Carries m t stream list → readAll m t list ≡ doneBy m t (map byte stream)
+  as-steps {t} {list} valid carries = calls-are-steps-of t valid (reads list) ∙ ap (doneBy m t) (carried-inputs carries)
+
   carried : {t : Terminal} {stream : List ℕ} {list : List Read} → Carries m t stream list → readAll m t list ≡ doneBy m t (map byte stream)
   unfolding outcomes outcomeOf total steps after sentBy storedBy
   carried ended = refl
-  carried {t} {stream} {list} (taken r zero further) =
-      calls-are-steps-of t (call-laws .done-is-valid (read (r .bytes) (r .output)) t zero) (reads list) ∙ ap (doneBy m t) (carried-inputs (taken r zero further))
-  carried {t} {stream} {list} (stopped r later three further) =
-      calls-are-steps-of t (call-laws .stopped-is-valid t (r .bytes) (r .output) three) (reads list) ∙ ap (doneBy m t) (carried-inputs (stopped r later three further))
+  carried {t} (taken r zero further) = as-steps (call-laws .done-is-valid (read (r .bytes) (r .output)) t zero) (taken r zero further)
+  carried {t} (stopped r later three further) = as-steps (call-laws .stopped-is-valid t (r .bytes) (r .output) three) (stopped r later three further)
 
   pub continuing-of : Continuing m
   continuing-of t stream one other carries carries-too = carried carries ∙ sym (carried carries-too)

@@ -23,6 +23,7 @@ numbers = our-numbers
 pub refusals : Refusals ours
 refusals = our-refusals
 
+-- A contract that names one outcome allows one result.
 only-outcome : (outcome : Outcome) → AllSame (λ reply page output. given reply page output ≡ outcome)
 only-outcome outcome one other page there output lent a b = Terminals.one-result a b
 

@@ -1,6 +1,6 @@
--- The three demands, in the order of document 01's table and of the demands: each is a predicate over a terminal's functions.
--- `ours` (Streams) is the terminal that the entries' contracts speak of; the theorems are in proofs/Theorems.antt, and Wrong.antt has
--- terminals with one fault each, for which a promise is refuted (proofs/Wrong*.antt).
+-- The three demands: each promise is a predicate over a terminal's functions, and OneResult over what contracts allow.
+-- `ours` (Streams) is the terminal that the entries' contracts speak of. The theorems are in proofs/Theorems.antt; Wrong.antt has
+-- terminals with one fault each, and loose contracts, for which a promise is refuted (proofs/Wrong*.antt).
 use mathlib.Core.Path.{_≡_}
 use mathlib.Core.Bool.{Bool, true, false}
 use mathlib.Core.List.{List, [], _∷_, _++_, map, List·Memᴰ}
