@@ -102,10 +102,6 @@ module _ (t : Terminal) (valid : Valid t) (key : ℕ) where
   unfolding stepOf
   one-valid = our-step-laws .every-step (press 267) t valid .valid
 
-  two-valid : Valid (two .terminal)
-  unfolding stepOf
-  two-valid = our-step-laws .every-step (press key) (one .terminal) one-valid .valid
-
   first-is-copy : first-block ≡ copyOf (one .terminal)
   unfolding stepOf
   first-is-copy = Promised.copying t valid (press 267) first-block (full-sent t) .0

@@ -13,7 +13,7 @@ use Rattle.fields.specs.Searches.{orElse, firstFree, firstUnprotected, nextUnpr
 use Rattle.blocks.specs.Blocks.{entryBytes, encode, entryOf, someModified, isSent}
 use Rattle.blocks.specs.Decode.{inFront, cut, readNumber, readEntry, decode}
 use Rattle.blocks.specs.Lay.{samePlace, laidOn, lay}
-use Rattle.state.specs.State.{refused, inputDisabled}
+use Rattle.state.specs.State.{refused, inputDisabled, unlocked}
 use Rattle.state.specs.Moves.{onBy, rightBy}
 use Rattle.state.specs.Pen.{validPen}
 use Rattle.state.specs.Validity.{listedRows, listedColumns, listedSize, sizeFits, cursorFits, stopsFit, validState}
@@ -52,7 +52,7 @@ unfolding tests withDigit withNextArgument isControl isCancel outsideSequence af
 hostSteps = tt
 
 unfoldable pub keySteps : Unit {0}
-unfolding tests within eachFrom placesFrom onPart unprotected typed tagged blanked sentMark modifiedCleared placeOf opensStretch joined fieldStart endFrom fieldEnd orElse firstFree firstUnprotected nextUnprotected onBy rightBy bytesOf blockMessage sendBlock isTyping isEditing isFieldMove isKnown isLocked isLockedOut lacksCell goneTo typedStep fieldBlanked keyStep
+unfolding tests within eachFrom placesFrom onPart unprotected typed tagged blanked sentMark modifiedCleared placeOf opensStretch joined fieldStart endFrom fieldEnd orElse firstFree firstUnprotected nextUnprotected onBy rightBy unlocked bytesOf blockMessage sendBlock isTyping isEditing isFieldMove isKnown isLocked isLockedOut lacksCell goneTo typedStep fieldBlanked keyStep
 keySteps = tt
 
 -- Calls, with all but their steps; and what several of them leave.

@@ -1,4 +1,4 @@
--- The laws of a step and of a call from which demands 2 and 3 are proved: whatever terminal keeps these laws keeps those promises.
+-- The laws of a step and of a call: whatever terminal keeps them keeps cutting, continuing, calls as steps, what blocks keep, their bound, the copy and omission.
 use mathlib.Core.Path.{_≡_}
 use mathlib.Core.Bool.{Bool, true, false}
 use mathlib.Core.List.{List, [], List·Memᴰ}
@@ -41,8 +41,9 @@ pub record DidSteps (t : Terminal) (done : List Stepped) (outcome : Outcome) : T
   pub stored : outcome .stored ≡ length (storedBy done)
 
 -- A call on a valid terminal does the steps of the bytes that it took or of its key, and a refused one does none;
--- only a valid terminal is given 0; a host call given 0 took all its bytes.
+-- only a valid terminal is given 0, or 3 by a host call; a host call given 0 took all its bytes.
 pub record CallLaws (m : Machine) : Type 0 where
   pub does-steps : (call : Call) (t : Terminal) → Valid t → DidSteps t (steps m t (inputsOf call (outcomeOf m call t))) (outcomeOf m call t)
   pub done-is-valid : (call : Call) (t : Terminal) → outcomeOf m call t .number ≡ 0 → Valid t
+  pub stopped-is-valid : (t : Terminal) (bytes output : List ℕ) → m .host t bytes output .number ≡ 3 → Valid t
   pub done-takes-all : (t : Terminal) (bytes output : List ℕ) → m .host t bytes output .number ≡ 0 → m .host t bytes output .taken ≡ length bytes

@@ -3,7 +3,7 @@ use mathlib.Core.Path.{_≡_}
 use mathlib.Core.List.{List, [], _∷_, _++_, map}
 use Prim.Native.Nat.{ℕ, _+_}
 use lib.Dec.{eqb}
-use lib.ListN.{take}
+use lib.ListN.{take, drop}
 use Rattle.words.specs.Choice.{if_then_else_}
 use Rattle.page.specs.Page.{Page}
 use Rattle.state.specs.declared.Size.{Size}
@@ -94,3 +94,18 @@ reads list = map (λ (r : Read). read (r .bytes) (r .output)) list
 unfoldable pub joinedBytes : List Read → List ℕ
 joinedBytes [] = []
 joinedBytes (r ∷ later) = r .bytes ++ joinedBytes later
+
+-- What reads leave together.
+abbrev pub readAll : Machine → Terminal → List Read → Total
+readAll m t list = total t (outcomes m t (reads list))
+
+-- One read; and reads that carry a stream: one given 0 took its bytes; after one given 3 the others carry on with the bytes that it didn't take.
+abbrev pub readOne : Machine → Terminal → Read → Outcome
+readOne m t r = m .host t (r .bytes) (r .output)
+
+pub data Carries (m : Machine) : Terminal → List ℕ → List Read → Type 0 where
+  ended : {t : Terminal} → Carries m t [] []
+  taken : {t : Terminal} (r : Read) {later : List ℕ} {further : List Read} → readOne m t r .number ≡ 0
+      → Carries m (readOne m t r .terminal) later further → Carries m t (r .bytes ++ later) (r ∷ further)
+  stopped : {t : Terminal} (r : Read) (later : List ℕ) {further : List Read} → readOne m t r .number ≡ 3
+      → Carries m (readOne m t r .terminal) (drop (readOne m t r .taken) (r .bytes) ++ later) further → Carries m t (r .bytes ++ later) (r ∷ further)

@@ -5,17 +5,17 @@ use mathlib.Core.List.{List, [], _∷_, _++_, append-assoc, append-nil}
 use Prim.Native.Nat.{ℕ, _+_, _-_, _*_, _<_, _≤_}
 use native.Mathlib.Numerals.{add-one}
 use native.Mathlib.Omega.{arith}
-use borrow.Author.Tests.{le-leb, lt-leb, leb-true, leb-false, lt-ltb, le-ltb}
+use borrow.Author.Tests.{leb-true, leb-false, lt-ltb, le-ltb}
 use lib.Dec.{leb}
 use lib.ListN.{length, drop, getD, length-append, drop-of-length-le}
 use lib.Seq.{drop-cons}
 use Rattle.words.specs.Output.{placed, Wrote}
-use Rattle.words.proofs.Choosing.{true-is-not-false, then-case, else-case, either-way}
+use Rattle.words.proofs.Choosing.{true-is-not-false, either-way}
 use Rattle.words.proofs.Output.{placed-length, wrote-none, wrote-then}
 use Rattle.page.specs.Page.{Page}
 use Rattle.steps.specs.declared.Step.{Step}
 use Rattle.steps.specs.Steps.{Terminal, Stepped, bytesOf, Valid}
-use Rattle.steps.specs.Told.{Written, told, tells, tellsFull, written}
+use Rattle.steps.specs.Told.{Written, told, written}
 use Rattle.steps.specs.Host.{hostStep}
 use Rattle.steps.proofs.Naming.{named-count}
 use Rattle.steps.proofs.Measuring.{measured}

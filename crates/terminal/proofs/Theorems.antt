@@ -1,21 +1,18 @@
 -- What is proved of start, host and key: demand 1, and that a valid terminal stays valid.
 use mathlib.Core.Path.{_≡_, refl, sym, ap, _∙_, subst}
 use mathlib.Core.Bool.{Bool, true, false, not}
-use mathlib.Core.List.{List, [], _∷_, append-nil}
+use mathlib.Core.List.{List, [], _∷_}
 use mathlib.Core.Logic.{_↔_}
 use Prim.Native.Nat.{ℕ, _-_}
 use native.Mathlib.Omega.{arith}
 use borrow.Author.Tests.{lt-ltb, ltb-true, not-true}
-use lib.Dec.{ltb, eqb}
+use lib.Dec.{eqb}
 use lib.ListN.{length, take, drop, replicate, length-replicate}
 use Rattle.words.specs.Choice.{if_then_else_}
-use Rattle.words.specs.Output.{placed}
 use Rattle.words.proofs.Output.{placed-before, placed-past}
 use Rattle.words.proofs.Choosing.{either-line}
 use Rattle.page.specs.Page.{Page, pageOf}
 use Rattle.state.specs.declared.Size.{Size}
-use Rattle.state.specs.declared.State.{State}
-use Rattle.state.specs.State.{freshState}
 use Rattle.state.proofs.Lines.{line-1, line-2}
 use Rattle.state.proofs.Keeping.{fresh-valid}
 use Rattle.steps.specs.Steps.{Terminal, Stepped, bytesOf, Valid}
@@ -24,18 +21,17 @@ use Rattle.steps.specs.Host.{hostStep}
 use Rattle.steps.specs.Keys.{keyStep}
 use Rattle.steps.proofs.Soundness.{sized, still-fits}
 use Rattle.steps.proofs.Storing.{blank-page-valid}
-use Rattle.commands.proofs.Theorems.{step-keeps-valid, fresh-count}
+use Rattle.commands.proofs.Theorems.{step-keeps-valid}
 use Rattle.keys.proofs.Theorems as Keys
 use Rattle.terminal.specs.declared.Answer.{Answer}
 use Rattle.terminal.specs.declared.Answer.the-variants.{Done, WrongSize, WrongState, NoRoom, UnknownKey, Locked, TooLong, NoCell}
 use Rattle.terminal.specs.declared.Reply.{Reply}
-use Rattle.terminal.specs.Runs.{stepsOf, fitting, after, sentBy, storedBy}
+use Rattle.terminal.specs.Runs.{stepsOf, fitting, after, sentBy}
 use Rattle.terminal.specs.Answers.{numberOf, Outcome, given, unchanged, did, gives}
 use Rattle.terminal.specs.Lines.{isValid, firstOf, startLines, hostLines, keyLines}
 use Rattle.terminal.specs.Calls.{unstarted, startStep, startCall, hostCall, keyCall}
 use Rattle.terminal.specs.Claims.{Leaves, Did, SameResult}
-use Rattle.terminal.specs.Table.{Line3, Line6, Decides, startTable, hostTable, keyTable}
-use Rattle.terminal.proofs.Deciding.{fits-on, stops-there}
+use Rattle.terminal.specs.Table.{Line3, Decides, startTable, hostTable, keyTable}
 use Rattle.terminal.proofs.Matching.{ends, next, first-decides-row, decides-one}
 use Rattle.terminal.proofs.Exceeding.{line-3}
 use Rattle.terminal.proofs.Lines.{line-4, line-5, line-7}

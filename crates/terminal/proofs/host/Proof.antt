@@ -1,8 +1,6 @@
 use mathlib.Core.Path.{sym, _∙_}
-use native.Mathlib.Omega.{arith}
 use borrow.Author.Needs.{needs}
 use borrow.Author.Tests.{not-true, not-false}
-use Rattle.page.specs.Page.{pageOf}
 use Rattle.terminal.proofs.Deciding.{is-valid, host-wrong-size, host-wrong-state, host-too-long}
 use Rattle.terminal.proofs.host.Statement.{statement}
 use Rattle.terminal.proofs.host.Tie as tie
