@@ -6,21 +6,21 @@ use lib.ListN.{drop}
 use Rattle.words.specs.Choice.{if_then_else_, _is_to_}
 use Rattle.blocks.specs.Blocks.{Entry}
 
--- Bytes, cut at each ESC, up to the first 03: those before the first ESC, and the run after each.
-pub record Cut : Type 0 where
+-- Bytes, split at each ESC, up to the first 03: those before the first ESC, and the run after each.
+pub record Split : Type 0 where
   pub before : List ℕ
   pub runs : List (List ℕ)
 
 -- A byte in front of what comes after it.
-unfoldable pub inFront : ℕ → Cut → Cut
+unfoldable pub inFront : ℕ → Split → Split
 inFront byte after =
     if eqb byte 0x03 then record { before = []; runs = [] }
     else if eqb byte 0x1B then record { before = []; runs = after .before ∷ after .runs }
     else record { before = byte ∷ after .before; runs = after .runs }
 
-unfoldable pub cut : List ℕ → Cut
-cut [] = record { before = []; runs = [] }
-cut (byte ∷ later) = inFront byte (cut later)
+unfoldable pub split : List ℕ → Split
+split [] = record { before = []; runs = [] }
+split (byte ∷ later) = inFront byte (split later)
 
 -- Digits are read onto a number; the byte that ends them is passed by.
 pub record Number : Type 0 where
@@ -42,4 +42,4 @@ readEntry run =
     record { row = row .value; column = column .value; characters = column .after }
 
 unfoldable pub decode : List ℕ → List Entry
-decode bytes = map readEntry (cut bytes .runs)
+decode bytes = map readEntry (split bytes .runs)

@@ -86,7 +86,7 @@ fn control(state: State, characters: &mut [u8], marks: &mut [u8], byte: u8) -> S
 }
 
 // After ESC, all but S, which sends.
-fn esc_command(state: State, characters: &mut [u8], marks: &mut [u8], byte: u8) -> Step
+fn silent_esc_step(state: State, characters: &mut [u8], marks: &mut [u8], byte: u8) -> Step
     requires { ⌜ Valid (record { state = state; page = pageOf (now characters) (now marks) }) ⌝ }
     requires { ⌜ (byte ≡ 0x53 → ⊥) ⌝ }
     ensures { λ r. ⌜ told r (pageOf (now (characters .exit)) (now (marks .exit))) ≡ tells (escStep byte (record { state = state; page = pageOf (now (characters .entry)) (now (marks .entry)) })) ⌝ }
@@ -160,7 +160,7 @@ fn erase_row(state: State, characters: &mut [u8], marks: &mut [u8], what: usize)
 }
 
 // After ESC: S sends, and its message may not fit.
-fn after_esc(
+fn esc_step(
     state: State,
     before: State,
     characters: &mut [u8],
@@ -176,35 +176,35 @@ fn after_esc(
     if byte == 0x53 {
         return sending::send_block(state, before, characters, marks, out, at, true);
     }
-    esc_command(state, characters, marks, byte)
+    silent_esc_step(state, characters, marks, byte)
 }
 
 // After ESC [: the table is consulted before anything else.
-fn after_bracket(
+fn bracket_step(
     state: State,
     before: State,
     characters: &mut [u8],
     marks: &mut [u8],
     out: &mut [u8],
     at: usize,
-    letter: u8,
+    final_byte: u8,
 ) -> Step
     requires { ⌜ Valid (record { state = state; page = pageOf (now characters) (now marks) }) ⌝ }
-    requires { ⌜ (at ≤ length (now out)) × (0x40 ≤ letter) × (letter ≤ 0x7E) × (before .half .count ≤ 8) ⌝ }
-    ensures { λ r. ⌜ record { told = told r (pageOf (now (characters .exit)) (now (marks .exit))); output = now (out .exit) } ≡ written at (now (out .entry)) (record { state = before; page = pageOf (now (characters .entry)) (now (marks .entry)) }) (bracketStep letter (before .half) (record { state = state; page = pageOf (now (characters .entry)) (now (marks .entry)) })) ⌝ }
+    requires { ⌜ (at ≤ length (now out)) × (0x40 ≤ final_byte) × (final_byte ≤ 0x7E) × (before .half .count ≤ 8) ⌝ }
+    ensures { λ r. ⌜ record { told = told r (pageOf (now (characters .exit)) (now (marks .exit))); output = now (out .exit) } ≡ written at (now (out .entry)) (record { state = before; page = pageOf (now (characters .entry)) (now (marks .entry)) }) (bracketStep final_byte (before .half) (record { state = state; page = pageOf (now (characters .entry)) (now (marks .entry)) })) ⌝ }
 {
     let half = before.half;
     let arguments = half.arguments;
     let count = half.count;
-    if moves::most_arguments(letter) < count {
+    if moves::most_arguments(final_byte) < count {
         return steps::refuse(state);
     }
-    if moves::is_move(letter) {
-        return moves::move_command(state, letter, arguments);
+    if moves::is_move(final_byte) {
+        return moves::move_command(state, final_byte, arguments);
     }
-    let what = moves::value(letter, arguments, 0);
+    let what = moves::value(final_byte, arguments, 0);
     let cells = marks.len();
-    match letter {
+    match final_byte {
         0x57 => moves::tab_control(state, what),
         0x4A => erase_part(state, characters, marks, what, 0, cells),
         0x4B => erase_row(state, characters, marks, what),
@@ -236,15 +236,15 @@ pub fn step(
         Event::Nothing => steps::quiet(next),
         Event::Text(character) => text(next, characters, marks, character),
         Event::Control(other) => control(next, characters, marks, other),
-        Event::EscCommand(letter) => after_esc(next, state, characters, marks, out, at, letter),
-        Event::BracketCommand(letter) => after_bracket(
+        Event::EscCommand(final_byte) => esc_step(next, state, characters, marks, out, at, final_byte),
+        Event::BracketCommand(final_byte) => bracket_step(
             next,
             state,
             characters,
             marks,
             out,
             at,
-            letter,
+            final_byte,
         ),
         Event::Refused => steps::refuse(next),
     }

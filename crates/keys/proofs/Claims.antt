@@ -9,15 +9,15 @@ use Rattle.page.specs.Marks.{isModified, unprotected}
 use Rattle.page.specs.Page.{Page}
 use Rattle.steps.specs.Steps.{Terminal, fullBlock, changedBlock, Stepped, cursorCell}
 use Rattle.steps.specs.Claims.{SendsBlock, Sound}
-use Rattle.steps.specs.Keys.{isTyping, free, run, startHere, endHere}
+use Rattle.steps.specs.Keys.{isTyping, free, cellsFrom, startHere, endHere}
 
 -- The cells that a key may store: none; and where the cursor's cell is unprotected, that cell, for a typed character;
 -- its field, for 263; from the cursor to its field's end, for 264 and 265.
 pub data KeyStores (key : ℕ) (t : Terminal) : List ℕ → Type 0 where
   no-cell : KeyStores key t []
   typed-cell : free t (cursorCell (t .state)) ≡ true → isTyping key ≡ true → KeyStores key t (cursorCell (t .state) ∷ [])
-  whole-field : free t (cursorCell (t .state)) ≡ true → key ≡ 263 → KeyStores key t (run (startHere t) (endHere t))
-  rest-of-field : free t (cursorCell (t .state)) ≡ true → (key ≡ 264) ⊎ (key ≡ 265) → KeyStores key t (run (cursorCell (t .state)) (endHere t))
+  whole-field : free t (cursorCell (t .state)) ≡ true → key ≡ 263 → KeyStores key t (cellsFrom (startHere t) (endHere t))
+  rest-of-field : free t (cursorCell (t .state)) ≡ true → (key ≡ 264) ⊎ (key ≡ 265) → KeyStores key t (cellsFrom (cursorCell (t .state)) (endHere t))
 
 -- The cell keeps its character, if the lent characters have it, and its mark.
 pub record ProtectedKept (before after : Page) (cell : ℕ) : Type 0 where

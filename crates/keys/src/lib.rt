@@ -7,7 +7,7 @@ ghost use mathlib.Core.Bool.{false};
 ghost use Rattle.page.specs.Page.{pageOf, closedUp, movedRight};
 ghost use Rattle.steps.specs.Steps.{Valid};
 ghost use Rattle.steps.specs.Told.{told, tells, written};
-ghost use Rattle.steps.specs.Keys.{isTyping, isEditing, isFieldMove, isKnown, isLocked, isLockedOut, noField, fieldsHere, lacksCell, goneTo, typedStep, toNextField, toPreviousField, toFirstCell, fieldBlanked, restShifted, keyStep};
+ghost use Rattle.steps.specs.Keys.{isTyping, isEditing, isFieldMove, isKnown, isLocked, isLockedOut, noField, fieldsHere, lacksCell, goneTo, typedStep, toNextField, toPreviousField, toFirstUnprotected, fieldBlanked, restShifted, keyStep};
 
 fn is_typing(key: usize) -> bool
     ensures { λ r. ⌜ r ≡ isTyping key ⌝ }
@@ -137,9 +137,9 @@ fn to_previous_field(state: State, characters: &[u8], marks: &[u8]) -> Step
     steps::quiet(gone_to(sought, state))
 }
 
-fn to_first_cell(state: State, characters: &[u8], marks: &[u8]) -> Step
+fn to_first_unprotected(state: State, characters: &[u8], marks: &[u8]) -> Step
     requires { ⌜ Valid (record { state = state; page = pageOf (now characters) (now marks) }) ⌝ }
-    ensures { λ r. ⌜ told r (pageOf (now (characters .entry)) (now (marks .entry))) ≡ tells (toFirstCell (record { state = state; page = pageOf (now (characters .entry)) (now (marks .entry)) })) ⌝ }
+    ensures { λ r. ⌜ told r (pageOf (now (characters .entry)) (now (marks .entry))) ≡ tells (toFirstUnprotected (record { state = state; page = pageOf (now (characters .entry)) (now (marks .entry)) })) ⌝ }
 {
     let sought = fields::first_unprotected(marks, state.size.columns);
     match sought {
@@ -208,7 +208,7 @@ fn act(state: State, characters: &mut [u8], marks: &mut [u8], key: usize) -> Ste
         259 => steps::quiet(state.right_by(1)),
         260 => to_next_field(state, characters, marks),
         261 => to_previous_field(state, characters, marks),
-        262 => to_first_cell(state, characters, marks),
+        262 => to_first_unprotected(state, characters, marks),
         263 => blank_field(state, characters, marks),
         264 => delete_here(state, characters, marks),
         265 => insert_here(state, characters, marks),

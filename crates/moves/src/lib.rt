@@ -12,7 +12,7 @@ ghost use Rattle.page.specs.Page.{Page};
 ghost use Rattle.state.specs.State.{OnPage};
 ghost use Rattle.steps.specs.Told.{told, tells};
 ghost use Rattle.steps.specs.Table.{allowed, valueOf};
-ghost use Rattle.steps.specs.Commands.{isMove, toColumn, toRow, toPlace, keptColumn, tabControl, isVisual, drawn, drawnAll, rendition, setMode, listedStep};
+ghost use Rattle.steps.specs.Commands.{isMove, toColumn, toRow, toPlace, keptColumn, tabControl, isVisual, penAfter, penAfterAll, rendition, setMode, listedStep};
 
 // By final byte, 40 to 7E: how many arguments at most; 0 is for a command that isn't listed.
 const MOST: [u8; 63] = [
@@ -149,30 +149,30 @@ const ZERO_IS: [u8; 63] = [
 ];
 
 // How many arguments a command may have at most, and what one of 0 stands for: document 01's table, consulted here alone.
-pub fn most_arguments(letter: u8) -> u8
-    requires { ⌜ (0x40 ≤ letter) × (letter ≤ 0x7E) ⌝ }
-    ensures { λ r. ⌜ r ≡ allowed letter .most ⌝ }
+pub fn most_arguments(final_byte: u8) -> u8
+    requires { ⌜ (0x40 ≤ final_byte) × (final_byte ≤ 0x7E) ⌝ }
+    ensures { λ r. ⌜ r ≡ allowed final_byte .most ⌝ }
 {
-    let at = (letter - 0x40) as usize;
+    let at = (final_byte - 0x40) as usize;
     MOST[at]
 }
 
-fn zero_is(letter: u8) -> u8
-    requires { ⌜ (0x40 ≤ letter) × (letter ≤ 0x7E) ⌝ }
-    ensures { λ r. ⌜ r ≡ allowed letter .zero ⌝ }
+fn zero_is(final_byte: u8) -> u8
+    requires { ⌜ (0x40 ≤ final_byte) × (final_byte ≤ 0x7E) ⌝ }
+    ensures { λ r. ⌜ r ≡ allowed final_byte .zeroIs ⌝ }
 {
-    let at = (letter - 0x40) as usize;
+    let at = (final_byte - 0x40) as usize;
     ZERO_IS[at]
 }
 
 // The value of an argument, counted from 0.
-pub fn value(letter: u8, arguments: [u16; 8], i: usize) -> usize
-    requires { ⌜ (0x40 ≤ letter) × (letter ≤ 0x7E) × (i ≤ 7) ⌝ }
-    ensures { λ r. ⌜ r ≡ valueOf letter arguments i ⌝ }
+pub fn value(final_byte: u8, arguments: [u16; 8], i: usize) -> usize
+    requires { ⌜ (0x40 ≤ final_byte) × (final_byte ≤ 0x7E) × (i ≤ 7) ⌝ }
+    ensures { λ r. ⌜ r ≡ valueOf final_byte arguments i ⌝ }
 {
     let given = arguments[i];
     if given == 0 {
-        return zero_is(letter) as usize;
+        return zero_is(final_byte) as usize;
     }
     given as usize
 }
@@ -280,7 +280,7 @@ fn all_six(values: [u16; 8], count: usize) -> bool
 
 // What one value of SGR does to the pen.
 fn draw(value: u16, pen: u8) -> u8
-    ensures { λ r. ⌜ r ≡ drawn value pen ⌝ }
+    ensures { λ r. ⌜ r ≡ penAfter value pen ⌝ }
 {
     match value {
         0 => state::pen_plain(pen),
@@ -294,15 +294,15 @@ fn draw(value: u16, pen: u8) -> u8
 
 fn draw_all(values: [u16; 8], count: usize, pen: u8) -> u8
     requires { ⌜ count ≤ 8 ⌝ }
-    ensures { λ r. ⌜ r ≡ drawnAll (take count values) pen ⌝ }
+    ensures { λ r. ⌜ r ≡ penAfterAll (take count values) pen ⌝ }
 {
-    let mut drawn = pen;
+    let mut penAfter = pen;
     let mut i = 0;
     while i < count {
-        drawn = draw(values[i], drawn);
+        penAfter = draw(values[i], penAfter);
         i += 1;
     }
-    drawn
+    penAfter
 }
 
 // SGR: all values are tested before any acts.
@@ -329,16 +329,16 @@ pub fn set_mode(state: State, on: bool, values: [u16; 8], count: usize) -> Step
 }
 
 // Whether a final byte is that of a command that only moves the cursor: A to I, Z, d or f.
-pub fn is_move(letter: u8) -> bool
-    ensures { λ r. ⌜ r ≡ isMove letter ⌝ }
+pub fn is_move(final_byte: u8) -> bool
+    ensures { λ r. ⌜ r ≡ isMove final_byte ⌝ }
 {
-    if letter < 0x41 {
+    if final_byte < 0x41 {
         return false;
     }
-    if letter <= 0x49 {
+    if final_byte <= 0x49 {
         return true;
     }
-    match letter {
+    match final_byte {
         0x5A => true,
         0x64 => true,
         0x66 => true,
@@ -347,16 +347,16 @@ pub fn is_move(letter: u8) -> bool
 }
 
 // After ESC [, the moves: A to I, d, f and Z.
-pub fn move_command(state: State, letter: u8, arguments: [u16; 8]) -> Step
+pub fn move_command(state: State, final_byte: u8, arguments: [u16; 8]) -> Step
     requires { ⌜ OnPage state ⌝ }
-    requires { ⌜ isMove letter ≡ true ⌝ }
-    ensures { λ r. ⌜ ((page : Page) (count : ℕ) → told r page ≡ tells (listedStep letter arguments count (record { state = state; page = page }))) ⌝ }
+    requires { ⌜ isMove final_byte ≡ true ⌝ }
+    ensures { λ r. ⌜ ((page : Page) (count : ℕ) → told r page ≡ tells (listedStep final_byte arguments count (record { state = state; page = page }))) ⌝ }
 {
-    let first = value(letter, arguments, 0);
-    let second = value(letter, arguments, 1);
+    let first = value(final_byte, arguments, 0);
+    let second = value(final_byte, arguments, 1);
     let row = arguments[0];
     let given = arguments[1];
-    match letter {
+    match final_byte {
         0x41 => steps::quiet(state.up_by(first)),
         0x42 => steps::quiet(state.down_by(first)),
         0x43 => steps::quiet(state.right_by(first)),

@@ -5,7 +5,7 @@ use mathlib.Core.Path.{_≡_}
 use Prim.Native.Nat.{ℕ, _-_}
 use lib.ListN.{length, take, drop, getD, set, replicate}
 use Rattle.words.specs.Choice.{if_then_else_, _and_, _or_}
-use Rattle.words.specs.Lists.{within, every, each, placesFrom, onPart}
+use Rattle.words.specs.Lists.{within, every, each, numbersFrom, onPart}
 use Rattle.page.specs.Marks.{isProtected, withModified, withoutModified, validCharacter, validMark, unprotected}
 
 -- The two lent slices, in page order: row 1 from the left, then row 2. A cell's number is its place in them.
@@ -44,7 +44,7 @@ erased mode from to page =
     }
 
 unfoldable pub cellsErased : Bool → ℕ → ℕ → Page → List ℕ
-cellsErased mode from to page = placesFrom (erasable mode (page .marks)) from (to - from)
+cellsErased mode from to page = numbersFrom (erasable mode (page .marks)) from (to - from)
 
 -- What erasing left, and its count of the cells erased.
 pub record Erasing (mode : Bool) (from to : ℕ) (before after : Page) (count : ℕ) : Type 0 where

@@ -20,11 +20,11 @@ use Rattle.terminal.proofs.Running.{steps-count}
 use Rattle.terminal.proofs.Cases.{HostCase, KeyCase, host-case, key-case}
 use Rattle.terminal.proofs.Cases
 use Rattle.terminal.proofs.Theorems.{leaves, did-so, numbered, did-number, host-done, host-found-valid, key-found-valid, bytes-sent}
-use Rattle.promises.specs.Streams.{ours, Input, byte, press, stepOf, steps, Call, read, typing, outcomeOf, inputsOf}
-use Rattle.promises.specs.Laws.{IsBlock, StepLaw, StepLaws, DidSteps, CallLaws}
+use Rattle.promises.specs.Streams.{ours, Input, byte, press, stepOf, steps, Call, read, keyPress, outcomeOf, inputsOf}
+use Rattle.promises.specs.Laws.{BlockOfPage, StepLaw, StepLaws, DidSteps, CallLaws}
 
 -- Of a step: what the theorems of its crate say.
-is-block : {full : Bool} {Asked : Type 0} {t : Terminal} {step : Stepped} {bytes : List ℕ} → SendsBlock full Asked t step bytes → IsBlock full t step bytes
+is-block : {full : Bool} {Asked : Type 0} {t : Terminal} {step : Stepped} {bytes : List ℕ} → SendsBlock full Asked t step bytes → BlockOfPage full t step bytes
 is-block sent = record { of-page = sent .of-page; no-cell = sent .no-cell }
 
 our-every-step : (input : Input) (t : Terminal) → Valid t → StepLaw t (stepOf ours input t)
@@ -98,23 +98,23 @@ module _ (t : Terminal) (bytes output : List ℕ) where
       go (Cases.done valid fits is) = valid
 
 module _ (t : Terminal) (key : ℕ) (output : List ℕ) where
-  key-does : DidSteps t (steps ours t (inputsOf (typing key output) (keyCall t key output))) (keyCall t key output)
+  key-does : DidSteps t (steps ours t (inputsOf (keyPress key output) (keyCall t key output))) (keyCall t key output)
   unfolding inputsOf steps stepOf numberOf
   key-does = go (key-case t key output)
     where
-      go : KeyCase t key output → DidSteps t (steps ours t (inputsOf (typing key output) (keyCall t key output))) (keyCall t key output)
+      go : KeyCase t key output → DidSteps t (steps ours t (inputsOf (keyPress key output) (keyCall t key output))) (keyCall t key output)
       go (Cases.refused answer a is) = rw (else-case _ _ _ (ne-eqb _ _ (λ done. a (sym (numbered _ _ _ is) ∙ done)))) (no-steps (leaves _ _ _ is))
       go (Cases.pressed valid known free has fits is) = rw (then-case _ _ _ (eq-eqb _ _ (did-number _ _ _ _ _ is))) (in-steps (did-so _ _ _ _ _ is))
 
 does-inputs : (call : Call) (t : Terminal) → DidSteps t (steps ours t (inputsOf call (outcomeOf ours call t))) (outcomeOf ours call t)
 unfolding outcomeOf inputsOf
 does-inputs (read bytes output) t = host-does t bytes output
-does-inputs (typing key output) t = key-does t key output
+does-inputs (keyPress key output) t = key-does t key output
 
 found-valid : (call : Call) (t : Terminal) → outcomeOf ours call t .number ≡ 0 → Valid t
 unfolding outcomeOf
 found-valid (read bytes output) t done = host-found-valid t bytes output done
-found-valid (typing key output) t done = key-found-valid t key output done
+found-valid (keyPress key output) t done = key-found-valid t key output done
 
 pub our-call-laws : CallLaws ours
 our-call-laws = record {

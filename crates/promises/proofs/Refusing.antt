@@ -14,7 +14,7 @@ use Rattle.terminal.specs.Calls.{keyCall}
 use Rattle.terminal.proofs.Cases.{KeyCase, key-case}
 use Rattle.terminal.proofs.Cases
 use Rattle.terminal.proofs.Theorems
-use Rattle.promises.specs.Streams.{ours, Call, read, typing, outcomeOf, outcomes, total}
+use Rattle.promises.specs.Streams.{ours, Call, read, keyPress, outcomeOf, outcomes, total}
 use Rattle.promises.specs.Promises.{Numbers, Refusals, StaysValid, KeysKeep}
 
 pub our-numbers : Numbers ours
@@ -26,8 +26,8 @@ our-refusals = record { of-start = Theorems.start-refused; of-host = Theorems.ho
 through : (t : Terminal) → Valid t → (calls : List Call) → Valid (total t (outcomes ours t calls) .terminal)
 unfolding total outcomes outcomeOf
 through t valid [] = valid
-through t valid (read bytes output ∷ later) = through _ (Theorems.host-keeps-valid t bytes output valid) later
-through t valid (typing key output ∷ later) = through _ (Theorems.key-keeps-valid t key output valid) later
+through t valid (read bytes output ∷ later) = through _ (Theorems.host-call-keeps-valid t bytes output valid) later
+through t valid (keyPress key output ∷ later) = through _ (Theorems.key-call-keeps-valid t key output valid) later
 
 pub our-stays-valid : StaysValid ours
 our-stays-valid = record { from-start = Theorems.start-gives-valid; through-calls = through }

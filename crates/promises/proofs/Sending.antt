@@ -14,7 +14,7 @@ use Rattle.steps.specs.Steps.{Terminal, Message, blockMessage, Stepped}
 use Rattle.steps.specs.Claims.{markLeft}
 use Rattle.steps.proofs.Measuring.{measured}
 use Rattle.promises.specs.Streams.{Machine, stepOf}
-use Rattle.promises.specs.Laws.{IsBlock, StepLaw, StepLaws}
+use Rattle.promises.specs.Laws.{BlockOfPage, StepLaw, StepLaws}
 use Rattle.promises.specs.Promises.{BlocksKeep, Bounded}
 
 -- A protected cell is on the page, and sending leaves its mark.
@@ -29,7 +29,7 @@ unfolding unprotected sentMark
 protected-stays marks cell protected = then-case _ _ _ (not-false _ protected)
 
 -- A block of either kind.
-is-block : (t : Terminal) (step : Stepped) → StepLaw t step → (full : Bool) (bytes : List ℕ) → step .message ≡ blockMessage full bytes → IsBlock full t step bytes
+is-block : (t : Terminal) (step : Stepped) → StepLaw t step → (full : Bool) (bytes : List ℕ) → step .message ≡ blockMessage full bytes → BlockOfPage full t step bytes
 unfolding blockMessage
 is-block t step law true bytes sends = law .full-block bytes sends
 is-block t step law false bytes sends = law .changed-block bytes sends

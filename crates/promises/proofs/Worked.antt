@@ -16,8 +16,8 @@ use Rattle.terminal.specs.Answers.{Outcome}
 use Rattle.terminal.specs.Calls.{hostCall, keyCall}
 use Rattle.terminal.proofs.Deciding.{valid-holds, key-done}
 use Rattle.terminal.proofs.Cases.{host-did}
-use Rattle.promises.specs.Streams.{ours, Input, byte, press, stepOf, steps, Call, read, typing, outcomeOf, outcomes, bytesSent, inputsOf, inputsDone}
-use Rattle.promises.specs.Copying.{StoresNothing}
+use Rattle.promises.specs.Streams.{ours, Input, byte, press, stepOf, steps, Call, read, keyPress, outcomeOf, outcomes, bytesSent, inputsOf, inputsDone}
+use Rattle.promises.specs.Copying.{HostStoresNothing}
 use Rattle.promises.specs.Promises.{CopiedOver}
 use Rattle.promises.proofs.Calling.{inputs-in-front}
 use Rattle.promises.proofs.Theorems.{copying-calls}
@@ -96,8 +96,8 @@ messages = λ i.
     ∷ []
 
 -- The host stored nothing.
-stores-nothing : StoresNothing ours (stepOf ours (press 267) start .terminal) afterFirst
-unfolding hostSteps keySteps streams StoresNothing
+stores-nothing : HostStoresNothing ours (stepOf ours (press 267) start .terminal) afterFirst
+unfolding hostSteps keySteps streams HostStoresNothing
 stores-nothing = (refl, (refl, (refl, (refl, (refl, (refl, (refl, (refl, tt))))))))
 
 -- The changed block has one field, the second, whose cell was stored since the block before; the first is omitted.
@@ -113,14 +113,14 @@ copies = (refl, refl, refl)
 -- As calls, with a Y besides that is typed on the colon: it is given 7.
 abbrev session : List Call
 session =
-    typing 267 (replicate 17 0)
-    ∷ typing 0x58 []
+    keyPress 267 (replicate 17 0)
+    ∷ keyPress 0x58 []
     ∷ read hostBytes (replicate 40 0)
-    ∷ typing 259 []
-    ∷ typing 0x59 []
-    ∷ typing 259 []
-    ∷ typing 0x59 []
-    ∷ typing 266 (replicate 9 0)
+    ∷ keyPress 259 []
+    ∷ keyPress 0x59 []
+    ∷ keyPress 259 []
+    ∷ keyPress 0x59 []
+    ∷ keyPress 266 (replicate 9 0)
     ∷ []
 
 -- What is seen of a call: number, cells stored, bytes sent.

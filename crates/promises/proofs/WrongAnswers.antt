@@ -19,7 +19,7 @@ use Rattle.terminal.specs.declared.Answer.the-variants.{NoRoom}
 use Rattle.terminal.specs.Answers.{numberOf, unchanged}
 use Rattle.terminal.proofs.Deciding.{valid-holds, key-no-room}
 use Rattle.terminal.proofs.Exceeding.{line-3-done}
-use Rattle.promises.specs.Streams.{Machine, read, typing}
+use Rattle.promises.specs.Streams.{Machine, read, keyPress}
 use Rattle.promises.specs.Promises.{Numbers, Refusals, StaysValid}
 use Rattle.promises.specs.Wrong.{alwaysRefuses, lockedBeforeUnknown, blanksRefusedStart, clearsTagsRefused, losesSequenceOn3, leavesRow0, setsMessage2}
 use Rattle.promises.proofs.Refusing.{our-numbers}
@@ -112,5 +112,5 @@ leavesRow0-breaks-validity kept =
 pub setsMessage2-breaks-validity : StaysValid setsMessage2 → ⊥
 unfolding calls keySteps streams
 setsMessage2-breaks-validity kept =
-    let out-of-range : false ≡ true = kept .through-calls oneField one-field-valid (typing 259 [] ∷ []) .state in
+    let out-of-range : false ≡ true = kept .through-calls oneField one-field-valid (keyPress 259 [] ∷ []) .state in
     true-is-not-false (sym out-of-range)

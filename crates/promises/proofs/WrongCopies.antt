@@ -15,7 +15,7 @@ use Rattle.blocks.specs.Lay.{lay}
 use Rattle.steps.specs.Steps.{Terminal, changedBlock, Valid}
 use Rattle.steps.specs.Keys.{fieldsHere}
 use Rattle.promises.specs.Streams.{Input, press}
-use Rattle.promises.specs.Copying.{StoresNothing, laid, RightAfter, CopyHolds, OmitsExactly, storedSince, OmissionHolds}
+use Rattle.promises.specs.Copying.{HostStoresNothing, laid, RightAfter, CopyHolds, OmitsExactly, storedSince, OmissionHolds}
 use Rattle.promises.specs.Promises.{Copying, Omission}
 use Rattle.promises.specs.Wrong.{firstCellBlock, looksAtFirstCells, feignsChangedBlocks, neverTags, tagsOnlyChanges, isBlock, keepsTags}
 use Rattle.promises.proofs.Sheets.{sheet, at, sheet-fields, sheet-block}
@@ -81,17 +81,17 @@ abbrev pub typeX : List Input
 typeX = press 0x58 ∷ press 266 ∷ []
 
 pub looksAtFirstCells-breaks-copying : Copying looksAtFirstCells → ⊥
-unfolding keySteps streams StoresNothing CopyHolds RightAfter laid
+unfolding keySteps streams HostStoresNothing CopyHolds RightAfter laid
 looksAtFirstCells-breaks-copying kept =
     copy-is-stale (by-first-cells 0x58) (kept (before 0x42 clear) B-valid (press 267) firstBlock refl .1 typeX tt .1 .0)
 
 pub feignsChangedBlocks-breaks-copying : Copying feignsChangedBlocks → ⊥
-unfolding keySteps streams StoresNothing CopyHolds RightAfter laid
+unfolding keySteps streams HostStoresNothing CopyHolds RightAfter laid
 feignsChangedBlocks-breaks-copying kept =
     copy-is-stale refl (kept (before 0x42 clear) B-valid (press 267) firstBlock refl .1 typeX tt .1 .0)
 
 pub neverTags-breaks-copying : Copying neverTags → ⊥
-unfolding keySteps streams StoresNothing CopyHolds RightAfter laid
+unfolding keySteps streams HostStoresNothing CopyHolds RightAfter laid
 neverTags-breaks-copying kept =
     copy-is-stale (untagged-block 0x58) (kept (before 0x42 clear) B-valid (press 267) firstBlock refl .1 typeX tt .1 .0)
 
@@ -114,13 +114,13 @@ abbrev pub typeB : List Input
 typeB = press 0x42 ∷ press 266 ∷ []
 
 pub looksAtFirstCells-breaks-omission : Omission looksAtFirstCells → ⊥
-unfolding blockBytes keySteps streams StoresNothing OmissionHolds OmitsExactly storedSince
+unfolding blockBytes keySteps streams HostStoresNothing OmissionHolds OmitsExactly storedSince
 looksAtFirstCells-breaks-omission kept =
     wrongly-omitted secondTagged (firstCellBlock (after 0x42 secondTagged)) (field-listed secondTagged refl refl) (by-first-cells 0x42)
     (kept (before 0x42 clear) B-valid (press 267) firstBlock refl typeB tt .1 .0)
 
 pub tagsOnlyChanges-breaks-omission : Omission tagsOnlyChanges → ⊥
-unfolding blockBytes keySteps streams StoresNothing OmissionHolds OmitsExactly storedSince
+unfolding blockBytes keySteps streams HostStoresNothing OmissionHolds OmitsExactly storedSince
 tagsOnlyChanges-breaks-omission kept =
     wrongly-omitted clear (block false 80 (sheet (texts 0x42) clear)) (field-listed clear refl refl) (untagged-block 0x42)
     (kept (before 0x42 clear) B-valid (press 267) firstBlock refl typeB tt .1 .0)
@@ -142,6 +142,6 @@ wrongly-sent exactly =
     omitted .no-entry entry (subst (λ (bytes : List ℕ). List·Memᴰ entry (decode bytes)) (sym first-tagged-block) (List·Memᴰ·head refl)) refl refl
 
 pub keepsTags-breaks-omission : Omission keepsTags → ⊥
-unfolding keySteps streams isBlock StoresNothing OmissionHolds OmitsExactly storedSince
+unfolding keySteps streams isBlock HostStoresNothing OmissionHolds OmitsExactly storedSince
 keepsTags-breaks-omission kept =
     wrongly-sent (kept (before 0x42 firstTagged) first-tagged-valid (press 267) (block true 80 (sheet (texts 0x42) firstTagged)) refl (press 266 ∷ []) tt .0)

@@ -10,14 +10,14 @@ use Rattle.terminal.specs.Answers.{given}
 use Rattle.terminal.specs.Calls.{startCall, hostCall, keyCall}
 
 -- The results that are allowed: what is handed back, with the page and the output that are left.
-abbrev pub Allowed : Type 1
-Allowed = Reply → Page → List ℕ → Type 0
+abbrev pub Results : Type 1
+Results = Reply → Page → List ℕ → Type 0
 
 -- For each entry, by all that comes in. A start is lent no output: what it leaves there is [].
 pub record Contracts : Type 1 where
-  pub start : Size → Page → Allowed
-  pub host : Terminal → List ℕ → List ℕ → Allowed
-  pub key : Terminal → ℕ → List ℕ → Allowed
+  pub start : Size → Page → Results
+  pub host : Terminal → List ℕ → List ℕ → Results
+  pub key : Terminal → ℕ → List ℕ → Results
 
 -- The contracts as the entries have them (crates/terminal/src/lib.rt).
 abbrev pub ourContracts : Contracts

@@ -13,7 +13,7 @@ use Rattle.terminal.specs.Runs.{after, sentBy, storedBy}
 use Rattle.promises.specs.Streams.{Machine, Input, stepOf, steps, Call, outcomeOf, bytesSent, inputsOf}
 
 -- A block, full or changed, is that of the page as it was, and its step names no cell.
-pub record IsBlock (full : Bool) (t : Terminal) (step : Stepped) (bytes : List ℕ) : Type 0 where
+pub record BlockOfPage (full : Bool) (t : Terminal) (step : Stepped) (bytes : List ℕ) : Type 0 where
   pub of-page : bytes ≡ block full (t .state .size .columns) (t .page)
   pub no-cell : step .cells ≡ []
 
@@ -22,8 +22,8 @@ pub record StepLaw (t : Terminal) (step : Stepped) : Type 0 where
   pub valid : Valid (step .terminal)
   pub size : step .terminal .state .size ≡ t .state .size
   pub touches : TouchesOnly (step .cells) (step .message) (t .page) (step .terminal .page)
-  pub full-block : (bytes : List ℕ) → step .message ≡ fullBlock bytes → IsBlock true t step bytes
-  pub changed-block : (bytes : List ℕ) → step .message ≡ changedBlock bytes → IsBlock false t step bytes
+  pub full-block : (bytes : List ℕ) → step .message ≡ fullBlock bytes → BlockOfPage true t step bytes
+  pub changed-block : (bytes : List ℕ) → step .message ≡ changedBlock bytes → BlockOfPage false t step bytes
 
 -- Every key's step besides: protection stays, and each cell named is modified.
 pub record TagLaw (t : Terminal) (step : Stepped) : Type 0 where

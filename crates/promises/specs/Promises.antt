@@ -20,8 +20,8 @@ use Rattle.terminal.specs.Table.{Line3, Decides, startTable, hostTable, keyTabl
 use Rattle.terminal.specs.declared.Reply.{Reply}
 use Rattle.terminal.specs.Claims.{Leaves, Did, SameResult}
 use Rattle.promises.specs.Streams.{Machine, Input, byte, press, stepOf, steps, Call, outcomes, bytesSent, total, inputsDone, AllDone, Read, reads, joinedBytes, readAll, Carries}
-use Rattle.promises.specs.Contracts.{Allowed, Contracts}
-use Rattle.promises.specs.Copying.{StoresNothing, copyOf, CopyHolds, OmissionHolds}
+use Rattle.promises.specs.Contracts.{Results, Contracts}
+use Rattle.promises.specs.Copying.{HostStoresNothing, copyOf, CopyHolds, OmissionHolds}
 
 -- Demand 1, the numbers: each call is given n exactly when n's line holds and none before it does.
 pub record Numbers (m : Machine) : Type 1 where
@@ -38,7 +38,7 @@ pub record Refusals (m : Machine) : Type 0 where
   pub of-key : (t : Terminal) (key : ℕ) (output : List ℕ) → (m .key t key output .number ≡ 0 → ⊥) → Leaves t output (m .key t key output)
 
 -- Demand 1, one result: whatever comes in, any two results that the contract of an entry allows are the same.
-abbrev pub AllSame : Allowed → Type 0
+abbrev pub AllSame : Results → Type 0
 AllSame allowed =
     (one other : Reply) (page there : Page) (output lent : List ℕ) → allowed one page output → allowed other there lent → SameResult one other page there output lent
 
@@ -120,14 +120,14 @@ abbrev pub Copying : Machine → Type 0
 Copying m =
     (t : Terminal) → Valid t → (first : Input) (block : List ℕ) → stepOf m first t .message ≡ fullBlock block →
     let there = stepOf m first t .terminal in
-    (block ≡ copyOf there) × ((inputs : List Input) → StoresNothing m there inputs → CopyHolds block (steps m there inputs))
+    (block ≡ copyOf there) × ((inputs : List Input) → HostStoresNothing m there inputs → CopyHolds block (steps m there inputs))
 
 -- Demand 3, omission, over the same inputs.
 abbrev pub Omission : Machine → Type 0
 Omission m =
     (t : Terminal) → Valid t → (first : Input) (block : List ℕ) → stepOf m first t .message ≡ fullBlock block →
     let there = stepOf m first t .terminal in
-    (inputs : List Input) → StoresNothing m there inputs → OmissionHolds there [] (steps m there inputs)
+    (inputs : List Input) → HostStoresNothing m there inputs → OmissionHolds there [] (steps m there inputs)
 
 -- Calls are the steps of what they did: their bytes are those messages joined, their count the cells that those steps name.
 abbrev pub CallsAreSteps : Machine → Type 0
@@ -150,7 +150,7 @@ CopyingCalls m =
     (t : Terminal) → Valid t → (calls : List Call) (before : List Input) (first : Input) (later : List Input) (block : List ℕ) →
     inputsDone m t calls ≡ before ++ (first ∷ later) →
     let step = stepOf m first (after t (steps m t before)) in
-    step .message ≡ fullBlock block → StoresNothing m (step .terminal) later → CopiedOver m t calls before block (step .terminal) later
+    step .message ≡ fullBlock block → HostStoresNothing m (step .terminal) later → CopiedOver m t calls before block (step .terminal) later
 
 -- No block that is sent exceeds 35,185 bytes.
 abbrev pub Bounded : Machine → Type 0

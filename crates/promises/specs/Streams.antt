@@ -41,11 +41,11 @@ steps m t (input ∷ later) = let step = stepOf m input t in step ∷ steps m (s
 -- A call: host bytes or a key, with an output of its own.
 pub data Call : Type 0 where
   read : List ℕ → List ℕ → Call
-  typing : ℕ → List ℕ → Call
+  keyPress : ℕ → List ℕ → Call
 
 unfoldable pub outcomeOf : Machine → Call → Terminal → Outcome
 outcomeOf m (read bytes output) t = m .host t bytes output
-outcomeOf m (typing key output) t = m .key t key output
+outcomeOf m (keyPress key output) t = m .key t key output
 
 -- In a sequence of calls each gets the page and state that the one before left.
 unfoldable pub outcomes : Machine → Terminal → List Call → List Outcome
@@ -70,7 +70,7 @@ total t (outcome ∷ later) =
 -- The inputs that a call did: the bytes taken, also of a call given 3; the key of a call given 0. A refused call did none.
 unfoldable pub inputsOf : Call → Outcome → List Input
 inputsOf (read bytes output) outcome = map byte (take (outcome .taken) bytes)
-inputsOf (typing key output) outcome =
+inputsOf (keyPress key output) outcome =
     if eqb (outcome .number) 0 then press key ∷ []
     else []
 

@@ -18,7 +18,7 @@ use Rattle.state.specs.declared.Size.{Size}
 use Rattle.state.specs.State.{withCursor, withLocks, withHalf}
 use Rattle.steps.specs.Steps.{Terminal, Message, silent, report, fullBlock, changedBlock, Stepped, withState, stores, sends, cursorCell, rowStart}
 use Rattle.steps.specs.Host.{hostStep}
-use Rattle.steps.specs.Keys.{isTyping, isLocked, fieldsHere, run, keyStep}
+use Rattle.steps.specs.Keys.{isTyping, isLocked, fieldsHere, cellsFrom, keyStep}
 use Rattle.terminal.specs.declared.Answer.the-variants.{Done, NoRoom, Locked, TooLong}
 use Rattle.terminal.specs.Runs.{stepsOf, fitting, sentBy}
 use Rattle.terminal.specs.Answers.{Outcome, given, unchanged, did, gives}
@@ -177,7 +177,7 @@ abbrev rowBlanked : Terminal → Stepped
 rowBlanked t =
     let from = rowStart (t .state) in
     let end = from + t .state .size .columns in
-    stores (run from end) false (t .state) (partStored blanked from end (t .page))
+    stores (cellsFrom from end) false (t .state) (partStored blanked from end (t .page))
 
 abbrev pub blanksRow : Machine
 blanksRow = withKey (λ t key output.

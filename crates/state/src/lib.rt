@@ -55,7 +55,7 @@ const PLAIN: Modes = Modes {
     erasure: false,
 };
 
-const FREE: Locks = Locks {
+const UNLOCKED: Locks = Locks {
     manual: false,
     soft: false,
     message: 0,
@@ -280,7 +280,7 @@ impl State {
             size,
             cursor: HOME,
             modes: PLAIN,
-            locks: FREE,
+            locks: UNLOCKED,
             stops: [false; 160],
             half: sequence::NOTHING_READ,
         }
@@ -294,7 +294,7 @@ impl State {
             size: NO_SIZE,
             cursor: NOWHERE,
             modes: PLAIN,
-            locks: FREE,
+            locks: UNLOCKED,
             stops: [false; 160],
             half: sequence::NOTHING_READ,
         }
@@ -475,7 +475,7 @@ impl State {
     pub fn enable_input(self) -> Self
         ensures { λ r. ⌜ r ≡ inputEnabled self ⌝ }
     {
-        self.with_locks(FREE)
+        self.with_locks(UNLOCKED)
     }
 
     // Key 268.

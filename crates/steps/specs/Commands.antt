@@ -124,8 +124,8 @@ erasePart what first end t =
 unfoldable pub isVisual : ℕ → Bool
 isVisual value = eqb value 0 or eqb value 1 or eqb value 4 or eqb value 5 or eqb value 7 or eqb value 8
 
-unfoldable pub drawn : ℕ → ℕ → ℕ
-drawn value pen =
+unfoldable pub penAfter : ℕ → ℕ → ℕ
+penAfter value pen =
     if eqb value 0 then penPlain pen
     else if eqb value 1 then penBold pen
     else if eqb value 4 then penUnderlined pen
@@ -133,13 +133,13 @@ drawn value pen =
     else if eqb value 7 then penReversed pen
     else penConcealed pen
 
-unfoldable pub drawnAll : List ℕ → ℕ → ℕ
-drawnAll [] pen = pen
-drawnAll (value ∷ later) pen = drawnAll later (drawn value pen)
+unfoldable pub penAfterAll : List ℕ → ℕ → ℕ
+penAfterAll [] pen = pen
+penAfterAll (value ∷ later) pen = penAfterAll later (penAfter value pen)
 
 unfoldable pub rendition : List ℕ → Terminal → Stepped
 rendition values t =
-    if every isVisual values then goesTo (withPen (t .state) (drawnAll values (t .state .modes .pen))) t
+    if every isVisual values then goesTo (withPen (t .state) (penAfterAll values (t .state .modes .pen))) t
     else refusing t
 
 -- SM and RM: mode 6, erasure.

@@ -4,7 +4,7 @@ use mathlib.Core.List.{List, []}
 use mathlib.Core.Path.{_≡_}
 use Prim.Native.Nat.{ℕ, _-_}
 use lib.ListN.{length}
-use Rattle.words.specs.Lists.{placesFrom}
+use Rattle.words.specs.Lists.{numbersFrom}
 use Rattle.page.specs.Page.{Page, validPage}
 use Rattle.places.specs.Places.{cellAt}
 use Rattle.state.specs.declared.State.{State}
@@ -72,7 +72,7 @@ abbrev pub rowStart : State → ℕ
 rowStart s = cursorCell s - (s .cursor .column - 1)
 
 abbrev pub allCells : Page → List ℕ
-allCells page = placesFrom (λ _. true) 0 (length (page .marks))
+allCells page = numbersFrom (λ _. true) 0 (length (page .marks))
 
 -- A terminal that lines 1 and 2 of the table let pass.
 pub record Valid (t : Terminal) : Type 0 where

@@ -8,10 +8,10 @@ use Rattle.words.specs.Choice.{if_then_else_, _or_, _is_to_}
 -- How many arguments at most, and what an argument of 0 stands for.
 pub record Allowed : Type 0 where
   pub most : ℕ
-  pub zero : ℕ
+  pub zeroIs : ℕ
 
 abbrev pub takes : ℕ → ℕ → Allowed
-takes most zeroIs = record { most = most; zero = zeroIs }
+takes most zeroIs = record { most = most; zeroIs = zeroIs }
 
 -- A command that isn't listed may have none, and each sequence has one at least.
 unfoldable pub allowed : ℕ → Allowed
@@ -33,5 +33,5 @@ allowed final =
 -- The value of argument i, counted from 0.
 unfoldable pub valueOf : ℕ → List ℕ → ℕ → ℕ
 valueOf final arguments i =
-    if eqb (getD arguments i 0) 0 then allowed final .zero
+    if eqb (getD arguments i 0) 0 then allowed final .zeroIs
     else getD arguments i 0

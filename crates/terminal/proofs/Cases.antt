@@ -16,7 +16,7 @@ use Rattle.terminal.specs.declared.Answer.{Answer}
 use Rattle.terminal.specs.declared.Answer.the-variants.{Done, WrongSize, WrongState, NoRoom, UnknownKey, Locked, TooLong, NoCell}
 use Rattle.terminal.specs.Runs.{stepsOf, fitting, sentBy}
 use Rattle.terminal.specs.Answers.{numberOf, unchanged, did}
-use Rattle.terminal.specs.Lines.{exceedsRoom, isValid}
+use Rattle.terminal.specs.Lines.{exceedsRoom, passesLine2}
 use Rattle.terminal.specs.Calls.{unstarted, startStep, startCall, hostCall, keyCall}
 use Rattle.terminal.specs.Table.{Line3}
 use Rattle.terminal.proofs.Deciding
@@ -53,7 +53,7 @@ module _ (t : Terminal) (bytes output : List ℕ) where
     stopped : Valid t → (line : Line3 (length output) (stepsOf t bytes)) → hostCall t bytes output ≡ did NoRoom (length (line .before)) t output (line .before) → HostCase
     done : Valid t → length (sentBy (stepsOf t bytes)) ≤ length output → hostCall t bytes output ≡ did Done (length bytes) t output (stepsOf t bytes) → HostCase
 
-  ran : sizeFits (t .state .size) (t .page) ≡ true → isValid t ≡ true → length bytes ≤ 65536 → HostCase
+  ran : sizeFits (t .state .size) (t .page) ≡ true → passesLine2 t ≡ true → length bytes ≤ 65536 → HostCase
   unfolding exceedsRoom
   ran size valid short =
       either-way (exceedsRoom (length output) (stepsOf t bytes))
@@ -83,7 +83,7 @@ module _ (t : Terminal) (bytes output : List ℕ) where
   host-case =
       either-way (sizeFits (t .state .size) (t .page))
       (λ size.
-      either-way (isValid t)
+      either-way (passesLine2 t)
       (λ valid.
       less-or-not 65536 (length bytes)
       (λ long. refused TooLong (λ e. omega arith) (λ e. omega arith) (Deciding.host-too-long t bytes output size valid long))
@@ -96,7 +96,7 @@ module _ (t : Terminal) (key : ℕ) (output : List ℕ) where
     refused : (answer : Answer) → (numberOf answer ≡ 0 → ⊥) → keyCall t key output ≡ unchanged answer t output → KeyCase
     pressed : Valid t → isKnown key ≡ true → isLockedOut key (t .state) ≡ false → lacksCell key t ≡ false → length (bytesOf (keyStep key t .message)) ≤ length output → keyCall t key output ≡ did Done 0 t output (keyStep key t ∷ []) → KeyCase
 
-  let-pass : sizeFits (t .state .size) (t .page) ≡ true → isValid t ≡ true → isKnown key ≡ true → isLockedOut key (t .state) ≡ false → lacksCell key t ≡ false → KeyCase
+  let-pass : sizeFits (t .state .size) (t .page) ≡ true → passesLine2 t ≡ true → isKnown key ≡ true → isLockedOut key (t .state) ≡ false → lacksCell key t ≡ false → KeyCase
   unfolding numberOf
   let-pass size valid known free has =
       less-or-not (length output) (length (bytesOf (keyStep key t .message)))
@@ -108,7 +108,7 @@ module _ (t : Terminal) (key : ℕ) (output : List ℕ) where
   key-case =
       either-way (sizeFits (t .state .size) (t .page))
       (λ size.
-      either-way (isValid t)
+      either-way (passesLine2 t)
       (λ valid.
       either-way (isKnown key)
       (λ known.

@@ -28,7 +28,7 @@ use Rattle.terminal.specs.declared.Answer.the-variants.{Done, WrongSize,
 use Rattle.terminal.specs.declared.Reply.{Reply}
 use Rattle.terminal.specs.Runs.{stepsOf, fitting, after, sentBy}
 use Rattle.terminal.specs.Answers.{numberOf, Outcome, given, unchanged, did, gives}
-use Rattle.terminal.specs.Lines.{isValid, firstOf, startLines, hostLines, keyLines}
+use Rattle.terminal.specs.Lines.{passesLine2, firstOf, startLines, hostLines, keyLines}
 use Rattle.terminal.specs.Calls.{unstarted, startStep, startCall, hostCall, keyCall}
 use Rattle.terminal.specs.Claims.{Leaves, Did, SameResult}
 use Rattle.terminal.specs.Table.{Line3, Decides, startTable, hostTable, keyTable}
@@ -67,7 +67,7 @@ module _ (size : Size) (page : Page) where
 
 module _ (t : Terminal) (bytes output : List ℕ) where
   host-decides : Decides (hostTable t bytes (length output)) (hostCall t bytes output .number)
-  unfolding hostCall hostLines isValid numberOf
+  unfolding hostCall hostLines passesLine2 numberOf
   host-decides =
       subst (Decides (hostTable t bytes (length output))) (number-is (firstOf (hostLines t bytes output)) _ _ _ _)
       (first-decides-row
@@ -81,7 +81,7 @@ module _ (t : Terminal) (bytes output : List ℕ) where
 
 module _ (t : Terminal) (key : ℕ) (output : List ℕ) where
   key-decides : Decides (keyTable t key (length output)) (keyCall t key output .number)
-  unfolding keyCall keyLines isValid numberOf
+  unfolding keyCall keyLines passesLine2 numberOf
   key-decides =
       subst (Decides (keyTable t key (length output))) (number-is (firstOf (keyLines t key output)) _ _ _ _)
       (first-decides-row
@@ -252,13 +252,13 @@ gives-valid Locked taken t output steps before later = before
 gives-valid TooLong taken t output steps before later = before
 gives-valid NoCell taken t output steps before later = before
 
-pub host-keeps-valid : (t : Terminal) (bytes output : List ℕ) → Valid t → Valid (hostCall t bytes output .terminal)
+pub host-call-keeps-valid : (t : Terminal) (bytes output : List ℕ) → Valid t → Valid (hostCall t bytes output .terminal)
 unfolding hostCall
-host-keeps-valid t bytes output valid = gives-valid _ _ t output _ valid (steps-keep-valid (length output) t bytes valid)
+host-call-keeps-valid t bytes output valid = gives-valid _ _ t output _ valid (steps-keep-valid (length output) t bytes valid)
 
-pub key-keeps-valid : (t : Terminal) (key : ℕ) (output : List ℕ) → Valid t → Valid (keyCall t key output .terminal)
+pub key-call-keeps-valid : (t : Terminal) (key : ℕ) (output : List ℕ) → Valid t → Valid (keyCall t key output .terminal)
 unfolding keyCall after fitting
-key-keeps-valid t key output valid =
+key-call-keeps-valid t key output valid =
     gives-valid _ _ t output _ valid
     (either-line (λ (steps : List Stepped). Valid (after t steps)) _ _ _ (λ _. Keys.key-keeps-valid key t valid) (λ _. valid))
 

@@ -11,7 +11,7 @@ ghost use Rattle.page.specs.Page.{Page, pageOf};
 ghost use Rattle.steps.specs.Steps.{Valid};
 ghost use Rattle.steps.specs.Keys.{isKnown, isLockedOut, lacksCell};
 ghost use Rattle.terminal.specs.Answers.{numberOf, given, unchanged};
-ghost use Rattle.terminal.specs.Lines.{isValid};
+ghost use Rattle.terminal.specs.Lines.{passesLine2};
 ghost use Rattle.terminal.specs.Calls.{startCall, hostCall, keyCall};
 
 // Each has a number, and a line of document 01's table: `numberOf` and `gives` of specs/Answers.antt.
@@ -52,7 +52,7 @@ pub fn number_of(answer: Answer) -> u8
 }
 
 // A call that changes nothing.
-fn refuse(answer: Answer, state: State) -> Reply
+fn refuse_call(answer: Answer, state: State) -> Reply
     ensures { λ r. ⌜ ((page : Page) (output : List ℕ) → given r page output ≡ unchanged answer (record { state = state; page = page }) output) ⌝ }
 {
     Reply {
@@ -65,7 +65,7 @@ fn refuse(answer: Answer, state: State) -> Reply
 }
 
 fn is_valid(state: State, characters: &[u8], marks: &[u8]) -> bool
-    ensures { λ r. ⌜ r ≡ isValid (record { state = state; page = pageOf (now (characters .entry)) (now (marks .entry)) }) ⌝ }
+    ensures { λ r. ⌜ r ≡ passesLine2 (record { state = state; page = pageOf (now (characters .entry)) (now (marks .entry)) }) ⌝ }
 {
     if state.is_valid() {
         return page::is_valid_page(characters, marks);
@@ -116,7 +116,7 @@ fn press(state: State, characters: &mut [u8], marks: &mut [u8], key: usize, out:
 {
     let step = keys::step(state, characters, marks, out, key);
     if step.full {
-        return refuse(Answer::NoRoom, state);
+        return refuse_call(Answer::NoRoom, state);
     }
     let after = step.state;
     Reply {
@@ -134,7 +134,7 @@ pub fn start(rows: usize, columns: usize, characters: &mut [u8], marks: &mut [u8
 {
     let size = Size { rows, columns };
     if !size.fits(characters, marks) {
-        return refuse(Answer::WrongSize, State::zero());
+        return refuse_call(Answer::WrongSize, State::zero());
     }
     let cells = marks.len();
     page::erase(characters, marks, 0, cells, true);
@@ -158,13 +158,13 @@ pub fn host(
     ensures { λ r. ⌜ given r (pageOf (now (characters .exit)) (now (marks .exit))) (now (out .exit)) ≡ hostCall (record { state = state; page = pageOf (now (characters .entry)) (now (marks .entry)) }) (now (bytes .entry)) (now (out .entry)) ⌝ }
 {
     if !state.size.fits(characters, marks) {
-        return refuse(Answer::WrongSize, state);
+        return refuse_call(Answer::WrongSize, state);
     }
     if !is_valid(state, characters, marks) {
-        return refuse(Answer::WrongState, state);
+        return refuse_call(Answer::WrongState, state);
     }
     if 65536 < bytes.len() {
-        return refuse(Answer::TooLong, state);
+        return refuse_call(Answer::TooLong, state);
     }
     run(state, characters, marks, bytes, out)
 }
@@ -180,19 +180,19 @@ pub fn key(
     ensures { λ r. ⌜ given r (pageOf (now (characters .exit)) (now (marks .exit))) (now (out .exit)) ≡ keyCall (record { state = state; page = pageOf (now (characters .entry)) (now (marks .entry)) }) key (now (out .entry)) ⌝ }
 {
     if !state.size.fits(characters, marks) {
-        return refuse(Answer::WrongSize, state);
+        return refuse_call(Answer::WrongSize, state);
     }
     if !is_valid(state, characters, marks) {
-        return refuse(Answer::WrongState, state);
+        return refuse_call(Answer::WrongState, state);
     }
     if !keys::is_known(key) {
-        return refuse(Answer::UnknownKey, state);
+        return refuse_call(Answer::UnknownKey, state);
     }
     if keys::is_locked_out(key, state) {
-        return refuse(Answer::Locked, state);
+        return refuse_call(Answer::Locked, state);
     }
     if keys::lacks_cell(key, state, characters, marks) {
-        return refuse(Answer::NoCell, state);
+        return refuse_call(Answer::NoCell, state);
     }
     press(state, characters, marks, key, out)
 }

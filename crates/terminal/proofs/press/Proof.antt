@@ -21,7 +21,7 @@ returns c =
     let passed = start .pre .1 in
     let full = was-full 0 (start .args .out .now) t _ (did .step .result) _ _ (did .step .ensures) (c .before .if1 .taken) in
     let exceeds : length (start .args .out .now) < length (bytesOf (keyStep (start .args .key) t .message)) = omega (arith, full .exceeds) in
-    c .refuse .ensures _ _
+    c .refuse-call .ensures _ _
     ∙ (λ i. unchanged NoRoom (record { state = start .args .state; page = full .same-page i }) (full .same-output i))
     ∙ sym (key-no-room t (start .args .key) (start .args .out .now) (start .pre .0 .size) (valid-holds t (start .pre .0)) (passed .0) (passed .1) (passed .2) exceeds)
 
