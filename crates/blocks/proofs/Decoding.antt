@@ -13,8 +13,7 @@ use Rattle.words.proofs.Passing.{every-append}
 use Rattle.page.specs.Marks.{validCharacter}
 use Rattle.output.specs.Decimal.{decimal, placeBytes}
 use Rattle.blocks.specs.Blocks.{Entry, entryBytes, encode}
-use Rattle.blocks.specs.Decode.{inFront, split, readNumber, readEntry, decode}
-use Rattle.blocks.proofs.Claims.{validEntry}
+use Rattle.blocks.specs.Decode.{inFront, split, readNumber, readEntry, decode, validEntry}
 
 -- What holds of a number's one, two or three digits.
 pub digits : (P : List ℕ → Type 0) (number : ℕ)

@@ -60,7 +60,7 @@ entriesSent full columns page =
 unfoldable pub block : Bool → ℕ → Page → List ℕ
 block full columns page = encode (entriesSent full columns page)
 
--- What the block has for a cell: the entry of the field that starts there, if it is sent.
+-- What the block has for a cell: the entry of the field that starts there, if it is sent. (The code goes by this; no rule does.)
 unfoldable pub bytesAt : Bool → ℕ → Page → ℕ → List ℕ
 bytesAt full columns page cell =
     let field = fieldFrom (unprotected (page .marks)) columns (length (page .marks)) cell in

@@ -1,9 +1,12 @@
 -- A block read back from its bytes: what a host does that was written for these blocks. Any bytes can be read.
+use mathlib.Core.Bool.{Bool}
 use mathlib.Core.List.{List, [], _∷_, map}
 use Prim.Native.Nat.{ℕ, _+_, _-_, _*_}
-use lib.Dec.{eqb}
+use lib.Dec.{eqb, ltb}
 use lib.ListN.{drop}
-use Rattle.words.specs.Choice.{if_then_else_, _is_to_}
+use Rattle.words.specs.Choice.{if_then_else_, _and_, _is_to_}
+use Rattle.words.specs.Lists.{every}
+use Rattle.page.specs.Marks.{validCharacter}
 use Rattle.blocks.specs.Blocks.{Entry}
 
 -- Bytes, split at each ESC, up to the first 03: those before the first ESC, and the run after each.
@@ -43,3 +46,7 @@ readEntry run =
 
 unfoldable pub decode : List ℕ → List Entry
 decode bytes = map readEntry (split bytes .runs)
+
+-- An entry that can be written and read back: a row and a column below 1,000, and characters 20 to 7E. Every entry that a page sends is one.
+unfoldable pub validEntry : Entry → Bool
+validEntry entry = ltb (entry .row) 1000 and ltb (entry .column) 1000 and every validCharacter (entry .characters)

@@ -21,11 +21,11 @@ use Rattle.terminal.specs.declared.Answer.{Answer}
 use Rattle.terminal.specs.declared.Answer.the-variants.{Done, WrongSize, WrongState, NoRoom, UnknownKey, Locked, TooLong, NoCell}
 use Rattle.terminal.specs.declared.Reply.{Reply}
 use Rattle.terminal.specs.Runs.{after, sentBy}
-use Rattle.terminal.specs.Answers.{Outcome, numberOf, given}
+use Rattle.terminal.specs.Answers.{Outcome, numberOf, given, bytesSent}
 use Rattle.terminal.specs.Calls.{keyCall}
 use Rattle.terminal.proofs.Answer.{the-type}
 use Rattle.terminal.proofs.Theorems.{key-done, bytes-sent}
-use Rattle.promises.specs.Streams.{press, stepOf, steps, keyPress, outcomeOf, bytesSent}
+use Rattle.promises.specs.Streams.{press, stepOf, steps, keyPress, outcomeOf}
 use Rattle.promises.specs.Copying.{HostStoresNothing, copyOf, laid, RightAfter, CopyHolds}
 use Rattle.promises.proofs.Keeping.{sendable, same-full-block}
 use Rattle.promises.proofs.OurLaws.{our-step-laws, our-call-laws}

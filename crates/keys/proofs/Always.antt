@@ -27,7 +27,8 @@ use Rattle.steps.specs.Steps.{Terminal, Stepped, goesTo, stores, cursorCell}
 use Rattle.steps.specs.Commands.{sendBlock}
 use Rattle.steps.specs.Keys.{isTyping, free, cellsFrom, startHere, endHere, goneTo, typedStep, toNextField, toPreviousField, toFirstUnprotected, fieldBlanked, restShifted, keyStep}
 use Rattle.steps.proofs.Messages.{silent-is-no-full, silent-is-no-changed, told-full, told-changed}
-use Rattle.keys.proofs.Claims.{KeyStores, no-cell, typed-cell, whole-field, rest-of-field, ProtectedKept, KeyAlways}
+use Rattle.keys.proofs.Claims.{KeyStores, no-cell, typed-cell, whole-field, rest-of-field, KeyAlways}
+use Rattle.steps.specs.Claims.{ProtectedKept}
 
 -- A move to what was found leaves the locks.
 gone-keeps-locks : (sought : Sought) (s : State) → goneTo sought s .locks ≡ s .locks

@@ -14,24 +14,21 @@ ghost use Rattle.steps.specs.Told.{told, tells};
 ghost use Rattle.steps.specs.Table.{allowed, valueOf};
 ghost use Rattle.steps.specs.Commands.{isMove, toColumn, toRow, toPlace, keptColumn, tabControl, isVisual, penAfter, penAfterAll, rendition, setMode, listedStep};
 
-// By final byte, 40 to 7E: how many arguments at most; 0 is for a command that isn't listed.
+// By final byte, 40 to 7E (`letter`, as `final` is a word of the language): how many arguments at most; 0 is for a command that
+// isn't listed.
 const MOST: [u8; 63] = [
     0,
-    1,
-    1,
-    1,
-    1,
-    1,
-    1,
-    1,
-    2,
-    1,
-    1,
-    1,
-    0,
-    0,
-    0,
-    0, //
+    1, // A
+    1, // B
+    1, // C
+    1, // D
+    1, // E
+    1, // F
+    1, // G
+    2, // H
+    1, // I
+    1, // J
+    1, // K
     0,
     0,
     0,
@@ -39,31 +36,35 @@ const MOST: [u8; 63] = [
     0,
     0,
     0,
-    1,
-    0,
-    0,
-    1,
     0,
     0,
     0,
     0,
-    0, //
+    1, // W
+    0,
+    0,
+    1, // Z
     0,
     0,
     0,
     0,
-    1,
-    0,
-    2,
-    0,
-    8,
     0,
     0,
     0,
-    8,
-    8,
-    1,
-    0, //
+    0,
+    0,
+    1, // d
+    0,
+    2, // f
+    0,
+    8, // h
+    0,
+    0,
+    0,
+    8, // l
+    8, // m
+    1, // n
+    0,
     0,
     0,
     0,
@@ -84,21 +85,15 @@ const MOST: [u8; 63] = [
 // What an argument of 0 stands for.
 const ZERO_IS: [u8; 63] = [
     0,
-    1,
-    1,
-    1,
-    1,
-    1,
-    1,
-    1,
-    1,
-    1,
-    0,
-    0,
-    0,
-    0,
-    0,
-    0, //
+    1, // A
+    1, // B
+    1, // C
+    1, // D
+    1, // E
+    1, // F
+    1, // G
+    1, // H
+    1, // I
     0,
     0,
     0,
@@ -109,19 +104,13 @@ const ZERO_IS: [u8; 63] = [
     0,
     0,
     0,
-    1,
     0,
     0,
     0,
     0,
-    0, //
     0,
     0,
-    0,
-    0,
-    1,
-    0,
-    1,
+    1, // Z
     0,
     0,
     0,
@@ -130,7 +119,19 @@ const ZERO_IS: [u8; 63] = [
     0,
     0,
     0,
-    0, //
+    0,
+    1, // d
+    0,
+    1, // f
+    0,
+    0,
+    0,
+    0,
+    0,
+    0,
+    0,
+    0,
+    0,
     0,
     0,
     0,
@@ -149,30 +150,30 @@ const ZERO_IS: [u8; 63] = [
 ];
 
 // How many arguments a command may have at most, and what one of 0 stands for: document 01's table, consulted here alone.
-pub fn most_arguments(final_byte: u8) -> u8
-    requires { ⌜ (0x40 ≤ final_byte) × (final_byte ≤ 0x7E) ⌝ }
-    ensures { λ r. ⌜ r ≡ allowed final_byte .most ⌝ }
+pub fn most_arguments(letter: u8) -> u8
+    requires { ⌜ (0x40 ≤ letter) × (letter ≤ 0x7E) ⌝ }
+    ensures { λ r. ⌜ r ≡ allowed letter .most ⌝ }
 {
-    let at = (final_byte - 0x40) as usize;
+    let at = (letter - 0x40) as usize;
     MOST[at]
 }
 
-fn zero_is(final_byte: u8) -> u8
-    requires { ⌜ (0x40 ≤ final_byte) × (final_byte ≤ 0x7E) ⌝ }
-    ensures { λ r. ⌜ r ≡ allowed final_byte .zeroIs ⌝ }
+fn zero_is(letter: u8) -> u8
+    requires { ⌜ (0x40 ≤ letter) × (letter ≤ 0x7E) ⌝ }
+    ensures { λ r. ⌜ r ≡ allowed letter .zeroIs ⌝ }
 {
-    let at = (final_byte - 0x40) as usize;
+    let at = (letter - 0x40) as usize;
     ZERO_IS[at]
 }
 
 // The value of an argument, counted from 0.
-pub fn value(final_byte: u8, arguments: [u16; 8], i: usize) -> usize
-    requires { ⌜ (0x40 ≤ final_byte) × (final_byte ≤ 0x7E) × (i ≤ 7) ⌝ }
-    ensures { λ r. ⌜ r ≡ valueOf final_byte arguments i ⌝ }
+pub fn value(letter: u8, arguments: [u16; 8], i: usize) -> usize
+    requires { ⌜ (0x40 ≤ letter) × (letter ≤ 0x7E) × (i ≤ 7) ⌝ }
+    ensures { λ r. ⌜ r ≡ valueOf letter arguments i ⌝ }
 {
     let given = arguments[i];
     if given == 0 {
-        return zero_is(final_byte) as usize;
+        return zero_is(letter) as usize;
     }
     given as usize
 }
@@ -329,16 +330,16 @@ pub fn set_mode(state: State, on: bool, values: [u16; 8], count: usize) -> Step
 }
 
 // Whether a final byte is that of a command that only moves the cursor: A to I, Z, d or f.
-pub fn is_move(final_byte: u8) -> bool
-    ensures { λ r. ⌜ r ≡ isMove final_byte ⌝ }
+pub fn is_move(letter: u8) -> bool
+    ensures { λ r. ⌜ r ≡ isMove letter ⌝ }
 {
-    if final_byte < 0x41 {
+    if letter < 0x41 {
         return false;
     }
-    if final_byte <= 0x49 {
+    if letter <= 0x49 {
         return true;
     }
-    match final_byte {
+    match letter {
         0x5A => true,
         0x64 => true,
         0x66 => true,
@@ -347,31 +348,32 @@ pub fn is_move(final_byte: u8) -> bool
 }
 
 // After ESC [, the moves: A to I, d, f and Z.
-pub fn move_command(state: State, final_byte: u8, arguments: [u16; 8]) -> Step
+pub fn move_command(state: State, letter: u8, arguments: [u16; 8]) -> Step
     requires { ⌜ OnPage state ⌝ }
-    requires { ⌜ isMove final_byte ≡ true ⌝ }
-    ensures { λ r. ⌜ ((page : Page) (count : ℕ) → told r page ≡ tells (listedStep final_byte arguments count (record { state = state; page = page }))) ⌝ }
+    requires { ⌜ isMove letter ≡ true ⌝ }
+    ensures { λ r. ⌜ ((page : Page) (count : ℕ) → told r page ≡ tells (listedStep letter arguments count (record { state = state; page = page }))) ⌝ }
 {
-    let first = value(final_byte, arguments, 0);
-    let second = value(final_byte, arguments, 1);
+    let first = value(letter, arguments, 0);
+    let second = value(letter, arguments, 1);
     let row = arguments[0];
     let given = arguments[1];
-    match final_byte {
-        0x41 => steps::quiet(state.up_by(first)),
-        0x42 => steps::quiet(state.down_by(first)),
-        0x43 => steps::quiet(state.right_by(first)),
-        0x44 => steps::quiet(state.left_by(first)),
-        0x45 => steps::quiet(state.down_by(first).to_margin()),
-        0x46 => steps::quiet(state.up_by(first).to_margin()),
-        0x47 => to_column(state, first),
-        0x48 => to_place(state, first, second),
-        0x49 => steps::quiet(state.tab_on(first)),
-        0x64 => to_row(state, first),
+    match letter {
+        0x41 => steps::quiet(state.up_by(first)), // A
+        0x42 => steps::quiet(state.down_by(first)), // B
+        0x43 => steps::quiet(state.right_by(first)), // C
+        0x44 => steps::quiet(state.left_by(first)), // D
+        0x45 => steps::quiet(state.down_by(first).to_margin()), // E
+        0x46 => steps::quiet(state.up_by(first).to_margin()), // F
+        0x47 => to_column(state, first), // G
+        0x48 => to_place(state, first, second), // H
+        0x49 => steps::quiet(state.tab_on(first)), // I
+        0x64 => to_row(state, first), // d
+        // f
         0x66 => to_place(
             state,
             first,
             kept_column(row, given, second, state.cursor.column),
         ),
-        _ => steps::quiet(state.tab_back(first)),
+        _ => steps::quiet(state.tab_back(first)), // Z
     }
 }

@@ -88,14 +88,14 @@ pub fn place_length(row: usize, column: usize) -> usize
 }
 
 // ESC [ row ; column and a final byte.
-pub fn put_place(out: &mut [u8], at: usize, row: usize, column: usize, final_byte: u8) -> usize
-    requires { ⌜ (row < 1000) × (column < 1000) × (at + length (placeBytes row column final_byte) ≤ length (now out)) ⌝ }
-    ensures { λ r. ⌜ Wrote at (placeBytes row column final_byte) (now (out .entry)) r (now (out .exit)) ⌝ }
+pub fn put_place(out: &mut [u8], at: usize, row: usize, column: usize, letter: u8) -> usize
+    requires { ⌜ (row < 1000) × (column < 1000) × (at + length (placeBytes row column letter) ≤ length (now out)) ⌝ }
+    ensures { λ r. ⌜ Wrote at (placeBytes row column letter) (now (out .entry)) r (now (out .exit)) ⌝ }
 {
     let bracket = put_byte(out, at, 0x1B);
     let digits = put_byte(out, bracket, 0x5B);
     let semicolon = put_decimal(out, digits, row);
     let more_digits = put_byte(out, semicolon, 0x3B);
     let end = put_decimal(out, more_digits, column);
-    put_byte(out, end, final_byte)
+    put_byte(out, end, letter)
 }

@@ -16,7 +16,7 @@ pub record Page : Type 0 where
 abbrev pub pageOf : List ℕ → List ℕ → Page
 pageOf characters marks = record { characters = characters; marks = marks }
 
--- "Numbers a call gives back", 2: every cell and marks byte is as it may be.
+-- "Numbers a call gives back", 2: every character is 20 to 7E, and bit 7 of every marks byte is zero.
 unfoldable pub validPage : Page → Bool
 validPage page = every validCharacter (page .characters) and every validMark (page .marks)
 

@@ -5,9 +5,9 @@ use Prim.Native.Nat.{ℕ, _+_}
 use lib.ListN.{length, take, drop, length-append, take-append-drop}
 use lib.Seq.{take-length}
 use Rattle.steps.specs.Steps.{Terminal, Stepped, Valid}
-use Rattle.terminal.specs.Answers.{Outcome}
+use Rattle.terminal.specs.Answers.{Outcome, bytesSent}
 use Rattle.terminal.specs.Runs.{after, sentBy, storedBy}
-use Rattle.promises.specs.Streams.{Machine, Input, byte, stepOf, steps, Call, read, outcomeOf, outcomes, Total, bytesSent, total, inputsOf, inputsDone, AllDone, done, Read, reads, joinedBytes, readAll, readOne, Carries, ended, taken, stopped}
+use Rattle.promises.specs.Streams.{Machine, Input, byte, stepOf, steps, Call, read, outcomeOf, outcomes, Total, total, inputsOf, inputsDone, AllDone, done, Read, reads, joinedBytes, readAll, readOne, Carries, ended, taken, stopped}
 use Rattle.promises.specs.Laws.{StepLaws, DidSteps, CallLaws}
 use Rattle.promises.specs.Promises.{CallsAreSteps, Cutting, Continuing}
 

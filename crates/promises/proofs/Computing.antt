@@ -11,7 +11,7 @@ use Rattle.output.specs.Decimal.{decimal, placeBytes}
 use Rattle.fields.specs.Fields.{opensStretch, joined, startsField, fieldStart, endFrom, fieldEnd, fieldsFrom}
 use Rattle.fields.specs.Searches.{orElse, firstFree, firstUnprotected, nextUnprotected}
 use Rattle.blocks.specs.Blocks.{entryBytes, encode, entryOf, someModified, isSent}
-use Rattle.blocks.specs.Decode.{inFront, cut, readNumber, readEntry, decode}
+use Rattle.blocks.specs.Decode.{inFront, split, readNumber, readEntry, decode}
 use Rattle.blocks.specs.Lay.{samePlace, laidOn, lay}
 use Rattle.state.specs.State.{refused, inputDisabled, unlocked}
 use Rattle.state.specs.Moves.{onBy, rightBy}
@@ -43,7 +43,7 @@ unfolding tests selected unprotected placeOf decimal placeBytes opensStretch joi
 blockBytes = tt
 
 unfoldable pub laying : Unit {0}
-unfolding tests inFront cut readNumber readEntry decode samePlace laidOn lay entryBytes encode decimal placeBytes
+unfolding tests inFront split readNumber readEntry decode samePlace laidOn lay entryBytes encode decimal placeBytes
 laying = tt
 
 -- The steps of host bytes and of keys.

@@ -6,11 +6,11 @@ use native.Mathlib.Omega.{arith}
 use lib.ListN.{length, length-append}
 use Rattle.steps.specs.Steps.{Terminal, Stepped, bytesOf, Valid}
 use Rattle.terminal.specs.Runs.{stepsOf, after, sentBy}
-use Rattle.terminal.specs.Answers.{numberOf, Outcome}
+use Rattle.terminal.specs.Answers.{numberOf, Outcome, bytesSent}
 use Rattle.terminal.specs.Calls.{hostCall}
 use Rattle.terminal.proofs.Cases.{host-did}
 use Rattle.terminal.proofs.Theorems.{did-so, did-number, bytes-sent}
-use Rattle.promises.specs.Streams.{ours, outcomeOf, outcomes, bytesSent, total, AllDone, no-more, done, Read, reads, joinedBytes, readAll}
+use Rattle.promises.specs.Streams.{ours, outcomeOf, outcomes, total, AllDone, no-more, done, Read, reads, joinedBytes, readAll}
 use Rattle.promises.proofs.FeedingRuns.{Quiet, Leads, arrived, onward, leads-cut, leads-validly}
 
 quiet-bytes : {step : Stepped} → Quiet step → bytesOf (step .message) ≡ []

@@ -5,7 +5,6 @@ use mathlib.Core.Logic.{_⊎_, inl, inr, ⊎-elim}
 use Prim.Native.Nat.{ℕ}
 use Rattle.page.specs.Marks.{unprotected}
 use Rattle.keys.proofs.Theorems.{no-key-changes-protected, no-key-changes-protection}
-use Rattle.keys.proofs.Claims.{ProtectedKept}
 use Rattle.steps.specs.Steps.{Terminal, Valid}
 use Rattle.steps.specs.Keys.{keyStep}
 use Rattle.terminal.specs.Runs.{after}
@@ -16,6 +15,7 @@ use Rattle.terminal.proofs.Cases
 use Rattle.terminal.proofs.Theorems
 use Rattle.promises.specs.Streams.{ours, Call, read, keyPress, outcomeOf, outcomes, total}
 use Rattle.promises.specs.Promises.{Numbers, Refusals, StaysValid, KeysKeep}
+use Rattle.steps.specs.Claims.{ProtectedKept}
 
 pub our-numbers : Numbers ours
 our-numbers = record { of-start = Theorems.start-exactly; of-host = Theorems.host-exactly; of-key = Theorems.key-exactly }

@@ -12,11 +12,11 @@ use Rattle.page.specs.Page.{Page}
 use Rattle.steps.specs.Steps.{Terminal, silent, report, fullBlock, changedBlock, Stepped, Valid}
 use Rattle.words.specs.Output.{placed}
 use Rattle.terminal.specs.Runs.{stepsOf, after, sentBy}
-use Rattle.terminal.specs.Answers.{Outcome}
+use Rattle.terminal.specs.Answers.{Outcome, bytesSent}
 use Rattle.terminal.specs.Calls.{hostCall, keyCall}
 use Rattle.terminal.proofs.Deciding.{valid-holds, key-done}
 use Rattle.terminal.proofs.Cases.{host-did}
-use Rattle.promises.specs.Streams.{ours, Input, byte, press, stepOf, steps, Call, read, keyPress, outcomeOf, outcomes, bytesSent, inputsOf, inputsDone}
+use Rattle.promises.specs.Streams.{ours, Input, byte, press, stepOf, steps, Call, read, keyPress, outcomeOf, outcomes, inputsOf, inputsDone}
 use Rattle.promises.specs.Copying.{HostStoresNothing}
 use Rattle.promises.specs.Promises.{CopiedOver}
 use Rattle.promises.proofs.Calling.{inputs-in-front}

@@ -11,9 +11,9 @@ use Rattle.words.proofs.Choosing.{then-case}
 use Rattle.blocks.specs.Blocks.{block}
 use Rattle.steps.specs.Steps.{Terminal, Message, fullBlock, changedBlock, sends}
 use Rattle.terminal.specs.Runs.{stepsOf, sentBy}
-use Rattle.terminal.specs.Answers.{Outcome}
+use Rattle.terminal.specs.Answers.{Outcome, bytesSent}
 use Rattle.terminal.proofs.Cases.{host-did}
-use Rattle.promises.specs.Streams.{Machine, Input, byte, press, Call, read, keyPress, outcomeOf, bytesSent, inputsOf, inputsDone}
+use Rattle.promises.specs.Streams.{Machine, Input, byte, press, Call, read, keyPress, outcomeOf, inputsOf, inputsDone}
 use Rattle.promises.specs.Copying.{HostStoresNothing, laid, RightAfter, CopyHolds, OmitsExactly, storedSince, OmissionHolds}
 use Rattle.promises.specs.Promises.{CopyingCalls}
 use Rattle.promises.specs.Wrong.{showing, keyCallBy, neverTags, tagsOnlyChanges, sendsBackwards}

@@ -6,9 +6,9 @@ use native.Mathlib.Omega.{arith}
 use borrow.Author.Tests.{eqb-false}
 use lib.ListN.{replicate}
 use Rattle.steps.specs.Steps.{Terminal}
-use Rattle.terminal.specs.Answers.{Outcome}
+use Rattle.terminal.specs.Answers.{Outcome, bytesSent}
 use Rattle.terminal.specs.Calls.{keyCall}
-use Rattle.promises.specs.Streams.{Machine, bytesSent, Read}
+use Rattle.promises.specs.Streams.{Machine, Read}
 use Rattle.promises.specs.Promises.{WroteFullBlock, by-key, Receives, FedBack, FeedingBack}
 use Rattle.promises.specs.Wrong.{storesNoText, fixedAnswer, refusesLongReads}
 use Rattle.promises.proofs.Calling.{first-done}

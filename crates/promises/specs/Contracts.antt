@@ -19,7 +19,7 @@ pub record Contracts : Type 1 where
   pub host : Terminal → List ℕ → List ℕ → Results
   pub key : Terminal → ℕ → List ℕ → Results
 
--- The contracts as the entries have them (crates/terminal/src/lib.rt).
+-- The contracts as the entries have them (crates/terminal/src/lib.rt), written again: that they are the same is by reading.
 abbrev pub ourContracts : Contracts
 ourContracts = record {
   start = λ size page reply left output. given reply left output ≡ startCall size page;

@@ -8,9 +8,9 @@ use Rattle.page.specs.Marks.{isModified}
 use Rattle.blocks.specs.Blocks.{block}
 use Rattle.steps.specs.Steps.{Terminal, fullBlock, changedBlock, Stepped, Valid}
 use Rattle.steps.specs.Claims.{TouchesOnly, KeepsProtection}
-use Rattle.terminal.specs.Answers.{Outcome}
+use Rattle.terminal.specs.Answers.{Outcome, bytesSent}
 use Rattle.terminal.specs.Runs.{after, sentBy, storedBy}
-use Rattle.promises.specs.Streams.{Machine, Input, stepOf, steps, Call, outcomeOf, bytesSent, inputsOf}
+use Rattle.promises.specs.Streams.{Machine, Input, stepOf, steps, Call, outcomeOf, inputsOf}
 
 -- A block, full or changed, is that of the page as it was, and its step names no cell.
 pub record BlockOfPage (full : Bool) (t : Terminal) (step : Stepped) (bytes : List ℕ) : Type 0 where

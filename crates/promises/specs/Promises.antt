@@ -13,15 +13,16 @@ use Rattle.page.specs.Page.{Page}
 use Rattle.blocks.specs.Blocks.{block}
 use Rattle.state.specs.declared.Size.{Size}
 use Rattle.steps.specs.Steps.{Terminal, fullBlock, blockMessage, Stepped, Valid}
-use Rattle.keys.proofs.Claims.{ProtectedKept}
 use Rattle.terminal.specs.Runs.{stepsOf, after, sentBy, storedBy}
 use Rattle.terminal.specs.Calls.{unstarted}
 use Rattle.terminal.specs.Table.{Line3, Decides, startTable, hostTable, keyTable}
 use Rattle.terminal.specs.declared.Reply.{Reply}
 use Rattle.terminal.specs.Claims.{Leaves, Did, SameResult}
-use Rattle.promises.specs.Streams.{Machine, Input, byte, press, stepOf, steps, Call, outcomes, bytesSent, total, inputsDone, AllDone, Read, reads, joinedBytes, readAll, Carries}
+use Rattle.promises.specs.Streams.{Machine, Input, byte, press, stepOf, steps, Call, outcomes, total, inputsDone, AllDone, Read, reads, joinedBytes, readAll, Carries}
 use Rattle.promises.specs.Contracts.{Results, Contracts}
 use Rattle.promises.specs.Copying.{HostStoresNothing, copyOf, CopyHolds, OmissionHolds}
+use Rattle.steps.specs.Claims.{ProtectedKept}
+use Rattle.terminal.specs.Answers.{bytesSent}
 
 -- Demand 1, the numbers: each call is given n exactly when n's line holds and none before it does.
 pub record Numbers (m : Machine) : Type 1 where
@@ -47,7 +48,7 @@ pub record OneResult (contracts : Contracts) : Type 0 where
   pub of-host : (t : Terminal) (bytes output : List ℕ) → AllSame (contracts .host t bytes output)
   pub of-key : (t : Terminal) (key : ℕ) (output : List ℕ) → AllSame (contracts .key t key output)
 
--- Demand 1, validity: a start given 0 leaves a valid terminal, and any list of calls leaves a valid one valid: it never meets 1 or 2.
+-- Demand 1, validity: a start given 0 leaves a valid terminal, and any list of calls leaves a valid one valid (so, by Numbers, it never meets 1 or 2).
 pub record StaysValid (m : Machine) : Type 0 where
   pub from-start : (size : Size) (page : Page) → m .start size page .number ≡ 0 → Valid (m .start size page .terminal)
   pub through-calls : (t : Terminal) → Valid t → (calls : List Call) → Valid (total t (outcomes m t calls) .terminal)

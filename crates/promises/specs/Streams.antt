@@ -10,7 +10,7 @@ use Rattle.state.specs.declared.Size.{Size}
 use Rattle.steps.specs.Steps.{Terminal, Stepped}
 use Rattle.steps.specs.Host.{hostStep}
 use Rattle.steps.specs.Keys.{keyStep}
-use Rattle.terminal.specs.Answers.{Outcome}
+use Rattle.terminal.specs.Answers.{Outcome, bytesSent}
 use Rattle.terminal.specs.Calls.{startCall, hostCall, keyCall}
 
 -- The step of a host byte and of a key; the calls: start, host bytes and a key, the last two with the output lent.
@@ -57,9 +57,6 @@ pub record Total : Type 0 where
   pub terminal : Terminal
   pub sent : List ℕ
   pub stored : ℕ
-
-abbrev pub bytesSent : Outcome → List ℕ
-bytesSent outcome = take (outcome .sent) (outcome .output)
 
 unfoldable pub total : Terminal → List Outcome → Total
 total t [] = record { terminal = t; sent = []; stored = 0 }

@@ -21,10 +21,10 @@ use Rattle.steps.specs.Host.{hostStep}
 use Rattle.steps.specs.Keys.{isTyping, isLocked, fieldsHere, cellsFrom, keyStep}
 use Rattle.terminal.specs.declared.Answer.the-variants.{Done, NoRoom, Locked, TooLong}
 use Rattle.terminal.specs.Runs.{stepsOf, fitting, sentBy}
-use Rattle.terminal.specs.Answers.{Outcome, given, unchanged, did, gives}
+use Rattle.terminal.specs.Answers.{Outcome, given, unchanged, did, gives, bytesSent}
 use Rattle.terminal.specs.Lines.{_answers_, firstOf, exceedsRoom, keyLines}
 use Rattle.terminal.specs.Calls.{startCall, hostCall, keyCall}
-use Rattle.promises.specs.Streams.{Machine, ours, bytesSent}
+use Rattle.promises.specs.Streams.{Machine, ours}
 use Rattle.promises.specs.Contracts.{Contracts}
 
 -- Ours with another function for one of the five. With another step of a key goes the key call that does it, after lines 1, 2, 4, 5 and 7.

@@ -14,6 +14,7 @@ use Rattle.terminal.specs.declared.Answer.{Answer}
 use Rattle.terminal.specs.declared.Answer.the-variants.{Done, WrongSize, WrongState, NoRoom, UnknownKey, Locked, TooLong, NoCell}
 use Rattle.terminal.specs.Runs.{stepsOf, fitting}
 
+-- A line's test, and the answer that it gives.
 pub record LineTest : Type 0 where
   pub holds : Bool
   pub answer : Answer
@@ -33,6 +34,7 @@ firstOf (line ∷ later) =
 unfoldable pub exceedsRoom : ℕ → List Stepped → Bool
 exceedsRoom room steps = ltb (length (fitting room steps)) (length steps)
 
+-- Line 2 is not given; line 1 is tested before.
 unfoldable pub passesLine2 : Terminal → Bool
 passesLine2 t = validState (t .state) and validPage (t .page)
 

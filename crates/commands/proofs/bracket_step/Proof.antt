@@ -15,7 +15,7 @@ unfolding bytesOf
 returns c =
     let start = c .before .before .before .before .before .before .before .before in
     let t : Terminal = record { state = start .args .state; page = pageOf (start .args .characters .now) (start .args .marks .now) } in
-    rw (too-many (start .args .final-byte) (start .args .before .half) t _ (c .before .before .most-arguments .ensures) (c .before .if1 .taken))
+    rw (too-many (start .args .letter) (start .args .before .half) t _ (c .before .before .most-arguments .ensures) (c .before .if1 .taken))
     (told-silent _ _ _ _ _ _ (c .refuse .ensures (t .page)) refl)
 
 returns-2 : tie.Need-returns-2
@@ -23,7 +23,7 @@ returns-2 c =
     let start = c .before .before .before .before .before .before .before .before .before .before in
     let t : Terminal = record { state = start .args .state; page = pageOf (start .args .characters .now) (start .args .marks .now) } in
     let half = start .args .before .half in
-    let passed = not-too-many (start .args .final-byte) half t _ (c .before .before .before .before .most-arguments .ensures) (c .before .before .before .if1 .left) in
+    let passed = not-too-many (start .args .letter) half t _ (c .before .before .before .before .most-arguments .ensures) (c .before .before .before .if1 .left) in
     let move = sym (c .before .before .is-move .ensures) ∙ c .before .if2 .taken in
     rw passed (told-silent _ _ _ _ _ _ (c .move-command .ensures (t .page) (half .count)) (move-silent _ _ _ t move))
 
@@ -32,7 +32,7 @@ returns-3 c =
     let start = c .before .before .before .before .before .before .before .before .before .before .before .before in
     let t : Terminal = record { state = start .args .state; page = pageOf (start .args .characters .now) (start .args .marks .now) } in
     let half = start .args .before .half in
-    let passed = not-too-many (start .args .final-byte) half t _ (c .before .before .before .before .before .before .most-arguments .ensures) (c .before .before .before .before .before .if1 .left) in
+    let passed = not-too-many (start .args .letter) half t _ (c .before .before .before .before .before .before .most-arguments .ensures) (c .before .before .before .before .before .if1 .left) in
     rw (passed ∙ final-W _ _ _ _ t (c .before .before .value .ensures) (c .before .match .keys1)) (told-silent _ _ _ _ _ _ (c .tab-control .ensures (t .page)) (tab-silent _ t))
 
 erase-part-requires : tie.Need-erase-part-requires
@@ -49,7 +49,7 @@ returns-4 c =
     let start = c .before .before .before .before .before .before .before .before .before .before .before .before .before .before .before .before .before .before in
     let t : Terminal = record { state = start .args .state; page = pageOf (start .args .characters .now) (start .args .marks .now) } in
     let half = start .args .before .half in
-    let passed = not-too-many (start .args .final-byte) half t _ (c .before .before .before .before .before .before .before .before .before .before .before .before .most-arguments .ensures) (c .before .before .before .before .before .before .before .before .before .before .before .if1 .left) in
+    let passed = not-too-many (start .args .letter) half t _ (c .before .before .before .before .before .before .before .before .before .before .before .before .most-arguments .ensures) (c .before .before .before .before .before .before .before .before .before .before .before .if1 .left) in
     rw (passed ∙ final-J _ _ _ _ t (c .before .before .before .before .before .before .before .before .value .ensures) (c .before .before .before .before .before .before .before .match .keys2)) (told-silent _ _ _ _ _ _ (c .before .before .before .before .erase-part .ensures) (erase-silent _ _ _ t))
 
 returns-5 : tie.Need-returns-5
@@ -57,7 +57,7 @@ returns-5 c =
     let start = c .before .before .before .before .before .before .before .before .before .before .before .before .before .before .before .before .before .before in
     let t : Terminal = record { state = start .args .state; page = pageOf (start .args .characters .now) (start .args .marks .now) } in
     let half = start .args .before .half in
-    let passed = not-too-many (start .args .final-byte) half t _ (c .before .before .before .before .before .before .before .before .before .before .before .before .most-arguments .ensures) (c .before .before .before .before .before .before .before .before .before .before .before .if1 .left) in
+    let passed = not-too-many (start .args .letter) half t _ (c .before .before .before .before .before .before .before .before .before .before .before .before .most-arguments .ensures) (c .before .before .before .before .before .before .before .before .before .before .before .if1 .left) in
     rw (passed ∙ final-K _ _ _ _ t (c .before .before .before .before .before .before .before .before .value .ensures) (c .before .before .before .before .before .before .before .match .keys3)) (told-silent _ _ _ _ _ _ (c .before .before .before .before .erase-row .ensures) (erase-silent _ _ _ t))
 
 returns-6 : tie.Need-returns-6
@@ -65,7 +65,7 @@ returns-6 c =
     let start = c .before .before .before .before .before .before .before .before .before .before .before .before in
     let t : Terminal = record { state = start .args .state; page = pageOf (start .args .characters .now) (start .args .marks .now) } in
     let half = start .args .before .half in
-    let passed = not-too-many (start .args .final-byte) half t _ (c .before .before .before .before .before .before .most-arguments .ensures) (c .before .before .before .before .before .if1 .left) in
+    let passed = not-too-many (start .args .letter) half t _ (c .before .before .before .before .before .before .most-arguments .ensures) (c .before .before .before .before .before .if1 .left) in
     rw (passed ∙ final-m _ _ _ t (c .before .match .keys4)) (told-silent _ _ _ _ _ _ (c .rendition .ensures (t .page)) (rendition-silent _ t))
 
 returns-7 : tie.Need-returns-7
@@ -73,7 +73,7 @@ returns-7 c =
     let start = c .before .before .before .before .before .before .before .before .before .before .before .before in
     let t : Terminal = record { state = start .args .state; page = pageOf (start .args .characters .now) (start .args .marks .now) } in
     let half = start .args .before .half in
-    let passed = not-too-many (start .args .final-byte) half t _ (c .before .before .before .before .before .before .most-arguments .ensures) (c .before .before .before .before .before .if1 .left) in
+    let passed = not-too-many (start .args .letter) half t _ (c .before .before .before .before .before .before .most-arguments .ensures) (c .before .before .before .before .before .if1 .left) in
     rw (passed ∙ final-h _ _ _ t (c .before .match .keys5)) (told-silent _ _ _ _ _ _ (c .set-mode .ensures (t .page)) (mode-silent _ _ t))
 
 returns-8 : tie.Need-returns-8
@@ -81,7 +81,7 @@ returns-8 c =
     let start = c .before .before .before .before .before .before .before .before .before .before .before .before in
     let t : Terminal = record { state = start .args .state; page = pageOf (start .args .characters .now) (start .args .marks .now) } in
     let half = start .args .before .half in
-    let passed = not-too-many (start .args .final-byte) half t _ (c .before .before .before .before .before .before .most-arguments .ensures) (c .before .before .before .before .before .if1 .left) in
+    let passed = not-too-many (start .args .letter) half t _ (c .before .before .before .before .before .before .most-arguments .ensures) (c .before .before .before .before .before .if1 .left) in
     rw (passed ∙ final-l _ _ _ t (c .before .match .keys6)) (told-silent _ _ _ _ _ _ (c .set-mode2 .ensures (t .page)) (mode-silent _ _ t))
 
 returns-9 : tie.Need-returns-9
@@ -89,7 +89,7 @@ returns-9 c =
     let start = c .before .before .before .before .before .before .before .before .before .before .before .before .before .before .before in
     let t : Terminal = record { state = start .args .state; page = pageOf (start .args .characters .now) (start .args .marks .now) } in
     let half = start .args .before .half in
-    let passed = not-too-many (start .args .final-byte) half t _ (c .before .before .before .before .before .before .before .before .before .most-arguments .ensures) (c .before .before .before .before .before .before .before .before .if1 .left) in
+    let passed = not-too-many (start .args .letter) half t _ (c .before .before .before .before .before .before .before .before .before .most-arguments .ensures) (c .before .before .before .before .before .before .before .before .if1 .left) in
     let rest = c .before .before .before .before .match .rest in
     let other = sym (c .before .before .before .before .before .before .before .is-move .ensures) ∙ c .before .before .before .before .before .before .if2 .left in
     rw

@@ -10,7 +10,7 @@ use Rattle.moves.proofs.is_move.Tie as tie
 returns : tie.Need-returns
 unfolding isMove
 returns c =
-    let final = c .before .args .final-byte in
+    let final = c .before .args .letter in
     let low = c .if1 .taken in
     sym
     (second-decides _ _ (first-fails _ _ (lt-leb _ _ low))

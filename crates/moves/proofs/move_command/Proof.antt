@@ -12,15 +12,15 @@ returns-12 c =
     let arm = c .before .before in
     let start = arm .before .before .before in
     let other = arm .match .rest in
-    rw (c .quiet8 .ensures page, c .before .tab-back .ensures, arm .before .before .value .ensures, only-z (start .args .final-byte) (start .pre .1) (other .0 .0) (other .0 .1) (other .1))
+    rw (c .quiet8 .ensures page, c .before .tab-back .ensures, arm .before .before .value .ensures, only-z (start .args .letter) (start .pre .1) (other .0 .0) (other .0 .1) (other .1))
 
 pub move-command-spec : {M : Type 1} → statement M
 unfolding listedStep if_then_else_
 move-command-spec =
     tie.close
     (tie.spec
-    (λ c κs. let table = in-table (c .args .final-byte) (c .pre .1) in (table .0, table .1, search needs))
-    (λ c κs. let table = in-table (c .before .args .final-byte) (c .before .pre .1) in (table .0, table .1, search needs))
+    (λ c κs. let table = in-table (c .args .letter) (c .pre .1) in (table .0, table .1, search needs))
+    (λ c κs. let table = in-table (c .before .args .letter) (c .before .pre .1) in (table .0, table .1, search needs))
     (λ c. search needs)
     (λ c. search needs)
     (λ c κs. search needs)

@@ -12,32 +12,32 @@ use Rattle.output.proofs.put_place.Tie as tie
 put-byte-requires : tie.Need-put-byte-requires
 put-byte-requires c κs =
     let start = c .before .before in
-    omega (arith, place-long (start .args .row) (start .args .column) (start .args .final-byte), start .pre)
+    omega (arith, place-long (start .args .row) (start .args .column) (start .args .letter), start .pre)
 
 put-byte-requires-2 : tie.Need-put-byte-requires-2
 put-byte-requires-2 c κs =
     let start = c .before .before .before .before .before .before in
-    omega (arith, place-long (start .args .row) (start .args .column) (start .args .final-byte), start .pre)
+    omega (arith, place-long (start .args .row) (start .args .column) (start .args .letter), start .pre)
 
 put-decimal-requires : tie.Need-put-decimal-requires
 put-decimal-requires c κs =
     let start = c .before .before .before .before .before .before .before .before .before .before in
-    omega (arith, place-long (start .args .row) (start .args .column) (start .args .final-byte), start .pre)
+    omega (arith, place-long (start .args .row) (start .args .column) (start .args .letter), start .pre)
 
 put-byte-requires-3 : tie.Need-put-byte-requires-3
 put-byte-requires-3 c κs =
     let start = c .before .before .before .before .before .before .before .before .before .before .before .before .before .before in
-    omega (arith, place-long (start .args .row) (start .args .column) (start .args .final-byte), start .pre)
+    omega (arith, place-long (start .args .row) (start .args .column) (start .args .letter), start .pre)
 
 put-decimal-requires-2 : tie.Need-put-decimal-requires-2
 put-decimal-requires-2 c κs =
     let start = c .before .before .before .before .before .before .before .before .before .before .before .before .before .before .before .before .before .before in
-    omega (arith, place-long (start .args .row) (start .args .column) (start .args .final-byte), start .pre)
+    omega (arith, place-long (start .args .row) (start .args .column) (start .args .letter), start .pre)
 
 put-byte-requires-4 : tie.Need-put-byte-requires-4
 put-byte-requires-4 c κs =
     let start = c .before .before .before .before .before .before .before .before .before .before .before .before .before .before .before .before .before .before .before .before .before .before in
-    omega (arith, place-long (start .args .row) (start .args .column) (start .args .final-byte), start .pre)
+    omega (arith, place-long (start .args .row) (start .args .column) (start .args .letter), start .pre)
 
 returns : tie.Need-returns
 unfolding placeBytes
