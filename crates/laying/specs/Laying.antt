@@ -58,11 +58,11 @@ pub record NextLaid (block copy : List ℕ) (at : ℕ) (part : Part) : Type 0 wh
   pub laid : lay block (drop at copy) ≡ partBytes block copy part ++ lay block (drop (part .next) copy)
 
 -- Bytes put into an output from its start on; where there is too little room, nothing happens.
-pub record Laying : Type 0 where
+pub record BlockLaid : Type 0 where
   pub answer : Laid
   pub output : List ℕ
 
-unfoldable pub laying : List ℕ → List ℕ → Laying
+unfoldable pub laying : List ℕ → List ℕ → BlockLaid
 laying bytes output =
     if leb (length bytes) (length output) then record { answer = Bytes (length bytes); output = placed 0 bytes output }
     else record { answer = NoRoom; output = output }

@@ -47,7 +47,7 @@ unfoldable pub cellsErased : Bool → ℕ → ℕ → Page → List ℕ
 cellsErased mode from to page = numbersFrom (erasable mode (page .marks)) from (to - from)
 
 -- What erasing left, and its count of the cells erased.
-pub record Erasing (mode : Bool) (from to : ℕ) (before after : Page) (count : ℕ) : Type 0 where
+pub record HasErased (mode : Bool) (from to : ℕ) (before after : Page) (count : ℕ) : Type 0 where
   pub page : after ≡ erased mode from to before
   pub counted : count ≡ length (cellsErased mode from to before)
 
