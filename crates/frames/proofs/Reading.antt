@@ -10,7 +10,7 @@ use lib.Seq.{take-suc}
 use Rattle.words.specs.Choice.{if_then_else_}
 use Rattle.frames.specs.declared.Held.{Held}
 use Rattle.frames.specs.Sessions.{frameDone, lineDone}
-use Rattle.frames.specs.Transcript.{SoFar, nothingRead, lineEnded, afterByte, afterBytes}
+use Rattle.frames.specs.Transcript.{SoFar, noneSoFar, lineEnded, afterByte, afterBytes}
 use Rattle.frames.specs.Held.{longer, lineIn, sessionIn, Holds}
 use Rattle.frames.proofs.Lines.{none-collected, more-collected, frame-found}
 use Rattle.frames.proofs.Answering.{no-session-in}
@@ -26,7 +26,7 @@ pub next-byte : (bytes : List ℕ) (i : ℕ) (read : SoFar) → i < length bytes
 unfolding afterBytes
 next-byte bytes i read inside = rw (add-one, take-suc bytes i 0 inside) (read-in-parts (take i bytes) (getD bytes i 0 ∷ []) read)
 
-pub nothing-held : (held : Held) (line characters marks : List ℕ) → held .going ≡ false → length line ≡ 512 → Holds nothingRead held 0 line characters marks
+pub nothing-held : (held : Held) (line characters marks : List ℕ) → held .going ≡ false → length line ≡ 512 → Holds noneSoFar held 0 line characters marks
 nothing-held held line characters marks none room = record { collected = none-collected line room; going = no-session-in held characters marks none }
 
 module _ {read : SoFar} {held : Held} {digits : ℕ} {line characters marks : List ℕ} (holds : Holds read held digits line characters marks) where

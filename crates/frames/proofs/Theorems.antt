@@ -9,7 +9,7 @@ use lib.ListN.{length}
 use Rattle.words.specs.Choice.{if_then_else_}
 use Rattle.words.proofs.Choosing.{either-way}
 use Rattle.frames.specs.Sessions.{Session, lineDone}
-use Rattle.frames.specs.Transcript.{withFirst, linesOf, linesDone, transcriptOf, SoFar, nothingRead, lineEnded, afterByte, afterBytes, inputEnded}
+use Rattle.frames.specs.Transcript.{withFirst, linesOf, linesDone, transcriptOf, SoFar, noneSoFar, lineEnded, afterByte, afterBytes, inputEnded}
 
 -- The lines of an input of which these bytes of the first were read before.
 withFront : List ℕ → List (List ℕ) → List (List ℕ)
@@ -54,6 +54,6 @@ read-on (byte ∷ later) read =
     (read-on later (record { line = read .line ++ (byte ∷ []); session = read .session; text = read .text })
     ∙ ap (λ (lines : List (List ℕ)). read .text ++ linesDone lines (read .session)) (front-more (read .line) byte (linesOf later))))
 
-pub read-bytewise : (input : List ℕ) → transcriptOf input ≡ inputEnded (afterBytes input nothingRead) .text
+pub read-bytewise : (input : List ℕ) → transcriptOf input ≡ inputEnded (afterBytes input noneSoFar) .text
 unfolding transcriptOf withFront
-read-bytewise input = sym (read-on input nothingRead)
+read-bytewise input = sym (read-on input noneSoFar)

@@ -32,8 +32,8 @@ pub record SoFar : Type 0 where
   pub session : Session
   pub text : List ℕ
 
-abbrev pub nothingRead : SoFar
-nothingRead = record { line = []; session = noSession; text = [] }
+abbrev pub noneSoFar : SoFar
+noneSoFar = record { line = []; session = noSession; text = [] }
 
 unfoldable pub lineEnded : SoFar → SoFar
 lineEnded before =

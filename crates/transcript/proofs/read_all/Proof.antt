@@ -4,7 +4,7 @@ use Prim.Native.Nat.{ℕ}
 use native.Mathlib.Omega.{arith}
 use borrow.Author.Needs.{needs}
 use lib.ListN.{length, take}
-use Rattle.frames.specs.Transcript.{nothingRead, afterBytes}
+use Rattle.frames.specs.Transcript.{noneSoFar, afterBytes}
 use Rattle.frames.specs.Held.{Holds}
 use Rattle.frames.proofs.Lending.{still-enough}
 use Rattle.frames.proofs.Reading.{nothing-held, read-in-parts}
@@ -20,7 +20,7 @@ Inv-loop input₀ line₀ characters₀ marks₀ out₀ text₀ dumping here₀ 
     (length marks ≡ length marks₀) ×
     (length out ≡ length out₀) ×
     (length text ≡ length text₀) ×
-    ((bytes : List ℕ) × Holds (afterBytes bytes nothingRead) (here .held) (here .digits) line characters marks)
+    ((bytes : List ℕ) × Holds (afterBytes bytes noneSoFar) (here .held) (here .digits) line characters marks)
 
 abbrev μ-loop : tie.MeasureT-loop
 μ-loop input₀ line₀ characters₀ marks₀ out₀ text₀ dumping here₀ reads₀ input line characters marks out text here reads = reads
@@ -51,7 +51,7 @@ loop-again c =
       omega (arith, c .before .before .before .before .before .before .before .before .before .before .take-bytes .kept .1 .1 .1 .1 .0, same .3),
       omega (arith, c .before .before .before .before .before .before .before .before .before .before .take-bytes .kept .1 .1 .1 .1 .1 .0, same .4),
       omega (arith, c .before .before .before .before .before .before .before .before .before .before .take-bytes .kept .1 .1 .1 .1 .1 .1 .0, same .5),
-      (same .6 .0 ++ part, rw (read-in-parts (same .6 .0) part nothingRead) (c .before .before .before .before .before .before .before .before .before .before .take-bytes .ensures _ (same .6 .1))),
+      (same .6 .0 ++ part, rw (read-in-parts (same .6 .0) part noneSoFar) (c .before .before .before .before .before .before .before .before .before .before .take-bytes .ensures _ (same .6 .1))),
     )
 
 pub read-all-spec : {M : Type 1} → statement M
