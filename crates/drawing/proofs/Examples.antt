@@ -5,7 +5,8 @@ use mathlib.Core.List.{[], _∷_, _++_, flatMap}
 use lib.ListN.{replicate}
 use Rattle.words.specs.Choice.{if_then_else_}
 use Rattle.state.specs.declared.State.{State}
-use Rattle.drawing.specs.Figures.{bytes, hexDigit}
+use Rattle.figures.specs.Hexadecimal.{digitOf}
+use Rattle.figures.specs.Figures.{bytes}
 use Rattle.drawing.specs.Drawing.{exactly, penLine, locksLine, stopsLine, halfLine, stateLines, rowsOf, rowLine, drawn}
 
 -- two rows of three columns, a tab stop in column 2, and ESC [ 1 ; 65535 read so far
@@ -24,5 +25,5 @@ pub small-drawn : drawn small (bytes "KN .-!") (0 ∷ 1 ∷ 0x4D ∷ 0xFF ∷ 0x
     ≡ bytes "size 00002 00003\ncursor 00001 00003\npen 4D erasure 1\nmanual 0 soft 1 message 00001\nstops .T"
     ++ replicate 158 0x2E
     ++ bytes "\nhalf 00003 spoilt 0 count 00002 arguments 00001 65535 00000 00000 00000 00000 00000 00000\n|KN |\n|.-!|\n:00014D\n:FFA002\n"
-unfolding if_then_else_ flatMap hexDigit exactly penLine locksLine stopsLine halfLine stateLines rowsOf rowLine drawn
+unfolding if_then_else_ flatMap digitOf exactly penLine locksLine stopsLine halfLine stateLines rowsOf rowLine drawn
 small-drawn = refl

@@ -1,7 +1,7 @@
 -- How long each line is, and the whole drawing.
 use mathlib.Core.Path.{_≡_, refl, sym, ap, _∙_}
 use mathlib.Core.Bool.{Bool, true, false}
-use mathlib.Core.List.{List, _++_, flatMap}
+use mathlib.Core.List.{List, [], _∷_, _++_, flatMap}
 use Prim.Native.Nat.{ℕ, zero, suc, _+_, _*_}
 use native.Mathlib.Nat.{zero-mul, suc-mul}
 use native.Mathlib.Omega.{arith}
@@ -11,10 +11,28 @@ use Rattle.sequence.specs.declared.HalfRead.{HalfRead}
 use Rattle.state.specs.declared.Modes.{Modes}
 use Rattle.state.specs.declared.Locks.{Locks}
 use Rattle.state.specs.declared.State.{State}
-use Rattle.drawing.specs.Figures.{bytes, hexOf, stopOf}
-use Rattle.drawing.specs.Drawing.{lineEnd, spaced, penLine, locksLine, exactly, allStops, stopsLine, allArguments, halfLine, stateLines, rowsOf, rowLine, rowLines, drawn}
-use Rattle.drawing.proofs.Walks.{flat-length, exactly-length}
+use Rattle.figures.specs.Hexadecimal.{hexOf}
+use Rattle.figures.specs.Figures.{bytes}
+use Rattle.figures.proofs.Walks.{flat-length}
+use Rattle.figures.proofs.Digits.{hex-length}
+use Rattle.drawing.specs.Drawing.{lineEnd, stopOf, spaced, penLine, locksLine, exactly, allStops, stopsLine, allArguments, halfLine, stateLines, rowsOf, rowLine, rowLines, drawn}
 use Rattle.drawing.proofs.Lines.{hex-line, character-line}
+
+-- A list of the right length is neither cut nor filled.
+module _ {A : Type 0} where
+  pub exactly-length : (n : ℕ) (filler : A) (list : List A) → length (exactly n filler list) ≡ n
+  unfolding exactly
+  exactly-length zero filler list = refl
+  exactly-length (suc n) filler [] = ap suc (exactly-length n filler [])
+  exactly-length (suc n) filler (x ∷ list) = ap suc (exactly-length n filler list)
+
+  pub exactly-these : {n : ℕ} (filler : A) (list : List A) → length list ≡ n → exactly n filler list ≡ list
+  unfolding exactly
+  exactly-these filler list all = rw (← all) (same list)
+    where
+      same : (list : List A) → exactly (length list) filler list ≡ list
+      same [] = refl
+      same (x ∷ list) = ap (λ (rest : List A). x ∷ rest) (same list)
 
 pub pen-length : (modes : Modes) → length (penLine modes) ≡ 17
 unfolding penLine
@@ -43,11 +61,8 @@ unfolding stateLines
 state-length state = simp (length-append, pen-length (state .modes), locks-length (state .locks), stops-length (state .stops), half-length (state .half))
 
 module _ (row : List ℕ) where
-  pub hex-length : length (flatMap hexOf row) ≡ length row * 2
-  hex-length = flat-length hexOf 2 (λ _. refl) row
-
   pub hex-line-length : {inHex : Bool} → inHex ≡ true → length (rowLine inHex row) ≡ length row * 2 + 2
-  hex-line-length h = rw (hex-line row h, length-append (bytes ":" ++ flatMap hexOf row) lineEnd, hex-length) (omega arith)
+  hex-line-length h = rw (hex-line row h, length-append (bytes ":" ++ hexOf row) lineEnd, hex-length row) (omega arith)
 
   pub character-line-length : {inHex : Bool} → inHex ≡ false → length (rowLine inHex row) ≡ length row + 3
   character-line-length h = rw (character-line row h, length-append (bytes "|" ++ row) (bytes "|\n")) (omega arith)

@@ -1,4 +1,4 @@
--- Digits as they are counted off, a row's line by its kind, and the rows one after another.
+-- A row's line by its kind, and the rows one after another.
 use mathlib.Core.Path.{_≡_, ap, _∙_}
 use mathlib.Core.Bool.{Bool, true, false}
 use mathlib.Core.List.{List, [], _∷_, _++_, flatMap}
@@ -8,21 +8,12 @@ use lib.ListN.{take, drop}
 use lib.Seq.{drop-drop}
 use Rattle.words.proofs.Choosing.{then-case, else-case}
 use Rattle.words.proofs.Walking.{once-more}
-use Rattle.output.proofs.Digits.{twoDigits}
-use Rattle.drawing.specs.Figures.{bytes, fiveDigits, hexOf}
+use Rattle.figures.specs.Hexadecimal.{hexOf}
+use Rattle.figures.specs.Figures.{bytes}
 use Rattle.drawing.specs.Drawing.{lineEnd, rowsOf, rowLine, rowLines}
 
-pub five-digits : (number thousands rest hundreds low : ℕ) → thousands ≡ number / 10000 → rest ≡ number % 10000 → hundreds ≡ rest / 100 → low ≡ rest % 100 → fiveDigits number ≡ (0x30 + thousands) ∷ [] ++ twoDigits hundreds ++ twoDigits low
-five-digits number thousands rest hundreds low p q r s =
-    let a : number / 10000 ≡ thousands = omega arith in
-    let b : number / 1000 % 10 ≡ hundreds / 10 = omega arith in
-    let c : number / 100 % 10 ≡ hundreds % 10 = omega arith in
-    let d : number / 10 % 10 ≡ low / 10 = omega arith in
-    let e : number % 10 ≡ low % 10 = omega arith in
-    λ i. (0x30 + a i) ∷ (0x30 + b i) ∷ (0x30 + c i) ∷ (0x30 + d i) ∷ (0x30 + e i) ∷ []
-
 module _ (row : List ℕ) {inHex : Bool} where
-  pub hex-line : inHex ≡ true → rowLine inHex row ≡ bytes ":" ++ flatMap hexOf row ++ lineEnd
+  pub hex-line : inHex ≡ true → rowLine inHex row ≡ bytes ":" ++ hexOf row ++ lineEnd
   unfolding rowLine
   hex-line h = then-case _ _ _ h
 

@@ -9,6 +9,7 @@
 --     :010100000100..                                     (R lines)
 use mathlib.Core.Bool.{Bool, true, false}
 use mathlib.Core.List.{List, [], _∷_, _++_, flatMap}
+use Prim.Native.Char.{code}
 use Prim.Native.Nat.{ℕ, zero, suc, _<_}
 use lib.ListN.{take, drop}
 use Rattle.words.specs.Choice.{if_then_else_}
@@ -16,10 +17,18 @@ use Rattle.sequence.specs.declared.HalfRead.{HalfRead}
 use Rattle.state.specs.declared.Modes.{Modes}
 use Rattle.state.specs.declared.Locks.{Locks}
 use Rattle.state.specs.declared.State.{State}
-use Rattle.drawing.specs.Figures.{bytes, fiveDigits, hexOf, flagOf, stopOf}
+use Rattle.figures.specs.Figures.{bytes, fiveDigits}
+use Rattle.figures.specs.Hexadecimal.{hexByte, hexOf}
 
 abbrev pub lineEnd : List ℕ
 lineEnd = bytes "\n"
+
+abbrev pub flagOf : Bool → List ℕ
+flagOf flag = (if flag then code "1" else code "0") ∷ []
+
+-- A tab stop in a column, or none.
+abbrev pub stopOf : Bool → List ℕ
+stopOf stop = (if stop then code "T" else code ".") ∷ []
 
 -- A word, and the number or the flag that it names.
 abbrev pub numbered : List ℕ → ℕ → List ℕ
@@ -42,7 +51,7 @@ abbrev pub pairLine : List ℕ → ℕ → ℕ → List ℕ
 pairLine word first second = numbered word first ++ spaced second ++ lineEnd
 
 unfoldable pub penLine : Modes → List ℕ
-penLine modes = bytes "pen " ++ hexOf (modes .pen) ++ flagged (bytes " erasure ") (modes .erasure) ++ lineEnd
+penLine modes = bytes "pen " ++ hexByte (modes .pen) ++ flagged (bytes " erasure ") (modes .erasure) ++ lineEnd
 
 unfoldable pub locksLine : Locks → List ℕ
 locksLine locks =
@@ -86,7 +95,7 @@ rowsOf columns (suc rows) cells = take columns cells ∷ rowsOf columns rows (dr
 -- A row of marks, in hexadecimal; a row of characters, as they are.
 unfoldable pub rowLine : Bool → List ℕ → List ℕ
 rowLine inHex row =
-    if inHex then bytes ":" ++ flatMap hexOf row ++ lineEnd
+    if inHex then bytes ":" ++ hexOf row ++ lineEnd
     else bytes "|" ++ row ++ bytes "|\n"
 
 abbrev pub rowLines : Bool → ℕ → ℕ → List ℕ → List ℕ

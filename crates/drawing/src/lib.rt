@@ -5,38 +5,11 @@ use state::Locks;
 use state::Modes;
 use state::State;
 ghost use mathlib.Core.Path.{_≡_};
-ghost use mathlib.Core.List.{flatMap};
 ghost use Prim.Native.Nat.{_+_, _*_, _<_, _≤_};
 ghost use lib.ListN.{length};
 ghost use Rattle.words.specs.Choice.{if_then_else_};
 ghost use Rattle.words.specs.Output.{Wrote};
-ghost use Rattle.drawing.specs.Figures.{fiveDigits, hexDigit, hexOf};
 ghost use Rattle.drawing.specs.Drawing.{numbered, flagged, spaced, pairLine, penLine, locksLine, allStops, stopsLine, allArguments, halfLine, stateLines, rowLine, rowLines, drawn, FiveDigitsEach};
-
-fn put_all(text: &mut [u8], at: usize, bytes: &[u8]) -> usize
-    requires { ⌜ at + length (now bytes) ≤ length (now text) ⌝ }
-    ensures { λ r. ⌜ Wrote at (now (bytes .entry)) (now (text .entry)) r (now (text .exit)) ⌝ }
-{
-    let mut next = at;
-    let mut i = 0;
-    while i < bytes.len() {
-        next = output::put_byte(text, next, bytes[i]);
-        i += 1;
-    }
-    next
-}
-
-// With leading zeros: the first digit, then twice two.
-pub fn put_five(text: &mut [u8], at: usize, number: usize) -> usize
-    requires { ⌜ (number < 100000) × (at + 5 ≤ length (now text)) ⌝ }
-    ensures { λ r. ⌜ Wrote at (fiveDigits number) (now (text .entry)) r (now (text .exit)) ⌝ }
-{
-    let high = output::count_off(number, 10000);
-    let low = output::count_off(high.left, 100);
-    let thousands = output::put_digit(text, at, high.times);
-    let tens = output::put_two_digits(text, thousands, low.times);
-    output::put_two_digits(text, tens, low.left)
-}
 
 fn byte_if(test: bool, yes: u8, no: u8) -> u8
     ensures { λ r. ⌜ r ≡ (if test then yes else no) ⌝ }
@@ -47,53 +20,19 @@ fn byte_if(test: bool, yes: u8, no: u8) -> u8
     no
 }
 
-fn hex_digit(digit: u8) -> u8
-    requires { ⌜ digit < 16 ⌝ }
-    ensures { λ r. ⌜ r ≡ hexDigit digit ⌝ }
-{
-    if digit < 10 {
-        return 0x30 + digit;
-    }
-    0x37 + digit
-}
-
-fn put_hex_byte(text: &mut [u8], at: usize, byte: u8) -> usize
-    requires { ⌜ at + 2 ≤ length (now text) ⌝ }
-    ensures { λ r. ⌜ Wrote at (hexOf byte) (now (text .entry)) r (now (text .exit)) ⌝ }
-{
-    let high = hex_digit(byte / 16);
-    let low = hex_digit(byte % 16);
-    let next = output::put_byte(text, at, high);
-    output::put_byte(text, next, low)
-}
-
-// Two digits for each byte.
-pub fn put_hex(text: &mut [u8], at: usize, bytes: &[u8]) -> usize
-    requires { ⌜ at + 2 * length (now bytes) ≤ length (now text) ⌝ }
-    ensures { λ r. ⌜ Wrote at (flatMap hexOf (now (bytes .entry))) (now (text .entry)) r (now (text .exit)) ⌝ }
-{
-    let mut next = at;
-    let mut i = 0;
-    while i < bytes.len() {
-        next = put_hex_byte(text, next, bytes[i]);
-        i += 1;
-    }
-    next
-}
-
 fn put_number(text: &mut [u8], at: usize, word: &[u8], number: usize) -> usize
     requires { ⌜ (number < 100000) × (at + length (now word) + 5 ≤ length (now text)) ⌝ }
     ensures { λ r. ⌜ Wrote at (numbered (now (word .entry)) number) (now (text .entry)) r (now (text .exit)) ⌝ }
 {
-    let next = put_all(text, at, word);
-    put_five(text, next, number)
+    let next = figures::put_all(text, at, word);
+    figures::put_five(text, next, number)
 }
 
 fn put_flag(text: &mut [u8], at: usize, word: &[u8], flag: bool) -> usize
     requires { ⌜ at + length (now word) + 1 ≤ length (now text) ⌝ }
     ensures { λ r. ⌜ Wrote at (flagged (now (word .entry)) flag) (now (text .entry)) r (now (text .exit)) ⌝ }
 {
-    let next = put_all(text, at, word);
+    let next = figures::put_all(text, at, word);
     output::put_byte(text, next, byte_if(flag, b'1', b'0'))
 }
 
@@ -111,8 +50,8 @@ fn put_modes(text: &mut [u8], at: usize, modes: Modes) -> usize
     requires { ⌜ at + 17 ≤ length (now text) ⌝ }
     ensures { λ r. ⌜ Wrote at (penLine modes) (now (text .entry)) r (now (text .exit)) ⌝ }
 {
-    let pen = put_all(text, at, b"pen ");
-    let erasure = put_hex_byte(text, pen, modes.pen);
+    let pen = figures::put_all(text, at, b"pen ");
+    let erasure = figures::put_hex_byte(text, pen, modes.pen);
     let end = put_flag(text, erasure, b" erasure ", modes.erasure);
     output::put_byte(text, end, b'\n')
 }
@@ -144,7 +83,7 @@ fn put_stops(text: &mut [u8], at: usize, stops: [bool; 160]) -> usize
     requires { ⌜ at + 167 ≤ length (now text) ⌝ }
     ensures { λ r. ⌜ Wrote at (stopsLine stops) (now (text .entry)) r (now (text .exit)) ⌝ }
 {
-    let each = put_all(text, at, b"stops ");
+    let each = figures::put_all(text, at, b"stops ");
     let end = put_each_stop(text, each, stops);
     output::put_byte(text, end, b'\n')
 }
@@ -177,7 +116,7 @@ fn put_half(text: &mut [u8], at: usize, half: HalfRead) -> usize
     let spoilt = put_number(text, at, b"half ", half.kind as usize);
     let count = put_flag(text, spoilt, b" spoilt ", half.spoilt);
     let word = put_number(text, count, b" count ", half.count as usize);
-    let each = put_all(text, word, b" arguments");
+    let each = figures::put_all(text, word, b" arguments");
     let end = put_arguments(text, each, arguments);
     output::put_byte(text, end, b'\n')
 }
@@ -208,12 +147,12 @@ fn put_row(text: &mut [u8], at: usize, row: &[u8], in_hex: bool) -> usize
 {
     if in_hex {
         let digits = output::put_byte(text, at, b':');
-        let end = put_hex(text, digits, row);
+        let end = figures::put_hex(text, digits, row);
         return output::put_byte(text, end, b'\n');
     }
     let characters = output::put_byte(text, at, b'|');
-    let bar = put_all(text, characters, row);
-    put_all(text, bar, b"|\n")
+    let bar = figures::put_all(text, characters, row);
+    figures::put_all(text, bar, b"|\n")
 }
 
 // A page's rows, as characters or, for marks, in hexadecimal.

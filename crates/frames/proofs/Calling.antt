@@ -1,27 +1,37 @@
 -- Laws of the calls: what an output held before makes no difference, and the bytes sent fit in it.
 use mathlib.Core.Path.{_≡_, refl, sym, ap, _∙_}
 use mathlib.Core.List.{List, [], _∷_, _++_}
-use Prim.Native.Nat.{ℕ, _-_, _≤_}
+use Prim.Native.Nat.{ℕ, _-_, _%_, _≤_}
 use native.Mathlib.Omega.{arith}
 use borrow.Author.Tests.{leb-true}
 use lib.Dec.{leb}
 use lib.ListN.{length, length-append, length-replicate}
 use Rattle.words.specs.Output.{placed}
 use Rattle.words.proofs.Choosing.{either-line}
-use Rattle.words.proofs.Output.{wrote-none}
+use Rattle.words.proofs.Output.{placed-before, wrote-none}
 use Rattle.steps.specs.Steps.{Terminal, Stepped, bytesOf}
 use Rattle.steps.specs.Keys.{keyStep}
 use Rattle.terminal.specs.declared.Answer.{Answer}
 use Rattle.terminal.specs.declared.Answer.the-variants.{Done, WrongSize, WrongState, NoRoom, UnknownKey, Locked, TooLong, NoCell}
 use Rattle.terminal.specs.Runs.{stepsOf, fitting, sentBy}
-use Rattle.terminal.specs.Answers.{Outcome, unchanged, did, gives}
+use Rattle.terminal.specs.Answers.{Outcome, numberOf, unchanged, did, gives}
 use Rattle.terminal.specs.Lines.{firstOf, hostLines, keyLines}
 use Rattle.terminal.specs.Calls.{hostCall, keyCall}
 use Rattle.terminal.proofs.Running.{steps-count}
-use Rattle.frames.specs.Hexadecimal.{highFirst}
-use Rattle.frames.specs.Printing.{lineOf, bytesSent, printed}
+use Rattle.frames.specs.Printing.{highFirst, lineOf, bytesSent, printed}
 use Rattle.frames.specs.Sessions.{output}
-use Rattle.frames.proofs.Lending.{placed-first}
+
+-- An answer's number has one byte.
+pub one-byte : (answer : Answer) → numberOf answer ≡ numberOf answer % 256
+unfolding numberOf
+one-byte Done = refl
+one-byte WrongSize = refl
+one-byte WrongState = refl
+one-byte NoRoom = refl
+one-byte UnknownKey = refl
+one-byte Locked = refl
+one-byte TooLong = refl
+one-byte NoCell = refl
 
 -- The same line is printed of outcomes that agree in what it tells.
 pub printed-same : (a b : Outcome) → a .number ≡ b .number → a .terminal .state ≡ b .terminal .state → a .stored ≡ b .stored → bytesSent a ≡ bytesSent b → printed a ≡ printed b
@@ -51,8 +61,8 @@ module _ (t : Terminal) (taken : ℕ) (steps : List Stepped) (one other : List �
         taken = refl;
         terminal = refl;
         stored = refl;
-        sends = placed-first (sentBy steps) other ∙ sym (placed-first (sentBy steps) one);
-        output = ap (λ (bytes : List ℕ). placed 0 bytes other) (sym (placed-first (sentBy steps) one));
+        sends = placed-before (sentBy steps) other ∙ sym (placed-before (sentBy steps) one);
+        output = ap (λ (bytes : List ℕ). placed 0 bytes other) (sym (placed-before (sentBy steps) one));
       }
 
   gives-alike : (answer : Answer) → Alike (gives answer taken t one steps) (gives answer taken t other steps) other

@@ -28,7 +28,7 @@ use Rattle.terminal.specs.Answers.{Outcome, numberOf, unchanged, did}
 use Rattle.terminal.specs.Lines.{exceedsRoom, isValid}
 use Rattle.terminal.specs.Calls.{hostCall}
 use Rattle.terminal.proofs.Deciding.{fits-on, host-wrong-size, host-wrong-state, host-too-long, host-no-room, host-done}
-use Rattle.frames.specs.Hexadecimal.{bytesIn}
+use Rattle.figures.specs.Hexadecimal.{bytesIn}
 use Rattle.frames.specs.Frames.{Frame, start, host, key, noFrame, frameIn, frameOf, restOf}
 use Rattle.frames.specs.Sessions.{Session, noSession, session, output, started, hosted, keyed, uncalled, callOf, frameDone, lineDone}
 use Rattle.frames.proofs.Calling.{output-long, host-within}

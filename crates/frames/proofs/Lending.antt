@@ -9,32 +9,14 @@ use lib.Seq.{getD-append-add, getD-drop, getD-take, take-append-seam, take-nil, 
 use Rattle.words.specs.Output.{placed, Wrote}
 use Rattle.words.specs.Choice.{if_then_else_}
 use Rattle.words.proofs.Choosing.{then-case, else-case, either-line, either-way, less-or-not}
-use Rattle.words.proofs.Output.{wrote-none}
+use Rattle.words.proofs.Output.{placed-before, wrote-none}
 use Rattle.frames.specs.declared.Held.{Held}
 use Rattle.page.specs.Page.{pageOf}
 use Rattle.steps.specs.Steps.{Terminal}
 use Rattle.frames.specs.Sessions.{Session, noSession, session}
 use Rattle.frames.specs.Held.{kept, charactersOf, marksOf, sessionIn, Lent, Enough}
 
--- What is written first is first, and what is past it is as it was.
-pub placed-first : (bytes list : List ℕ) → take (length bytes) (placed 0 bytes list) ≡ bytes
-unfolding placed
-placed-first bytes list = take-append-seam bytes _
-
-pub placed-later : (bytes list : List ℕ) (k : ℕ) → length bytes ≤ k → getD (placed 0 bytes list) k 0 ≡ getD list k 0
-unfolding placed
-placed-later bytes list k past =
-    let n : length bytes + (k - length bytes) ≡ k = omega arith in
-    let m : 0 + length bytes + (k - length bytes) ≡ k = omega arith in
-    rw n at (getD-append-add bytes (drop (0 + length bytes) list) (k - length bytes) 0)
-    ∙ getD-drop (0 + length bytes) list (k - length bytes) 0
-    ∙ rw m
-
--- What a part of a list has past what was written over the list's front.
-pub read-later : {written list now : List ℕ} {count : ℕ} → Wrote 0 written list count now → (digits k : ℕ) → count ≤ k → k < digits → getD now k 0 ≡ getD (take digits list) k 0
-read-later {written} {list} wrote digits k past here =
-    ap (λ (l : List ℕ). getD l k 0) (wrote .left) ∙ placed-later written list k (omega (arith, wrote .next-is)) ∙ sym (getD-take digits list k 0 here)
-
+-- A front before the rest of a list is a front written over it.
 pub placed-front : (front list : List ℕ) (n : ℕ) → length front ≡ n → front ++ drop n list ≡ placed 0 front list
 unfolding placed
 placed-front front list n long = let size : n ≡ 0 + length front = omega arith in ap (λ (k : ℕ). front ++ drop k list) size
@@ -103,7 +85,7 @@ wrote-inside {bytes} {before} wrote =
 pub held-again : (t : Terminal) (characters marks : List ℕ) → length (t .page .marks) ≡ length (t .page .characters) → sessionIn (kept (session t)) (placed 0 (t .page .characters) characters) (placed 0 (t .page .marks) marks) ≡ session t
 unfolding sessionIn kept if_then_else_
 held-again t characters marks same =
-    λ i. session (record { state = t .state; page = pageOf (placed-first (t .page .characters) characters i) ((ap (λ (n : ℕ). take n (placed 0 (t .page .marks) marks)) (sym same) ∙ placed-first (t .page .marks) marks) i) })
+    λ i. session (record { state = t .state; page = pageOf (placed-before (t .page .characters) characters i) ((ap (λ (n : ℕ). take n (placed 0 (t .page .marks) marks)) (sym same) ∙ placed-before (t .page .marks) marks) i) })
 
 -- And one that stays is itself.
 module _ (held : Held) (characters marks : List ℕ) (same : length characters ≡ length marks) where

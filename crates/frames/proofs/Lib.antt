@@ -1,4 +1,3 @@
-pub mod Digits
 pub mod Framing
 pub mod Lending
 pub mod Lines

@@ -8,16 +8,14 @@ use borrow.Author.Tests.{le-leb, lt-leb, lt-ltb, le-ltb, eqb-true, not-true}
 use lib.Dec.{eqb, ltb}
 use native.Mathlib.Omega.{arith}
 use lib.ListN.{length, take, set, length-append, length-set}
-use lib.Seq.{length-take-le, take-suc-set}
+use lib.Seq.{take-suc-set}
 use Rattle.words.proofs.Choosing.{then-case, else-case, either-line, either-way, less-or-not, both}
 use Rattle.words.specs.Lists.{every}
-use Rattle.words.specs.Output.{Wrote}
-use Rattle.words.proofs.Output.{placed-length}
-use Rattle.frames.specs.Hexadecimal.{isHexadecimal, bytesIn, pairsOf}
+use Rattle.figures.specs.Hexadecimal.{isHexadecimal, bytesIn, pairsOf}
 use Rattle.frames.specs.Frames.{noFrame, frameIn, frameOf}
 use Rattle.frames.specs.Transcript.{withFirst, linesOf}
 use Rattle.frames.specs.Held.{longer, lineIn}
-use Rattle.frames.proofs.Digits.{pairs-most, pairs-least}
+use Rattle.figures.proofs.Digits.{pairs-least}
 use Rattle.frames.proofs.Framing.{no-bytes, too-many-bytes}
 
 no-bytes-in : bytesIn [] ≡ []
@@ -41,14 +39,6 @@ module _ (buffer : List ℕ) (digits : ℕ) where
   pub is-hexadecimal : digits ≤ 512 → isHexadecimal (take digits buffer) ≡ true → bytesIn (lineIn buffer digits) ≡ pairsOf (take digits buffer)
   unfolding bytesIn
   is-hexadecimal fits right = ap bytesIn (line-kept fits) ∙ then-case _ _ _ right
-
--- The bytes of a line leave the line as long as it was, and fit in it.
-pub decoded-fits : (buffer : List ℕ) (digits : ℕ) → digits ≤ length buffer → {count : ℕ} {now : List ℕ} → Wrote 0 (pairsOf (take digits buffer)) buffer count now → count ≤ length now
-decoded-fits buffer digits fits wrote =
-    let few = pairs-most (take digits buffer) in
-    let short = length-take-le digits buffer fits in
-    let same = ap (length {A = ℕ}) (wrote .left) ∙ placed-length 0 (pairsOf (take digits buffer)) buffer (omega arith) in
-    omega (arith, wrote .next-is)
 
 -- A line of more than 512 digits is no frame.
 long-line : (line : List ℕ) → 512 < length line → frameIn (bytesIn line) ≡ noFrame

@@ -1,4 +1,3 @@
-pub mod Hexadecimal
 pub mod Frames
 pub mod Printing
 pub mod Sessions

@@ -1,9 +1,14 @@
 -- The line printed for a call: number, row, column, stored count in four bytes, bytes sent.
 use mathlib.Core.List.{List, [], _∷_, _++_}
-use Prim.Native.Nat.{ℕ}
+use Prim.Native.Nat.{ℕ, zero, suc, _/_, _%_}
 use lib.ListN.{take}
 use Rattle.terminal.specs.Answers.{Outcome}
-use Rattle.frames.specs.Hexadecimal.{hexOf, highFirst}
+use Rattle.figures.specs.Hexadecimal.{hexOf}
+
+-- A number in so many bytes, the high byte first.
+unfoldable pub highFirst : ℕ → ℕ → List ℕ
+highFirst zero number = []
+highFirst (suc bytes) number = highFirst bytes (number / 256) ++ (number % 256 ∷ [])
 
 unfoldable pub lineOf : List ℕ → List ℕ
 lineOf bytes = hexOf bytes ++ (0x0A ∷ [])

@@ -1,17 +1,14 @@
 // The frames of the transcript program: a line read, its frame, and what its calls print. What they mean is defined in specs/.
 use state::State;
-use terminal::Answer;
 use terminal::Reply;
 ghost use mathlib.Core.Path.{_≡_};
-ghost use mathlib.Core.Bool.{true};
 ghost use mathlib.Core.List.{List, _++_};
 ghost use Prim.Native.Nat.{ℕ, _+_, _*_, _%_, _<_, _≤_, min};
 ghost use lib.ListN.{length, take, drop, set};
-ghost use Rattle.words.specs.Lists.{every};
 ghost use Rattle.words.specs.Output.{Wrote, placed};
 ghost use Rattle.page.specs.Page.{Page};
-ghost use Rattle.terminal.specs.Answers.{numberOf, given};
-ghost use Rattle.frames.specs.Hexadecimal.{isDigit, valueOf, digitOf, hexOf, pairsOf, isHexadecimal, bytesIn};
+ghost use Rattle.terminal.specs.Answers.{given};
+ghost use Rattle.figures.specs.Hexadecimal.{bytesIn};
 ghost use Rattle.frames.specs.Frames.{frameIn, frameOf, start, host, key};
 ghost use Rattle.frames.specs.Printing.{lineOf, printed, refusal};
 ghost use Rattle.frames.specs.Sessions.{Session, callOf, uncalled};
@@ -47,78 +44,6 @@ fn least(a: usize, b: usize) -> usize
         return a;
     }
     b
-}
-
-fn is_digit(byte: u8) -> bool
-    ensures { λ r. ⌜ r ≡ isDigit byte ⌝ }
-{
-    if byte < 0x30 {
-        return false;
-    }
-    if byte <= 0x39 {
-        return true;
-    }
-    if byte < 0x41 {
-        return false;
-    }
-    if byte <= 0x46 {
-        return true;
-    }
-    false
-}
-
-fn value_of(digit: u8) -> u8
-    requires { ⌜ isDigit digit ≡ true ⌝ }
-    ensures { λ r. ⌜ (r ≡ valueOf digit) × (r ≤ 15) ⌝ }
-{
-    if digit <= 0x39 {
-        return digit - 0x30;
-    }
-    digit - 0x37
-}
-
-fn digit_of(value: u8) -> u8
-    requires { ⌜ value < 16 ⌝ }
-    ensures { λ r. ⌜ r ≡ digitOf value ⌝ }
-{
-    if value < 10 {
-        return 0x30 + value;
-    }
-    0x37 + value
-}
-
-fn is_hexadecimal(line: &[u8]) -> bool
-    ensures { λ r. ⌜ r ≡ isHexadecimal (now (line .entry)) ⌝ }
-{
-    if line.len() % 2 != 0 {
-        return false;
-    }
-    let mut i = 0;
-    while i < line.len() {
-        if !is_digit(line[i]) {
-            return false;
-        }
-        i += 1;
-    }
-    true
-}
-
-// Two digits become a byte, in place: it never stands past the digits still to be read.
-fn decode(line: &mut [u8], digits: usize) -> usize
-    requires { ⌜ digits ≤ length (now line) ⌝ }
-    requires { ⌜ every isDigit (take digits (now line)) ≡ true ⌝ }
-    ensures { λ r. ⌜ Wrote 0 (pairsOf (take digits (now (line .entry)))) (now (line .entry)) r (now (line .exit)) ⌝ }
-{
-    let mut count = 0;
-    let mut i = 0;
-    while i + 1 < digits {
-        let high = value_of(line[i]);
-        let low = value_of(line[i + 1]);
-        line[count] = high * 16 + low;
-        count += 1;
-        i += 2;
-    }
-    count
 }
 
 fn key_number(high: u8, low: u8) -> u16
@@ -164,33 +89,27 @@ pub fn collect(line: &mut [u8], digits: usize, byte: u8) -> usize
     513
 }
 
-// The frame of a finished line, whose bytes are left in the place of their digits.
+// The bytes that a finished line says, left in the place of their digits.
+pub fn bytes(line: &mut [u8], digits: usize) -> usize
+    requires { ⌜ length (now line) ≡ 512 ⌝ }
+    ensures { λ r. ⌜ Wrote 0 (bytesIn (lineIn (now (line .entry)) digits)) (now (line .entry)) r (now (line .exit)) × (r ≤ 256) ⌝ }
+{
+    if 512 < digits {
+        return 0;
+    }
+    if !figures::is_hexadecimal(&line[..digits]) {
+        return 0;
+    }
+    figures::decode(line, digits)
+}
+
+// Its frame.
 pub fn frame(line: &mut [u8], digits: usize) -> Kind
     requires { ⌜ length (now line) ≡ 512 ⌝ }
     ensures { λ r. ⌜ (r ≡ kindOf (frameOf (lineIn (now (line .entry)) digits))) × (now (line .exit) ≡ placed 0 (bytesIn (lineIn (now (line .entry)) digits)) (now (line .entry))) ⌝ }
 {
-    if 512 < digits {
-        return Kind::Other;
-    }
-    if !is_hexadecimal(&line[..digits]) {
-        return Kind::Other;
-    }
-    let count = decode(line, digits);
+    let count = bytes(line, digits);
     kind_of(&line[..count])
-}
-
-fn put_hex(text: &mut [u8], at: usize, bytes: &[u8]) -> usize
-    requires { ⌜ at + 2 * length (now bytes) ≤ length (now text) ⌝ }
-    ensures { λ r. ⌜ Wrote at (hexOf (now (bytes .entry))) (now (text .entry)) r (now (text .exit)) ⌝ }
-{
-    let mut next = at;
-    let mut i = 0;
-    while i < bytes.len() {
-        let high = output::put_byte(text, next, digit_of(bytes[i] / 16));
-        next = output::put_byte(text, high, digit_of(bytes[i] % 16));
-        i += 1;
-    }
-    next
 }
 
 // A line of these bytes.
@@ -198,8 +117,8 @@ fn put_line(text: &mut [u8], head: &[u8], message: &[u8]) -> usize
     requires { ⌜ 2 * length (now head) + 2 * length (now message) < length (now text) ⌝ }
     ensures { λ r. ⌜ Wrote 0 (lineOf (now (head .entry) ++ now (message .entry))) (now (text .entry)) r (now (text .exit)) ⌝ }
 {
-    let middle = put_hex(text, 0, head);
-    let end = put_hex(text, middle, message);
+    let middle = figures::put_hex(text, 0, head);
+    let end = figures::put_hex(text, middle, message);
     output::put_byte(text, end, 0x0A)
 }
 
@@ -207,21 +126,6 @@ fn low_byte(number: usize) -> u8
     ensures { λ r. ⌜ r ≡ number % 256 ⌝ }
 {
     (number % 256) as u8
-}
-
-fn number_of(answer: Answer) -> usize
-    ensures { λ r. ⌜ r ≡ numberOf answer ⌝ }
-{
-    match answer {
-        Answer::Done => 0,
-        Answer::WrongSize => 1,
-        Answer::WrongState => 2,
-        Answer::NoRoom => 3,
-        Answer::UnknownKey => 4,
-        Answer::Locked => 5,
-        Answer::TooLong => 6,
-        Answer::NoCell => 7,
-    }
 }
 
 // The line of a call that was answered so.
@@ -233,7 +137,7 @@ fn print(text: &mut [u8], reply: Reply, out: &[u8]) -> usize
     let stored = reply.stored;
     let sent = reply.sent;
     let head = [
-        low_byte(number_of(answer)),
+        terminal::number_of(answer),
         low_byte(reply.state.cursor.row),
         low_byte(reply.state.cursor.column),
         low_byte(stored / 256 / 256 / 256),
@@ -250,7 +154,7 @@ fn print_refusal(text: &mut [u8]) -> usize
     ensures { λ r. ⌜ Wrote 0 refusal (now (text .entry)) r (now (text .exit)) ⌝ }
 {
     let head = [0xFF];
-    let end = put_hex(text, 0, &head);
+    let end = figures::put_hex(text, 0, &head);
     output::put_byte(text, end, 0x0A)
 }
 
@@ -309,7 +213,7 @@ fn start_call(
     );
     let end = print(text, reply, out);
     let answer = reply.answer;
-    if number_of(answer) != 0 {
+    if terminal::number_of(answer) != 0 {
         return Printed {
             held: Held {
                 going: false,
@@ -374,7 +278,7 @@ fn host_call(
         },
         end,
         from: from + reply.taken,
-        more: number_of(answer) == 3,
+        more: terminal::number_of(answer) == 3,
     }
 }
 

@@ -4,8 +4,9 @@ use Prim.Native.Nat.{_-_}
 use native.Mathlib.Omega.{arith}
 use borrow.Author.Needs.{needs}
 use lib.ListN.{length}
-use Rattle.drawing.specs.Figures.{stopOf}
-use Rattle.drawing.proofs.Walks.{Walked, walk-starts, walk-goes-on, walk-ends, walk-reached, exactly-these}
+use Rattle.drawing.specs.Drawing.{stopOf}
+use Rattle.figures.proofs.Walks.{Walked, walk-starts, walk-goes-on, walk-ends, walk-reached}
+use Rattle.drawing.proofs.Lengths.{exactly-these}
 use Rattle.drawing.proofs.put_each_stop.Statement.{statement}
 use Rattle.drawing.proofs.put_each_stop.Tie as tie
 

@@ -1,16 +1,16 @@
+use mathlib.Core.List.{[], _∷_}
 use Prim.Native.Nat.{_≤_}
 use native.Mathlib.Omega.{arith}
 use borrow.Author.Needs.{needs}
 use lib.ListN.{length}
 use Rattle.words.proofs.Output.{wrote-then}
-use Rattle.frames.specs.Hexadecimal.{hexOf}
+use Rattle.figures.proofs.Digits.{hex-length}
 use Rattle.frames.specs.Printing.{lineOf}
 use Rattle.frames.proofs.print_refusal.Statement.{statement}
 use Rattle.frames.proofs.print_refusal.Tie as tie
 
 put-byte-requires : tie.Need-put-byte-requires
-unfolding hexOf
-put-byte-requires c κs = let start = c .before .before .before .before .before .before .before in omega (arith, c .before .before .before .put-hex .ensures .next-is, start .pre)
+put-byte-requires c κs = let start = c .before .before .before .before .before .before .before in omega (arith, c .before .before .before .put-hex .ensures .next-is, hex-length (0xFF ∷ []), start .pre)
 
 returns : tie.Need-returns
 unfolding lineOf

@@ -4,7 +4,7 @@ use borrow.Author.Needs.{needs}
 use lib.ListN.{length}
 use Rattle.words.proofs.Output.{wrote-then}
 use Rattle.frames.specs.Printing.{lineOf}
-use Rattle.frames.proofs.Digits.{hex-length, hex-append}
+use Rattle.figures.proofs.Digits.{hex-length, hex-append}
 use Rattle.frames.proofs.put_line.Statement.{statement}
 use Rattle.frames.proofs.put_line.Tie as tie
 

@@ -3,9 +3,9 @@ use Prim.Native.Nat.{_-_}
 use native.Mathlib.Omega.{arith}
 use borrow.Author.Needs.{needs}
 use lib.ListN.{length}
-use Rattle.drawing.proofs.Walks.{Walked, walk-starts, walk-goes-on, walk-ends, walk-reached, alone, flat-alone}
-use Rattle.drawing.proofs.put_all.Statement.{statement}
-use Rattle.drawing.proofs.put_all.Tie as tie
+use Rattle.figures.proofs.Walks.{Walked, walk-starts, walk-goes-on, walk-ends, walk-reached, alone, flat-alone}
+use Rattle.figures.proofs.put_all.Statement.{statement}
+use Rattle.figures.proofs.put_all.Tie as tie
 
 abbrev Inv-loop : tie.InvT-loop
 Inv-loop text₀ at bytes next₀ i₀ text next i = Walked alone bytes at text₀ i next text

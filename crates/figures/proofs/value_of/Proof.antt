@@ -1,10 +1,10 @@
 use native.Mathlib.Omega.{arith}
 use borrow.Author.Tests.{le-leb, lt-leb}
 use Rattle.words.proofs.Choosing.{then-case, else-case}
-use Rattle.frames.specs.Hexadecimal.{valueOf}
-use Rattle.frames.proofs.Digits.{is-digit}
-use Rattle.frames.proofs.value_of.Statement.{statement}
-use Rattle.frames.proofs.value_of.Tie as tie
+use Rattle.figures.specs.Hexadecimal.{valueOf}
+use Rattle.figures.proofs.Digits.{is-digit}
+use Rattle.figures.proofs.value_of.Statement.{statement}
+use Rattle.figures.proofs.value_of.Tie as tie
 
 pub value-of-spec : {M : Type 1} → statement M
 unfolding valueOf

@@ -2,9 +2,9 @@ use Prim.Native.Nat.{_<_}
 use native.Mathlib.Omega.{arith}
 use borrow.Author.Tests.{le-leb, lt-leb}
 use Rattle.words.specs.Choice.{_is_to_, _and_, _or_}
-use Rattle.frames.specs.Hexadecimal.{isDigit}
-use Rattle.frames.proofs.is_digit.Statement.{statement}
-use Rattle.frames.proofs.is_digit.Tie as tie
+use Rattle.figures.specs.Hexadecimal.{isDigit}
+use Rattle.figures.proofs.is_digit.Statement.{statement}
+use Rattle.figures.proofs.is_digit.Tie as tie
 
 pub is-digit-spec : {M : Type 1} → statement M
 unfolding isDigit _is_to_ _and_ _or_

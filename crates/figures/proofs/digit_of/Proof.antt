@@ -1,8 +1,8 @@
 use borrow.Author.Needs.{needs}
 use Rattle.words.proofs.Choosing.{tests}
-use Rattle.frames.specs.Hexadecimal.{digitOf}
-use Rattle.frames.proofs.digit_of.Statement.{statement}
-use Rattle.frames.proofs.digit_of.Tie as tie
+use Rattle.figures.specs.Hexadecimal.{digitOf}
+use Rattle.figures.proofs.digit_of.Statement.{statement}
+use Rattle.figures.proofs.digit_of.Tie as tie
 
 pub digit-of-spec : {M : Type 1} → statement M
 unfolding digitOf

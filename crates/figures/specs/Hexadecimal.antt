@@ -1,13 +1,13 @@
 -- Document 01, "Examples", the transcript program: upper-case hexadecimal, two digits a byte, the high one first.
 use mathlib.Core.Bool.{Bool}
-use mathlib.Core.List.{List, [], _∷_, _++_}
-use Prim.Native.Nat.{ℕ, zero, suc, _+_, _-_, _*_, _/_, _%_}
+use mathlib.Core.List.{List, [], _∷_, flatMap}
+use Prim.Native.Nat.{ℕ, _+_, _-_, _*_, _/_, _%_}
 use lib.Dec.{eqb, ltb, leb}
 use lib.ListN.{length}
 use Rattle.words.specs.Choice.{if_then_else_, _and_, _or_, _is_to_}
 use Rattle.words.specs.Lists.{every}
 
--- 0 to 9, and A to F.
+-- 0 to 9, and A to F: 0x37 is ten before A.
 unfoldable pub isDigit : ℕ → Bool
 isDigit digit = digit is 0x30 to 0x39 or digit is 0x41 to 0x46
 
@@ -21,25 +21,23 @@ digitOf value =
     if ltb value 10 then 0x30 + value
     else 0x37 + value
 
-unfoldable pub hexOf : List ℕ → List ℕ
-hexOf [] = []
-hexOf (byte ∷ later) = digitOf (byte / 16) ∷ digitOf (byte % 16) ∷ hexOf later
+-- Bytes as digits.
+abbrev pub hexByte : ℕ → List ℕ
+hexByte byte = digitOf (byte / 16) ∷ digitOf (byte % 16) ∷ []
 
+abbrev pub hexOf : List ℕ → List ℕ
+hexOf bytes = flatMap hexByte bytes
+
+-- Digits as bytes: those that a text says, and none where it is not all whole bytes.
 unfoldable pub pairsOf : List ℕ → List ℕ
 pairsOf [] = []
 pairsOf (digit ∷ []) = []
 pairsOf (high ∷ low ∷ later) = (valueOf high * 16 + valueOf low) ∷ pairsOf later
 
--- The bytes that a line says; none where it is not all whole bytes.
 unfoldable pub isHexadecimal : List ℕ → Bool
-isHexadecimal line = eqb (length line % 2) 0 and every isDigit line
+isHexadecimal text = eqb (length text % 2) 0 and every isDigit text
 
 unfoldable pub bytesIn : List ℕ → List ℕ
-bytesIn line =
-    if isHexadecimal line then pairsOf line
+bytesIn text =
+    if isHexadecimal text then pairsOf text
     else []
-
--- A number in so many bytes, the high byte first.
-unfoldable pub highFirst : ℕ → ℕ → List ℕ
-highFirst zero number = []
-highFirst (suc bytes) number = highFirst bytes (number / 256) ++ (number % 256 ∷ [])

@@ -1,7 +1,7 @@
 -- Laws of the lists that are written element by element, in the loops' own terms.
 use mathlib.Core.Path.{_≡_, refl, sym, ap, _∙_}
 use mathlib.Core.List.{List, [], _∷_, _++_, append-nil, append-assoc, flatMap}
-use Prim.Native.Nat.{ℕ, zero, suc, _+_, _*_, _<_, _≤_}
+use Prim.Native.Nat.{ℕ, _+_, _*_, _<_, _≤_}
 use native.Mathlib.Nat.{zero-mul, suc-mul}
 use native.Mathlib.Numerals.{add-one}
 use native.Mathlib.Omega.{arith}
@@ -9,10 +9,9 @@ use lib.ListN.{length, take, getD, length-append}
 use lib.Seq.{take-suc, take-all, length-take-le}
 use Rattle.words.specs.Output.{Wrote}
 use Rattle.words.proofs.Output.{wrote-none, wrote-then}
-use Rattle.drawing.specs.Drawing.{exactly}
 
 module _ {A : Type 0} (f : A → List ℕ) where
-  flat-append : (a b : List A) → flatMap f (a ++ b) ≡ flatMap f a ++ flatMap f b
+  pub flat-append : (a b : List A) → flatMap f (a ++ b) ≡ flatMap f a ++ flatMap f b
   unfolding flatMap
   flat-append [] b = refl
   flat-append (x ∷ a) b = rw (flat-append a b, append-assoc)
@@ -57,19 +56,3 @@ pub flat-alone : (bytes : List ℕ) → flatMap alone bytes ≡ bytes
 unfolding flatMap
 flat-alone [] = refl
 flat-alone (byte ∷ bytes) = ap (λ (rest : List ℕ). byte ∷ rest) (flat-alone bytes)
-
--- A list of the right length is neither cut nor filled.
-module _ {A : Type 0} where
-  pub exactly-length : (n : ℕ) (filler : A) (list : List A) → length (exactly n filler list) ≡ n
-  unfolding exactly
-  exactly-length zero filler list = refl
-  exactly-length (suc n) filler [] = ap suc (exactly-length n filler [])
-  exactly-length (suc n) filler (x ∷ list) = ap suc (exactly-length n filler list)
-
-  pub exactly-these : {n : ℕ} (filler : A) (list : List A) → length list ≡ n → exactly n filler list ≡ list
-  unfolding exactly
-  exactly-these filler list all = rw (← all) (same list)
-    where
-      same : (list : List A) → exactly (length list) filler list ≡ list
-      same [] = refl
-      same (x ∷ list) = ap (λ (rest : List A). x ∷ rest) (same list)

@@ -7,16 +7,16 @@ use lib.ListN.{length, drop}
 use Rattle.words.specs.Lists.{every}
 use Rattle.words.proofs.Choosing.{first-decides, first-fails}
 use Rattle.words.proofs.Passing.{next-passes, next-fails, all-pass}
-use Rattle.frames.specs.Hexadecimal.{isDigit, isHexadecimal}
-use Rattle.frames.proofs.is_hexadecimal.Statement.{statement}
-use Rattle.frames.proofs.is_hexadecimal.Tie as tie
+use Rattle.figures.specs.Hexadecimal.{isDigit, isHexadecimal}
+use Rattle.figures.proofs.is_hexadecimal.Statement.{statement}
+use Rattle.figures.proofs.is_hexadecimal.Tie as tie
 
--- the test of the line is the test of its digits from i on
+-- the test of the text is the test of its digits from i on
 abbrev Inv-loop : tie.InvT-loop
-Inv-loop line i₀ i = (i ≤ length line) × (isHexadecimal line ≡ every isDigit (drop i line))
+Inv-loop text i₀ i = (i ≤ length text) × (isHexadecimal text ≡ every isDigit (drop i text))
 
 abbrev μ-loop : tie.MeasureT-loop
-μ-loop line i₀ i = length line - i
+μ-loop text i₀ i = length text - i
 
 returns : tie.Need-returns Inv-loop μ-loop
 unfolding isHexadecimal

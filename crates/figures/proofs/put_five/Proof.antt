@@ -3,9 +3,9 @@ use native.Mathlib.Omega.{arith}
 use borrow.Author.Needs.{needs}
 use lib.ListN.{length}
 use Rattle.words.proofs.Output.{wrote-then}
-use Rattle.drawing.proofs.Lines.{five-digits}
-use Rattle.drawing.proofs.put_five.Statement.{statement}
-use Rattle.drawing.proofs.put_five.Tie as tie
+use Rattle.figures.proofs.Digits.{five-digits}
+use Rattle.figures.proofs.put_five.Statement.{statement}
+use Rattle.figures.proofs.put_five.Tie as tie
 
 returns : tie.Need-returns
 returns c =
