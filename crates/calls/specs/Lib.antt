@@ -1,1 +1,1 @@
-pub mod Lending
+pub mod Frames

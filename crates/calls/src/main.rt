@@ -4,9 +4,9 @@ use libc::STDOUT_FILENO;
 use state::State;
 use terminal::Reply;
 ghost use mathlib.Core.Path.{_≡_};
-ghost use Prim.Native.Nat.{_+_, _<_, _≤_, min};
+ghost use Prim.Native.Nat.{_+_, _%_, _<_, _≤_, min};
 ghost use lib.ListN.{length};
-ghost use Rattle.calls.specs.Lending.{Lendable};
+ghost use Rattle.calls.specs.Frames.{twoAt, fourAt, Lendable};
 
 const STDIN: i32 = 0;
 
@@ -34,6 +34,7 @@ struct Held {
     room: usize,
 }
 
+// What is held, and how many bytes of the line being read have come.
 struct Reading {
     held: Held,
     digits: usize,
@@ -48,12 +49,14 @@ fn least(a: usize, b: usize) -> usize
     b
 }
 
-fn low_byte(number: usize) -> u8 {
+fn low_byte(number: usize) -> u8
+    ensures { λ r. ⌜ r ≡ number % 256 ⌝ }
+{
     (number % 256) as u8
 }
 
 fn wide(byte: u8) -> usize
-    ensures { λ r. ⌜ r ≤ 255 ⌝ }
+    ensures { λ r. ⌜ (r ≡ byte) × (r ≤ 255) ⌝ }
 {
     byte as usize
 }
@@ -61,14 +64,14 @@ fn wide(byte: u8) -> usize
 // Two bytes of a frame, and four, the high byte first.
 fn two(frame: &[u8], at: usize) -> usize
     requires { ⌜ at + 2 ≤ length (now frame) ⌝ }
-    ensures { λ r. ⌜ r ≤ 65535 ⌝ }
+    ensures { λ r. ⌜ (r ≡ twoAt (now (frame .entry)) at) × (r ≤ 65535) ⌝ }
 {
     wide(frame[at]) * 256 + wide(frame[at + 1])
 }
 
 fn four(frame: &[u8], at: usize) -> usize
     requires { ⌜ at + 4 ≤ length (now frame) ⌝ }
-    ensures { λ r. ⌜ r ≤ 4294967295 ⌝ }
+    ensures { λ r. ⌜ (r ≡ fourAt (now (frame .entry)) at) × (r ≤ 4294967295) ⌝ }
 {
     two(frame, at) * 65536 + two(frame, at + 2)
 }
@@ -150,7 +153,7 @@ fn print_state(state: State) {
 }
 
 // What a call gave and left. The bytes sent are cut to the output: what is tried here is not relied on.
-fn print_reply(reply: Reply, out: &[u8])
+fn print_call(reply: Reply, out: &[u8], characters: &[u8], marks: &[u8])
     requires { ⌜ length (now out) < 100000 ⌝ }
 {
     let answer = reply.answer;
@@ -163,6 +166,8 @@ fn print_reply(reply: Reply, out: &[u8])
     print_line(&out[..sent]);
     print_changed(count_changed(&out[sent..]));
     print_state(reply.state);
+    print_line(characters);
+    print_line(marks);
 }
 
 fn refuse() {
@@ -188,9 +193,7 @@ fn start_call(
         return state;
     }
     let reply = terminal::start(two(frame, 1), two(frame, 3), characters, marks);
-    print_reply(reply, out);
-    print_line(characters);
-    print_line(marks);
+    print_call(reply, out, characters, marks);
     reply.state
 }
 
@@ -204,9 +207,7 @@ fn host_call(
     requires { ⌜ length (now out) < 100000 ⌝ }
 {
     let reply = terminal::host(state, characters, marks, bytes, out);
-    print_reply(reply, out);
-    print_line(characters);
-    print_line(marks);
+    print_call(reply, out, characters, marks);
     reply.state
 }
 
@@ -224,9 +225,7 @@ fn key_call(
         return state;
     }
     let reply = terminal::key(state, characters, marks, four(frame, 1), out);
-    print_reply(reply, out);
-    print_line(characters);
-    print_line(marks);
+    print_call(reply, out, characters, marks);
     reply.state
 }
 
@@ -282,6 +281,7 @@ fn repeated_call(
     host_call(state, &bytes[..count], characters, marks, out)
 }
 
+// Frames 20 to 23, by their first byte.
 fn do_call(
     state: State,
     frame: &[u8],
@@ -300,6 +300,7 @@ fn do_call(
     }
 }
 
+// A call with as much of the characters, the marks and the output as is lent.
 fn lend_and_call(held: Held, frame: &[u8], characters: &mut [u8], marks: &mut [u8]) -> Held
     requires { ⌜ Lendable held × (0 < length (now frame)) ⌝ }
     requires { ⌜ (length (now characters) ≡ 8192) × (length (now marks) ≡ 8192) ⌝ }
@@ -431,6 +432,7 @@ fn set_part(held: Held, frame: &[u8]) -> Held
     }
 }
 
+// A frame by its first byte.
 fn do_frame(held: Held, frame: &[u8], characters: &mut [u8], marks: &mut [u8]) -> Held
     requires { ⌜ Lendable held ⌝ }
     requires { ⌜ (length (now characters) ≡ 8192) × (length (now marks) ≡ 8192) ⌝ }

@@ -2,7 +2,7 @@ use mathlib.Core.Path.{_≡_}
 use native.Mathlib.Omega.{arith}
 use borrow.Author.Needs.{needs}
 use lib.ListN.{length}
-use Rattle.calls.specs.Lending.{Lendable}
+use Rattle.calls.specs.Frames.{Lendable}
 use Rattle.calls.proofs.read_all.Statement.{statement}
 use Rattle.calls.proofs.read_all.Tie as tie
 

@@ -3,7 +3,7 @@ use Prim.Native.Nat.{_-_}
 use native.Mathlib.Omega.{arith}
 use borrow.Author.Needs.{needs}
 use lib.ListN.{length}
-use Rattle.calls.specs.Lending.{Lendable}
+use Rattle.calls.specs.Frames.{Lendable}
 use Rattle.calls.proofs.take_bytes.Statement.{statement}
 use Rattle.calls.proofs.take_bytes.Tie as tie
 

@@ -2,11 +2,11 @@ use mathlib.Core.Path.{sym}
 use native.Mathlib.Omega.{arith}
 use borrow.Author.Needs.{needs}
 use lib.Seq.{length-take-le}
-use Rattle.calls.proofs.print_reply.Statement.{statement}
-use Rattle.calls.proofs.print_reply.Tie as tie
+use Rattle.calls.proofs.print_call.Statement.{statement}
+use Rattle.calls.proofs.print_call.Tie as tie
 
-pub print-reply-spec : {M : Type 1} → statement M
-print-reply-spec =
+pub print-call-spec : {M : Type 1} → statement M
+print-call-spec =
     tie.close
     (tie.spec
     (λ c κs. search needs)
@@ -21,6 +21,8 @@ print-reply-spec =
     (λ c. search needs)
     (λ c. search needs)
     (λ c. search needs)
+    (λ c κs. search needs)
+    (λ c κs. search needs)
     (λ c κs. search needs)
     (λ c κs. search needs)
     (λ c κs. search needs)
