@@ -132,6 +132,19 @@ fn report(mine: &[u8], theirs: &[u8]) {
     }
 }
 
+impl Comparison<'_> {
+    /// Whether both print the same; if not, what differs, on a short input.
+    fn agrees(&self, input: &[u8]) -> Result<bool, String> {
+        if !self.differs(input)? {
+            return Ok(true);
+        }
+        let short = self.shortest(input)?;
+        println!("short input:\n{}", String::from_utf8_lossy(&short));
+        report(&self.mode.run(&short), &run(self.program, &short)?);
+        Ok(false)
+    }
+}
+
 /// True if all seeds agree.
 pub fn compare(
     mode: Mode,
@@ -142,16 +155,25 @@ pub fn compare(
 ) -> Result<bool, String> {
     let comparison = Comparison { mode, program };
     for seed in from..from + count {
-        let input = generated(mode, seed, frames);
-        if !comparison.differs(&input)? {
-            continue;
+        if !comparison.agrees(&generated(mode, seed, frames))? {
+            println!(
+                "seed {seed} ({}) differs; {} seeds before it agreed",
+                mode.name(),
+                seed - from
+            );
+            return Ok(false);
         }
-        println!("seed {seed} ({}) differs; {} seeds before it agreed", mode.name(), seed - from);
-        let short = comparison.shortest(&input)?;
-        println!("short input:\n{}", String::from_utf8_lossy(&short));
-        report(&mode.run(&short), &run(program, &short)?);
-        return Ok(false);
     }
     println!("{count} seeds agreed ({}, {frames} frames each)", mode.name());
     Ok(true)
+}
+
+/// True if damage of every cell and every part of the state is answered the same.
+pub fn sweep(program: &[String]) -> Result<bool, String> {
+    let input = generate_calls::sweep();
+    let agrees = Comparison { mode: Mode::Calls, program }.agrees(&input)?;
+    if agrees {
+        println!("the sweep agreed ({} frames)", lines(&input).count());
+    }
+    Ok(agrees)
 }

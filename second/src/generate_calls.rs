@@ -5,6 +5,7 @@ use crate::random::Random;
 use crate::streams::{any_size, Stream};
 use crate::terminal::{self, COLUMNS, ROWS};
 use std::collections::VecDeque;
+use std::ops::Range;
 
 struct Generator {
     random: Random,
@@ -39,6 +40,101 @@ pub fn calls(seed: u64, frames: usize) -> Vec<u8> {
         generator.text.pop();
     }
     generator.text
+}
+
+/// Damage everywhere, in order: every cell's character and mark, every part of the state, every kind of half-read record;
+/// on the other sizes the cells and parts that depend on the size.
+pub fn sweep() -> Vec<u8> {
+    let mut sweep = Sweep { text: Vec::new() };
+    sweep.cells(24, 80, 1);
+    sweep.parts(24, 80, 0..FIELDS);
+    sweep.half_read();
+    for (rows, columns) in [(27, 132), (48, 160)] {
+        sweep.cells(rows, columns, 97);
+        sweep.parts(rows, columns, 0..4);
+        sweep.parts(rows, columns, 19 + usize::from(columns)..FIELDS);
+    }
+    sweep.text
+}
+
+struct Sweep {
+    text: Vec<u8>,
+}
+
+impl Sweep {
+    fn emit(&mut self, frame: &[u8]) {
+        put_hex(&mut self.text, frame);
+        self.text.push(b'\n');
+    }
+
+    /// No bytes, or an unknown key: calls that change nothing, and refuse whatever is out of range.
+    fn probe(&mut self, by_key: bool) {
+        let frame = if by_key { long(0x23, 300) } else { vec![0x21] };
+        self.emit(&frame);
+    }
+
+    /// Of so many cells, one: its character and then its mark out of range, and put back. The last cell is tried too.
+    fn cells(&mut self, rows: u16, columns: u16, every: usize) {
+        let (rows, columns) = (usize::from(rows), usize::from(columns));
+        let cells = rows * columns;
+        self.emit(&pair(0x24, cells, cells));
+        self.emit(&pair(0x20, rows, columns));
+        let wrong: Vec<u8> = (0..=255).filter(|&byte| !terminal::good_character(byte)).collect();
+        for (count, place) in (0..cells).step_by(every).chain([cells - 1]).enumerate() {
+            let (character, mark) = (wrong[count % wrong.len()], 0x80 + (count % 0x80) as u8);
+            for (frame, value, fresh) in [(0x26, character, 0x20), (0x27, mark, 0)] {
+                self.emit(&cell(frame, place, value));
+                self.probe((place + usize::from(frame)).is_multiple_of(2));
+                self.emit(&cell(frame, place, fresh));
+            }
+        }
+    }
+
+    /// Each part of a fresh terminal's state at values around its limits, and put back.
+    fn parts(&mut self, rows: u16, columns: u16, numbers: Range<usize>) {
+        let fresh = [rows, columns, 1, 1];
+        for number in numbers {
+            let values = match number {
+                0..=3 => vec![0, 1, rows, rows + 1, columns, columns + 1, 48, 160, 65_535],
+                4 | 8 | 9 | 11 => vec![1, 2, 3, 4, 32, 127, 128, 255],
+                12..=19 => vec![1, 9_999, 10_000, 65_535],
+                _ => vec![1, 65_535],
+            };
+            for value in values {
+                self.emit(&field(number, value));
+                self.probe(false);
+                self.probe(true);
+            }
+            self.emit(&field(number, fresh.get(number).copied().unwrap_or(0)));
+        }
+    }
+
+    /// Half-read records of every kind, with an argument at a place that the count reaches or not.
+    fn half_read(&mut self) {
+        for kind in [0, 1, 2, 3, 4, 255] {
+            for spoilt in [0, 1] {
+                for count in [0, 1, 2, 8, 9] {
+                    self.emit(&field(9, kind));
+                    self.emit(&field(10, spoilt));
+                    self.emit(&field(11, count));
+                    self.arguments();
+                }
+            }
+        }
+        (9..12).for_each(|number| self.emit(&field(number, 0)));
+    }
+
+    /// No argument, then one at a time.
+    fn arguments(&mut self) {
+        self.probe(false);
+        for number in [12, 13, 14, 19] {
+            for value in [1, 9_999, 10_000] {
+                self.emit(&field(number, value));
+                self.probe(true);
+            }
+            self.emit(&field(number, 0));
+        }
+    }
 }
 
 fn pair(first: u8, one: usize, two: usize) -> Vec<u8> {
@@ -403,7 +499,7 @@ impl Generator {
             b"\x1B[1;2",
             b"a\x1B[H\x1BVb\x1BW",
             b"\x00",
-            b"\x1B[9999I",
+            b"\x1B[999I",
         ]);
         if self.costly > 0 && self.random.chance(30) {
             self.costly -= 1;

@@ -21,6 +21,7 @@ const USAGE: &str = "usage: second [--wrong N] COMMAND
   transcript | dump | calls                         standard input to standard output
   generate SEED FRAMES | generate-calls SEED FRAMES
   compare MODE PROGRAM.. -- SEED_FROM SEED_COUNT FRAMES
+  sweep PROGRAM..                                   its `calls`, with damage everywhere in turn
   rooms PROGRAM..                                   its `calls`, at every room up to a message's length
   teeth SEED_FROM SEED_COUNT FRAMES";
 
@@ -62,6 +63,7 @@ fn run(arguments: &[String]) -> Result<bool, String> {
             let program = &arguments[2..arguments.len() - 4];
             compare::compare(mode, program, number(from)?, number(count)?, number(frames)? as usize)
         }
+        ["sweep", _, ..] => compare::sweep(&arguments[1..]),
         ["rooms", _, ..] => rooms::rooms(&arguments[1..]),
         ["teeth", from, count, frames] => {
             Ok(teeth::teeth(number(from)?, number(count)?, number(frames)? as usize))

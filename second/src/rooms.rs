@@ -31,7 +31,12 @@ struct Page {
 
 impl Page {
     /// All cells protected blanks, then fields, then a key typed at the first one.
-    fn new(name: &'static str, rows: usize, columns: usize, fields: &[(usize, usize, usize)]) -> Page {
+    fn new(
+        name: &'static str,
+        rows: usize,
+        columns: usize,
+        fields: &[(usize, usize, usize)],
+    ) -> Page {
         let cells = rows * columns;
         let mut frames = vec![
             format!("24{cells:04X}{cells:04X}"),
@@ -42,7 +47,10 @@ impl Page {
             "211B57".into(),
         ];
         for &(row, column, length) in fields {
-            frames.push(format!("21{}", hex(format!("\x1B[{row};{column}f{}", "x".repeat(length)).as_bytes())));
+            frames.push(format!(
+                "21{}",
+                hex(format!("\x1B[{row};{column}f{}", "x".repeat(length)).as_bytes())
+            ));
         }
         frames.push("2300000106".into());
         frames.push("2300000041".into());
@@ -72,7 +80,8 @@ fn read(output: &str, frames: &[String]) -> Result<Vec<Option<Told>>, String> {
             all.push(None);
             continue;
         }
-        let count = |from: usize| usize::from_str_radix(&head[from..from + 8], 16).map_err(|_| "no count");
+        let count =
+            |from: usize| usize::from_str_radix(&head[from..from + 8], 16).map_err(|_| "no count");
         let (past, state) = next()?.split_once(' ').ok_or("no state")?;
         all.push(Some(Told {
             number: head[..2].into(),
@@ -89,12 +98,12 @@ fn read(output: &str, frames: &[String]) -> Result<Vec<Option<Told>>, String> {
     Ok(all)
 }
 
-/// The answers of some frames after the page was painted, the painted page's first.
-fn tell(program: &[String], page: &Page, frames: &[String]) -> Result<Vec<Told>, String> {
-    let all: Vec<String> = page.frames.iter().chain(frames).cloned().collect();
-    let output = run(program, (all.join("\n") + "\n").as_bytes())?;
-    let told = read(&String::from_utf8_lossy(&output), &all)?;
-    Ok(told[page.frames.len() - 1..].iter().flatten().cloned().collect())
+/// What each group of frames was told, all in one run of the program.
+fn tell(program: &[String], groups: &[Vec<String>]) -> Result<Vec<Vec<Told>>, String> {
+    let frames = groups.concat();
+    let output = run(program, (frames.join("\n") + "\n").as_bytes())?;
+    let mut told = read(&String::from_utf8_lossy(&output), &frames)?.into_iter();
+    Ok(groups.iter().map(|group| told.by_ref().take(group.len()).flatten().collect()).collect())
 }
 
 fn ensure(holds: bool, what: &str) -> Result<(), String> {
@@ -105,7 +114,12 @@ fn ensure(holds: bool, what: &str) -> Result<(), String> {
     }
 }
 
-/// No cell, mark or output byte changed, nothing sent, nothing stored.
+/// The state but its parts 9 to 19, the half-read record.
+fn other_state(told: &Told) -> (&str, &str) {
+    (&told.state[..9 * 4], &told.state[20 * 4..])
+}
+
+/// No cell, mark, output byte or state but the half-read record changed, nothing sent, nothing stored.
 fn nothing(before: &Told, after: &Told) -> bool {
     after.sent == 0
         && after.stored == 0
@@ -113,60 +127,135 @@ fn nothing(before: &Told, after: &Told) -> bool {
         && after.past == "00000"
         && after.characters == before.characters
         && after.marks == before.marks
+        && other_state(after) == other_state(before)
 }
 
-/// A key given 3 changes nothing.
-fn key(program: &[String], page: &Page, number: usize) -> Result<usize, String> {
-    let frame = format!("23{number:08X}");
-    let enough = tell(program, page, &["2500010000".into(), frame.clone()])?;
-    let length = enough[1].sent;
-    let mut frames = Vec::new();
-    for room in 0..=length {
-        frames.extend([format!("25{room:08X}"), frame.clone()]);
-    }
-    let told = tell(program, page, &frames)?;
-    for (room, after) in told[1..].iter().enumerate().take(length) {
-        ensure(after.number == "03" && after.taken == 0, &format!("room {room}: not 3"))?;
-        ensure(nothing(&told[0], after) && after.state == told[0].state, &format!("room {room}: something changed"))?;
-    }
-    ensure(told[length + 1] == enough[1], &format!("room {length}: not as with more room"))?;
-    Ok(length)
+/// A call that sends a message: a key, or a command of the host.
+struct Message {
+    name: &'static str,
+    whole: String,
+    /// Of a command: its bytes but the last, and the last.
+    parts: Option<(String, String)>,
+    /// How many bytes are taken where the room lacks.
+    before_last: usize,
 }
 
-/// A host call given 3 takes the bytes before the command's last; the rest with room enough ends as one call does.
-fn host(program: &[String], page: &Page, bytes: &[u8]) -> Result<usize, String> {
+fn key(name: &'static str, number: usize) -> Message {
+    Message { name, whole: format!("23{number:08X}"), parts: None, before_last: 0 }
+}
+
+fn command(name: &'static str, bytes: &[u8]) -> Message {
+    let host = |bytes: &[u8]| format!("21{}", hex(bytes));
     let before_last = bytes.len() - 1;
-    let whole = format!("21{}", hex(bytes));
-    let rest = format!("21{}", hex(&bytes[before_last..]));
-    let enough = tell(program, page, &["2500010000".into(), whole.clone()])?;
-    let length = enough[1].sent;
-    let half = tell(program, page, &[format!("21{}", hex(&bytes[..before_last]))])?;
-    for room in 0..length {
-        let frames = [format!("25{room:08X}"), whole.clone(), "2500010000".into(), rest.clone()];
-        let told = tell(program, page, &frames)?;
-        ensure(told[1].number == "03" && told[1].taken == before_last, &format!("room {room}: not 3, or taken wrong"))?;
-        ensure(nothing(&told[0], &told[1]), &format!("room {room}: something changed"))?;
-        ensure(told[1].state == half[1].state, &format!("room {room}: the state is not what the bytes before left"))?;
-        let mut ended = told[2].clone();
-        ended.taken += before_last;
-        ensure(ended == enough[1], &format!("room {room}: the rest does not end as one call"))?;
+    let parts = Some((host(&bytes[..before_last]), host(&bytes[before_last..])));
+    Message { name, whole: host(bytes), parts, before_last }
+}
+
+fn messages() -> Vec<Message> {
+    vec![
+        key("key 266", 266),
+        key("key 267", 267),
+        command("ESC S", b"\x1BS"),
+        command("ESC [ 5 n", b"\x1B[5n"),
+        command("ESC [ 6 n", b"\x1B[6n"),
+    ]
+}
+
+fn room(bytes: usize) -> String {
+    format!("25{bytes:08X}")
+}
+
+const ENOUGH: usize = 65_536;
+
+/// The frames that set what a call changed back to what it was.
+fn back(before: &Told, after: &Told) -> Vec<String> {
+    let parts = [
+        ("26", &before.characters, &after.characters, 2),
+        ("27", &before.marks, &after.marks, 2),
+        ("28", &before.state, &after.state, 4),
+    ];
+    let mut frames = Vec::new();
+    for (frame, before, after, digits) in parts {
+        let values = before.as_bytes().chunks(digits).zip(after.as_bytes().chunks(digits));
+        for (place, (old, _)) in values.enumerate().filter(|(_, (old, new))| old != new) {
+            frames.push(format!("{frame}{place:04X}{}", String::from_utf8_lossy(old)));
+        }
     }
-    let exact = tell(program, page, &[format!("25{length:08X}"), whole])?;
-    ensure(exact[1] == enough[1], &format!("room {length}: not as with more room"))?;
+    frames
+}
+
+/// What a message is with room enough, and what the bytes before its last leave.
+struct Known {
+    painted: Told,
+    whole: Told,
+    state_without_last: String,
+}
+
+fn learn(program: &[String], page: &Page, message: &Message) -> Result<Known, String> {
+    let first = message.parts.iter().map(|(first, _)| first.clone()).collect();
+    let groups = [
+        page.frames.clone(),
+        vec![room(ENOUGH), message.whole.clone()],
+        page.frames.clone(),
+        first,
+    ];
+    let told = tell(program, &groups)?;
+    let painted = told[0].last().ok_or("no page")?.clone();
+    let without_last = told[2].iter().chain(&told[3]).last().ok_or("no page")?;
+    Ok(Known { painted, whole: told[1][0].clone(), state_without_last: without_last.state.clone() })
+}
+
+/// Where the room lacks: 3, the bytes before the last are taken, and nothing else changes; what is not taken, with room enough,
+/// then ends as one call does.
+fn lacking(message: &Message, known: &Known, told: &[Told]) -> Result<(), String> {
+    ensure(
+        told[0].number == "03" && told[0].taken == message.before_last,
+        "not 3, or taken wrong",
+    )?;
+    ensure(nothing(&known.painted, &told[0]), "something changed")?;
+    ensure(
+        told[0].state == known.state_without_last,
+        "the state is not what the bytes before left",
+    )?;
+    let Some(rest) = told.get(1) else { return Ok(()) };
+    let mut ended = rest.clone();
+    ended.taken += message.before_last;
+    ensure(ended == known.whole, "the rest does not end as one call")
+}
+
+/// Every room up to the message's length, one after the other on one page, which is put back after each.
+fn every_room(program: &[String], page: &Page, message: &Message) -> Result<usize, String> {
+    let known = learn(program, page, message)?;
+    let length = known.whole.sent;
+    let back = back(&known.painted, &known.whole);
+    let mut groups = vec![page.frames.clone()];
+    for bytes in 0..=length {
+        let mut frames = vec![room(bytes), message.whole.clone()];
+        if let Some((_, rest)) = message.parts.as_ref().filter(|_| bytes < length) {
+            frames.extend([room(ENOUGH), rest.clone()]);
+        }
+        if bytes == length || message.parts.is_some() {
+            frames.extend(back.clone());
+        }
+        groups.push(frames);
+    }
+    let told = tell(program, &groups)?;
+    for (bytes, told) in told[1..=length].iter().enumerate() {
+        lacking(message, &known, told).map_err(|error| format!("room {bytes}: {error}"))?;
+    }
+    ensure(told[length + 1] == [known.whole], &format!("room {length}: not as with more room"))?;
     Ok(length)
 }
 
 /// True if every room is answered as document 01 says.
 pub fn rooms(program: &[String]) -> Result<bool, String> {
     for page in pages() {
-        let told = |what: &str, error| format!("{} ({} by {}), {what}: {error}", page.name, page.rows, page.columns);
-        for number in [266, 267] {
-            let length = key(program, &page, number).map_err(|error| told(&format!("key {number}"), error))?;
-            println!("{}: key {number}: rooms 0 to {length}", page.name);
-        }
-        for (name, bytes) in [("ESC S", &b"\x1BS"[..]), ("ESC [ 5 n", b"\x1B[5n"), ("ESC [ 6 n", b"\x1B[6n")] {
-            let length = host(program, &page, bytes).map_err(|error| told(name, error))?;
-            println!("{}: {name}: rooms 0 to {length}", page.name);
+        for message in messages() {
+            let place =
+                format!("{} ({} by {}), {}", page.name, page.rows, page.columns, message.name);
+            let length = every_room(program, &page, &message)
+                .map_err(|error| format!("{place}: {error}"))?;
+            println!("{place}: rooms 0 to {length}");
         }
     }
     Ok(true)

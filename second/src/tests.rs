@@ -1,7 +1,9 @@
 //! Document 01's examples.
 
-use crate::frames::Mode;
+use crate::frames::{lines, Mode};
+use crate::generate_calls::sweep;
 use crate::terminal::{host, key, start, Answer, State, MODIFIED, PROTECTED};
+use std::collections::BTreeSet;
 
 /// A page of the size asked for, fresh, with its output.
 struct Page {
@@ -201,4 +203,25 @@ fn calls_frames() {
     let zeros = "0".repeat(720);
     let call = format!("01{}\n00000 {zeros}\n000000\n0000\n", "0".repeat(24));
     assert_eq!(String::from_utf8_lossy(&output), format!("00\n{call}{call}"));
+}
+
+/// 1,920 cells in turn, then 62 past them: each one's character and mark.
+#[test]
+fn sweep_refuses_damaged_cells() {
+    let input = sweep();
+    let output = Mode::Calls.run(&input);
+    let mut told = lines(&output);
+    let (mut before, mut cells) = (&b""[..], BTreeSet::new());
+    for frame in lines(&input) {
+        let number = told.next().map(|line| &line[..2]);
+        if matches!(&frame[..2], b"20" | b"21" | b"23") {
+            assert!(told.nth(2).is_some());
+            if matches!(&before[..2], b"26" | b"27") {
+                assert_eq!(number, Some(&b"02"[..]));
+                cells.insert(&before[..6]);
+            }
+        }
+        before = frame;
+    }
+    assert_eq!((cells.len(), told.next()), (2 * 1_982, None));
 }
