@@ -1,40 +1,40 @@
 #!/usr/bin/env bash
-# Writes docs/FIGURES.md: sizes, and what each crate's check takes from nothing. Run it on a machine that does nothing else.
+# Writes docs/FIGURES.md: sizes, and what each crate's check takes from nothing. GATE is the gate's time, as .ci/run told it.
+# Run it on a machine that does nothing else; it removes target/ first.
 set -eu
 cd "$(dirname "$0")/.."
 command -v /usr/bin/time >/dev/null || apt-get install -y -qq time >/dev/null
-count() { [ $# -eq 0 ] && echo 0 || cat "$@" | wc -l; }
-files() { find "$@" -type f 2>/dev/null || true; }
+lines() { find "$@" -type f -exec cat {} + 2>/dev/null | wc -l; }
+told() { sed -n "s/.* $2=\([0-9]*\).*/\1/p" <<<"$1"; }
 rm -rf target
 rows=$(mktemp)
 trap 'rm -f "$rows"' EXIT
-total=(0 0 0 0 0 0 0)
 for crate in $(grep -v '^#' crates.txt | cut -d: -f1); do
     here=crates/$crate
-    # shellcheck disable=SC2046
-    code=$(count $(files $here/src -name '*.rt'))
-    # shellcheck disable=SC2046
-    definitions=$(count $(files $here/specs -name '*.antt'))
-    # shellcheck disable=SC2046
-    laws=$(count $(files $here/proofs -maxdepth 1 -name '*.antt'))
-    # shellcheck disable=SC2046
-    proofs=$(count $(files $here/proofs -mindepth 2 -name '*.antt'))
-    edits=$(files $here/must-fail -name '*.edit' | wc -l)
     measured=$(/usr/bin/time -f '%e %M' rt check "$crate" 2>&1 >/dev/null | tail -n 1)
-    last=$(grep -h '^logic=' "target/log/$crate.out" | tail -n 1)
-    functions=$(sed -n 's/.*functions=\([0-9]*\).*/\1/p' <<<"$last")
-    axioms=$(sed -n 's/.*axioms=\([0-9]*\).*/\1/p' <<<"$last")
-    printf '| %s | %s | %s | %s | %s | %s | %s | %s | %.0f | %.1f |\n' "$crate" "$code" "$definitions" "$laws" "$proofs" "$functions" "${axioms:-0}" "$edits" "${measured% *}" "$(bc <<<"scale=2; ${measured#* } / 1048576")" >>"$rows"
-    i=0
-    for n in "$code" "$definitions" "$laws" "$proofs" "$functions" "${axioms:-0}" "$edits"; do
-        total[i]=$((total[i] + n))
-        i=$((i + 1))
-    done
+    last=$(grep '^logic=proved' "target/log/$crate.out")
+    functions=$(told "$last" functions)
+    axioms=$(told "$last" axioms)
+    printf '%s %s %s %s %s %s %s %s %s\n' "$crate" \
+        "$(lines $here/src -name '*.rt')" \
+        "$(lines $here/specs -name '*.antt')" \
+        "$(lines $here/proofs -maxdepth 1 -name '*.antt')" \
+        "$(lines $here/proofs -mindepth 2 -name '*.antt')" \
+        "${functions:-0}" "${axioms:-0}" \
+        "$(find $here/must-fail -name '*.edit' 2>/dev/null | wc -l)" "$measured" >>"$rows"
 done
 {
-    printf '# Figures\n\nMade by `docs/figures.sh`. Lines count comments and blanks. Code is with its contracts; laws and theorems are the files of `proofs/`, function proofs those of its folders. Seconds and gigabytes are of one check from nothing with the crates below it proved (%s, %s processors).\n\n' "$(uname -m)" "$(nproc)"
-    printf '| crate | code | definitions | laws and theorems | function proofs | functions proved | axioms | must-fail edits | seconds | GB |\n|---|---|---|---|---|---|---|---|---|---|\n'
-    cat "$rows"
-    printf '| all | %s | %s | %s | %s | %s | %s | %s | | |\n' "${total[@]}"
-    printf '\nThe second program: %s lines of Rust. The gate (`.ci/run`) in a fresh clone: %s.\n' "$(cat second/src/*.rs | wc -l)" "${GATE:-its last line but one tells}"
+    cat <<TEXT
+# Figures
+
+Made by \`docs/figures.sh\` ($(uname -m), $(nproc) processors, kit $(rt version | head -n 1)). Lines count comments and blanks. Code is counted with its contracts; laws and theorems are the files of \`proofs/\`, function proofs those of its folders. Functions and axioms are what the crate's last line counts. Seconds and gigabytes are those of one check from nothing, over the crates below it, with nothing else running.
+
+| crate | code | definitions | laws and theorems | function proofs | functions proved | axioms | must-fail edits | seconds | GB |
+|---|---|---|---|---|---|---|---|---|---|
+TEXT
+    awk '{ printf "| %s | %d | %d | %d | %d | %d | %d | %d | %.0f | %.1f |\n", $1, $2, $3, $4, $5, $6, $7, $8, $9, $10 / 1048576
+           for (i = 2; i <= 9; i++) sum[i] += $i
+           if ($10 > most) most = $10 }
+         END { printf "| all | %d | %d | %d | %d | %d | %d | %d | %.0f | %.1f at most |\n", sum[2], sum[3], sum[4], sum[5], sum[6], sum[7], sum[8], sum[9], most / 1048576 }' "$rows"
+    printf '\nThe second program has %s lines of Rust. The gate (`.ci/run`) in a fresh clone takes %s.\n' "$(lines second/src -name '*.rs')" "${GATE:-what its last line but one tells}"
 } >docs/FIGURES.md

@@ -104,8 +104,15 @@ impl Generator {
     }
 
     fn refused_start(&mut self) {
-        let rows = self.random.pick(&[0, 1, 23, 25, 26, 28, 47, 49, 80, 24, 27, 48, 255]);
-        let columns = self.random.pick(&[0, 1, 79, 81, 131, 133, 159, 161, 24, 255]);
+        // one of the two is not listed, or neither is
+        let (any_rows, any_columns) = any_size(&mut self.random);
+        let wrong_rows = self.random.pick(&[0, 1, 23, 25, 26, 28, 47, 49, 80, 255]);
+        let wrong_columns = self.random.pick(&[0, 1, 79, 81, 131, 133, 159, 161, 24, 255]);
+        let (rows, columns) = match self.random.between(0, 2) {
+            0 => (wrong_rows, any_columns as u8),
+            1 => (any_rows as u8, wrong_columns),
+            _ => (wrong_rows, wrong_columns),
+        };
         self.emit(&[0x00, rows, columns]);
     }
 

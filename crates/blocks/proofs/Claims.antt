@@ -3,20 +3,16 @@ use mathlib.Core.Path.{_≡_}
 use mathlib.Core.Bool.{Bool, true, false}
 use mathlib.Core.List.{List}
 use Prim.Native.Nat.{ℕ, _*_, _%_, _<_, _≤_}
-use lib.Dec.{ltb, eqb}
+use lib.Dec.{eqb}
 use lib.ListN.{length, getD, replicate}
-use Rattle.words.specs.Choice.{if_then_else_, _and_, _or_}
+use Rattle.words.specs.Choice.{if_then_else_, _or_}
 use Rattle.words.specs.Lists.{every, each}
 use Rattle.page.specs.Marks.{isModified, validCharacter, unprotected}
 use Rattle.page.specs.Page.{Page}
 use Rattle.page.proofs.Keeping.{SameSize}
 use Rattle.places.specs.Places.{placeOf}
 use Rattle.fields.specs.Fields.{Field, fieldsOf}
-use Rattle.blocks.specs.Blocks.{Entry, entriesSent}
-
--- An entry that a page can send: a row and a column below 1,000, and characters 20 to 7E.
-unfoldable pub validEntry : Entry → Bool
-validEntry entry = ltb (entry .row) 1000 and ltb (entry .column) 1000 and every validCharacter (entry .characters)
+use Rattle.blocks.specs.Blocks.{entriesSent}
 
 -- A page of no more than 48 rows of no more than 160 columns, with characters 20 to 7E.
 pub record Sendable (columns : ℕ) (page : Page) : Type 0 where

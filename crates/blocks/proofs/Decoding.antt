@@ -13,8 +13,7 @@ use Rattle.words.proofs.Passing.{every-append}
 use Rattle.page.specs.Marks.{validCharacter}
 use Rattle.output.specs.Decimal.{decimal, placeBytes}
 use Rattle.blocks.specs.Blocks.{Entry, entryBytes, encode}
-use Rattle.blocks.specs.Decode.{inFront, cut, readNumber, readEntry, decode}
-use Rattle.blocks.proofs.Claims.{validEntry}
+use Rattle.blocks.specs.Decode.{inFront, split, readNumber, readEntry, decode, validEntry}
 
 -- What holds of a number's one, two or three digits.
 pub digits : (P : List ℕ → Type 0) (number : ℕ)
@@ -62,8 +61,8 @@ plain-run entry h =
     every-append plain (decimal (entry .row)) _ (plain-decimal (entry .row))
     (every-append plain (decimal (entry .column)) (0x66 ∷ entry .characters) (plain-decimal (entry .column)) (plain-characters (entry .characters) h))
 
-cut-plain : (run bytes : List ℕ) → every plain run ≡ true → cut (run ++ bytes) ≡ record { before = run ++ cut bytes .before; runs = cut bytes .runs }
-unfolding cut inFront every
+cut-plain : (run bytes : List ℕ) → every plain run ≡ true → split (run ++ bytes) ≡ record { before = run ++ split bytes .before; runs = split bytes .runs }
+unfolding split inFront every
 cut-plain [] bytes p = refl
 cut-plain (byte ∷ run) bytes p =
     let q = both p in
@@ -119,8 +118,8 @@ valid entry h =
     record { row = ltb-true (entry .row) 1000 (p .0); column = ltb-true (entry .column) 1000 (q .0); characters = q .1 }
 
 -- The runs of a block are those of its entries.
-cut-encode : (entries : List Entry) → every validEntry entries ≡ true → cut (encode entries) ≡ record { before = []; runs = map runOf entries }
-unfolding encode cut every inFront if_then_else_
+cut-encode : (entries : List Entry) → every validEntry entries ≡ true → split (encode entries) ≡ record { before = []; runs = map runOf entries }
+unfolding encode split every inFront if_then_else_
 cut-encode [] h = refl
 cut-encode (entry ∷ later) h =
     let p = both h in

@@ -6,7 +6,7 @@ use mathlib.Core.Logic.{⊎-elim, inl, inr}
 use Prim.Native.Nat.{ℕ, zero, suc, _+_, _-_, _<_, _≤_}
 use native.Mathlib.Omega.{arith}
 use Rattle.words.specs.Choice.{if_then_else_}
-use Rattle.words.specs.Lists.{placesFrom}
+use Rattle.words.specs.Lists.{numbersFrom}
 use Rattle.words.proofs.Choosing.{not-both, then-case, else-case, either-line, either-way, less-or-not}
 use Rattle.places.specs.Places.{placeOf}
 use Rattle.fields.specs.Fields.{joined, startsField, fieldEnd, Field, fieldsFrom, fieldsOf}
@@ -40,7 +40,7 @@ pub record Listed (free : ℕ → Bool) (columns cells : ℕ) (field : Field) : 
 
 -- The cells of a field.
 unfoldable pub cellsOf : Field → List ℕ
-cellsOf field = placesFrom (λ _. true) (field .start) (field .length)
+cellsOf field = numbersFrom (λ _. true) (field .start) (field .length)
 
 module _ (free : ℕ → Bool) (columns cells : ℕ) where
   listed-from : (n cell : ℕ) (field : Field) → cell + n ≤ cells → List·Memᴰ field (fieldsFrom free columns cells n cell) → Listed free columns cells field
@@ -79,39 +79,39 @@ module _ (free : ℕ → Bool) (columns cells : ℕ) where
 
   -- The unprotected cells after a cell: the rest of the field that has it, and then those of the fields that start after it.
   rest : ℕ → ℕ → List ℕ
-  rest n cell = placesFrom (λ _. true) (cell + 1) (fieldEnd free columns cells cell - (cell + 1)) ++ flatMap cellsOf (fieldsFrom free columns cells n (cell + 1))
+  rest n cell = numbersFrom (λ _. true) (cell + 1) (fieldEnd free columns cells cell - (cell + 1)) ++ flatMap cellsOf (fieldsFrom free columns cells n (cell + 1))
 
   rest-ended : (n cell : ℕ) → fieldEnd free columns cells cell ≡ cell + 1 → rest n cell ≡ flatMap cellsOf (fieldsFrom free columns cells n (cell + 1))
-  unfolding rest placesFrom
+  unfolding rest numbersFrom
   rest-ended n cell e = let none : cell + 1 - (cell + 1) ≡ 0 = omega arith in rw (e, none)
 
   -- The same from a cell on, where it is known of the cells after it.
-  module _ (n cell : ℕ) (here : cell < cells) (after : placesFrom free (cell + 1) n ≡ rest n cell) where
-    from-free : cell ∷ placesFrom free (cell + 1) n ≡ placesFrom (λ _. true) cell (fieldEnd free columns cells cell - cell) ++ flatMap cellsOf (fieldsFrom free columns cells n (cell + 1))
-    unfolding placesFrom if_then_else_ rest
+  module _ (n cell : ℕ) (here : cell < cells) (after : numbersFrom free (cell + 1) n ≡ rest n cell) where
+    from-free : cell ∷ numbersFrom free (cell + 1) n ≡ numbersFrom (λ _. true) cell (fieldEnd free columns cells cell - cell) ++ flatMap cellsOf (fieldsFrom free columns cells n (cell + 1))
+    unfolding numbersFrom if_then_else_ rest
     from-free =
         let end = fieldEnd free columns cells cell in
         let more : end - cell ≡ suc (end - (cell + 1)) = omega (arith, end-of free columns cells cell here .high) in
         rw (after, more)
 
-    from-protected : free cell ≡ false → placesFrom free (cell + 1) n ≡ flatMap cellsOf (fieldsFrom free columns cells n (cell + 1))
+    from-protected : free cell ≡ false → numbersFrom free (cell + 1) n ≡ flatMap cellsOf (fieldsFrom free columns cells n (cell + 1))
     from-protected f = after ∙ rest-ended n cell (end-of-protected cell f)
 
     from-joined : joined free (placeOf columns cell) ≡ true
-        → placesFrom free cell (suc n) ≡ placesFrom (λ _. true) cell (fieldEnd free columns cells cell - cell) ++ flatMap cellsOf (fieldsFrom free columns cells (suc n) cell)
-    unfolding placesFrom fieldsFrom
+        → numbersFrom free cell (suc n) ≡ numbersFrom (λ _. true) cell (fieldEnd free columns cells cell - cell) ++ flatMap cellsOf (fieldsFrom free columns cells (suc n) cell)
+    unfolding numbersFrom fieldsFrom
     from-joined j =
         rw (then-case _ _ _ (joined-cell-free free columns cell j), else-case _ _ _ (joined-starts-not free columns cell j)) from-free
 
-    from-not-joined : joined free (placeOf columns cell) ≡ false → placesFrom free cell (suc n) ≡ flatMap cellsOf (fieldsFrom free columns cells (suc n) cell)
-    unfolding placesFrom fieldsFrom flatMap cellsOf
+    from-not-joined : joined free (placeOf columns cell) ≡ false → numbersFrom free cell (suc n) ≡ flatMap cellsOf (fieldsFrom free columns cells (suc n) cell)
+    unfolding numbersFrom fieldsFrom flatMap cellsOf
     from-not-joined j =
         either-way (free cell)
         (λ f. rw (then-case _ _ _ f, then-case _ _ _ (is-start free columns cell f j)) from-free)
         (λ f. rw (else-case _ _ _ f, else-case _ _ _ (protected-starts-not free columns cell f)) (from-protected f))
 
-  free-after : (n cell : ℕ) → cell + 1 + n ≡ cells → placesFrom free (cell + 1) n ≡ rest n cell
-  unfolding rest placesFrom fieldsFrom flatMap
+  free-after : (n cell : ℕ) → cell + 1 + n ≡ cells → numbersFrom free (cell + 1) n ≡ rest n cell
+  unfolding rest numbersFrom fieldsFrom flatMap
   free-after zero cell h = sym (rest-ended zero cell (end-at-last free columns cells cell (omega arith)))
   free-after (suc n) cell h =
       let next : cell + 1 < cells = omega arith in
@@ -120,12 +120,12 @@ module _ (free : ℕ → Bool) (columns cells : ℕ) where
       (λ j. rw (end-on free columns cells cell next j) (from-joined n (cell + 1) next after j))
       (λ j. from-not-joined n (cell + 1) next after j ∙ sym (rest-ended (suc n) cell (end-stops free columns cells cell next j)))
 
-  free-from-first : (n : ℕ) → n ≡ cells → placesFrom free 0 n ≡ flatMap cellsOf (fieldsFrom free columns cells n 0)
-  unfolding placesFrom fieldsFrom flatMap
+  free-from-first : (n : ℕ) → n ≡ cells → numbersFrom free 0 n ≡ flatMap cellsOf (fieldsFrom free columns cells n 0)
+  unfolding numbersFrom fieldsFrom flatMap
   free-from-first zero h = refl
   free-from-first (suc n) h = from-not-joined n 0 (omega arith) (free-after n 0 (omega arith)) (are-apart free (placeOf columns 0) (inl (first-opens columns)))
 
   -- The unprotected cells of the page are those of its fields, in order.
-  pub free-cells : placesFrom free 0 cells ≡ flatMap cellsOf (fieldsOf free columns cells)
+  pub free-cells : numbersFrom free 0 cells ≡ flatMap cellsOf (fieldsOf free columns cells)
   unfolding fieldsOf
   free-cells = free-from-first cells refl

@@ -16,8 +16,8 @@ use Rattle.page.specs.Page.{Page}
 use Rattle.places.specs.Places.{placeOf}
 use Rattle.fields.specs.Fields.{Field}
 use Rattle.blocks.specs.Blocks.{encode, entryOf, someModified, isSent, entriesSent, block}
-use Rattle.blocks.specs.Decode.{decode}
-use Rattle.blocks.proofs.Claims.{validEntry, Sendable, fieldsOn, NothingModified}
+use Rattle.blocks.specs.Decode.{decode, validEntry}
+use Rattle.blocks.proofs.Claims.{Sendable, fieldsOn, NothingModified}
 use Rattle.blocks.proofs.Decoding.{decode-encode}
 use Rattle.blocks.proofs.Listing.{Listed, listed, field-bounds, field-free}
 

@@ -7,7 +7,7 @@ use native.Mathlib.Nat.{div-add-mod'}
 use native.Mathlib.Omega.{arith}
 use lib.ListN.{length, take, drop, getD, length-take, length-drop}
 use Rattle.words.specs.Choice.{if_then_else_}
-use Rattle.words.specs.Lists.{placesFrom}
+use Rattle.words.specs.Lists.{numbersFrom}
 use Rattle.words.proofs.Choosing.{either-way}
 use Rattle.words.proofs.Walking.{next-element}
 use Rattle.words.proofs.Elements.{map-same, map-tells, place-passes, place-listed}
@@ -28,11 +28,11 @@ fieldTold columns entry = record { start = cellAt columns (entry .row) (entry .c
 
 -- The unprotected cells of a page, in order.
 abbrev freeOn : Page → List ℕ
-freeOn page = placesFrom (unprotected (page .marks)) 0 (length (page .marks))
+freeOn page = numbersFrom (unprotected (page .marks)) 0 (length (page .marks))
 
 -- A part of a list, by its places.
-part-is : (list : List ℕ) (n i : ℕ) → i + n ≤ length list → take n (drop i list) ≡ map (λ k. getD list k 0) (placesFrom (λ _. true) i n)
-unfolding placesFrom if_then_else_
+part-is : (list : List ℕ) (n i : ℕ) → i + n ≤ length list → take n (drop i list) ≡ map (λ k. getD list k 0) (numbersFrom (λ _. true) i n)
+unfolding numbersFrom if_then_else_
 part-is list zero i h = refl
 part-is list (suc n) i h = let here : i < length list = omega arith in rw (next-element list i 0 here, part-is list n (i + 1) (omega arith))
 
@@ -68,10 +68,10 @@ module _ (columns : ℕ) (page : Page) (whole : Whole page) where
       (characters-told columns (page .characters) (fieldsOn columns page) (λ field m. omega (arith, field-bounds _ _ _ field (listed _ _ _ field m))))
 
 -- Two tests that list the same places agree on these.
-passes-too : (a b : ℕ → Bool) (n m k : ℕ) → placesFrom a 0 n ≡ placesFrom b 0 m → k < n → a k ≡ true → b k ≡ true
+passes-too : (a b : ℕ → Bool) (n m k : ℕ) → numbersFrom a 0 n ≡ numbersFrom b 0 m → k < n → a k ≡ true → b k ≡ true
 passes-too a b n m k e h t = place-passes b k 0 m (subst (List·Memᴰ k) e (place-listed a k 0 n (omega arith) (omega arith) t))
 
-same-places : (a b : ℕ → Bool) (n m k : ℕ) → placesFrom a 0 n ≡ placesFrom b 0 m → k < n → k < m → a k ≡ b k
+same-places : (a b : ℕ → Bool) (n m k : ℕ) → numbersFrom a 0 n ≡ numbersFrom b 0 m → k < n → k < m → a k ≡ b k
 same-places a b n m k e h l =
     either-way (a k) (λ t. t ∙ sym (passes-too a b n m k e h t)) (λ f. either-way (b k) (λ t. passes-too b a m n k (sym e) l t ∙ sym t) (λ g. f ∙ sym g))
 

@@ -6,7 +6,7 @@ use Prim.Native.Nat.{ℕ, zero, suc, _+_, _<_, _≤_}
 use native.Mathlib.Omega.{arith}
 use lib.ListN.{length, length-append, length-take, length-drop}
 use Rattle.words.specs.Choice.{if_then_else_}
-use Rattle.words.specs.Lists.{placesFrom, selected}
+use Rattle.words.specs.Lists.{numbersFrom, selected}
 use Rattle.words.proofs.Elements.{run-length}
 use Rattle.words.proofs.Choosing.{either-line, either-way}
 use Rattle.page.specs.Marks.{unprotected}
@@ -70,7 +70,7 @@ encode-length columns characters (field ∷ fields) h =
       length-append (entryBytes (entryOf columns characters field)) (encode (map (entryOf columns characters) fields)),
       entry-length columns characters field (h field (List·Memᴰ·head refl)),
       encode-length columns characters fields (λ f m. h f (List·Memᴰ·tail m)),
-      length-append (placesFrom (λ _. true) (field .start) (field .length)) (flatMap cellsOf fields),
+      length-append (numbersFrom (λ _. true) (field .start) (field .length)) (flatMap cellsOf fields),
       run-length (field .start) (field .length),
     )
 
@@ -81,8 +81,8 @@ openings-total free columns cells (suc n) cell =
     let later = openings-total free columns cells n (cell + 1) in
     either-way (startsField free (placeOf columns cell)) (λ s. rw s (omega arith)) (λ s. rw s (omega arith))
 
-places-total : (free : ℕ → Bool) (n i : ℕ) → length (placesFrom free i n) ≡ total (λ k. if free k then 1 else 0) i n
-unfolding placesFrom total if_then_else_
+places-total : (free : ℕ → Bool) (n i : ℕ) → length (numbersFrom free i n) ≡ total (λ k. if free k then 1 else 0) i n
+unfolding numbersFrom total if_then_else_
 places-total free zero i = refl
 places-total free (suc n) i =
     let later = places-total free n (i + 1) in

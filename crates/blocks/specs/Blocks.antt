@@ -60,7 +60,7 @@ entriesSent full columns page =
 unfoldable pub block : Bool → ℕ → Page → List ℕ
 block full columns page = encode (entriesSent full columns page)
 
--- What the block has for a cell: the entry of the field that starts there, if it is sent.
+-- What the block has for a cell: the entry of the field that starts there, if it is sent. (The code goes by this; no rule does.)
 unfoldable pub bytesAt : Bool → ℕ → Page → ℕ → List ℕ
 bytesAt full columns page cell =
     let field = fieldFrom (unprotected (page .marks)) columns (length (page .marks)) cell in
@@ -69,12 +69,12 @@ bytesAt full columns page cell =
     else []
 
 -- Sending a block into the room left from a place of the output on. Where there is too little, nothing happens.
-pub record Sending : Type 0 where
+pub record BlockSent : Type 0 where
   pub answer : Sent
   pub marks : List ℕ
   pub output : List ℕ
 
-unfoldable pub sending : Bool → ℕ → Page → ℕ → List ℕ → Sending
+unfoldable pub sending : Bool → ℕ → Page → ℕ → List ℕ → BlockSent
 sending full columns page at output =
     if leb (length (block full columns page)) (length output - at) then
     record {

@@ -12,6 +12,7 @@ unfoldable pub samePlace : Entry → Entry → Bool
 samePlace a b = eqb (a .row) (b .row) and eqb (a .column) (b .column)
 
 -- A field of the copy, with the characters that the block has for its row and column, however many; else as it is.
+-- Of two entries for one place the first counts; no page sends two (`InOrder`, fields/proofs/Claims.antt).
 unfoldable pub laidOn : List Entry → Entry → Entry
 laidOn [] field = field
 laidOn (sent ∷ later) field =

@@ -54,7 +54,7 @@ fn is_sent(marks: &[u8], full: bool, from: usize, to: usize) -> bool
     has_modified(marks, from, to)
 }
 
-// How many bytes the block has for a cell.
+// How many bytes the block has for a cell: no more than a page's 7,680 cells and the 10 bytes of a place, so that the sum fits.
 fn length_at(marks: &[u8], place: Place, columns: usize, full: bool) -> usize
     requires { ⌜ Counted columns place ⌝ }
     requires { ⌜ (place .cell < length (now marks)) × (length (now marks) ≤ 7680) ⌝ }

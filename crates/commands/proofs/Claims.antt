@@ -13,6 +13,7 @@ abbrev pub EndsEscS : HalfRead → ℕ → Type 0
 EndsEscS half byte = (half .kind ≡ 1) × (byte ≡ 0x53)
 
 -- The cells that a step may store: none; one, for text; those that it erases; all R x C, for a scroll and ESC c.
+-- One of these four, for some bounds; which, and for which bounds, the definitions of the steps say.
 pub data Stores (t : Terminal) : List ℕ → Type 0 where
   no-cell : Stores t []
   text-cell : Stores t (cursorCell (t .state) ∷ [])

@@ -5,7 +5,7 @@ use mathlib.Core.Bool.{Bool, true, false}
 use Prim.Native.Nat.{ℕ, _+_}
 use lib.ListN.{length, replicate}
 use Rattle.words.specs.Choice.{if_then_else_, _and_, _or_, _is_to_}
-use Rattle.words.specs.Lists.{within, every, eachFrom, placesFrom}
+use Rattle.words.specs.Lists.{within, every, eachFrom, numbersFrom}
 use Rattle.sequence.specs.Record.{withDigit, withNextArgument}
 use Rattle.sequence.specs.Reading.{isControl, isCancel, outsideSequence, afterEsc, afterIntermediate, afterBracket, insideSequence, advanceOf}
 use Rattle.page.specs.Marks.{unprotected}
@@ -16,7 +16,7 @@ use Rattle.state.specs.Moves.{backBy, onBy, upBy, downBy, rightBy, leftBy, toMa
 use Rattle.state.specs.Tabs.{stopSet, stopCleared, stopsCleared, stopRight, stopLeft, stopsOn, stopsBack, tabbedOn, tabbedBack}
 use Rattle.steps.specs.Steps.{Terminal, bytesOf}
 use Rattle.steps.specs.Table.{allowed, valueOf}
-use Rattle.steps.specs.Commands.{toNextCell, textStep, lineDown, lineUp, nextLine, controlStep, freshStep, escStep, toColumn, toRow, toPlace, keptColumn, tabControl, erasing, erasePart, isVisual, drawn, drawnAll, rendition, setMode, readyReport, cursorReport, statusReport, listedStep, bracketStep}
+use Rattle.steps.specs.Commands.{toNextCell, textStep, lineDown, lineUp, nextLine, controlStep, freshStep, escStep, toColumn, toRow, toPlace, keptColumn, tabControl, erasing, erasePart, isVisual, penAfter, penAfterAll, rendition, setMode, readyReport, cursorReport, statusReport, listedStep, bracketStep}
 use Rattle.steps.specs.Host.{eventStep, hostStep}
 
 -- What is seen of a terminal after a stream, with the cells stored and the bytes sent on the way.
@@ -98,5 +98,5 @@ examples =
 
 -- Each stream leaves what the example says.
 as-worked-out : map (λ (e : Example). run fresh (e .bytes) 0 []) examples ≡ map (λ (e : Example). e .seen) examples
-unfolding run gives at4x20 examples fresh if_then_else_ _and_ _or_ _is_to_ within every eachFrom placesFrom withDigit withNextArgument isControl isCancel outsideSequence afterEsc afterIntermediate afterBracket insideSequence advanceOf unprotected textStored erasable erased cellsErased scrolledUp scrolledDown decimal placeBytes refused inputDisabled inputEnabled backBy onBy upBy downBy rightBy leftBy toMargin stopSet stopCleared stopsCleared stopRight stopLeft stopsOn stopsBack tabbedOn tabbedBack bytesOf allowed valueOf toNextCell textStep lineDown lineUp nextLine controlStep freshStep escStep toColumn toRow toPlace keptColumn tabControl erasing erasePart isVisual drawn drawnAll rendition setMode readyReport cursorReport statusReport listedStep bracketStep eventStep hostStep
+unfolding run gives at4x20 examples fresh if_then_else_ _and_ _or_ _is_to_ within every eachFrom numbersFrom withDigit withNextArgument isControl isCancel outsideSequence afterEsc afterIntermediate afterBracket insideSequence advanceOf unprotected textStored erasable erased cellsErased scrolledUp scrolledDown decimal placeBytes refused inputDisabled inputEnabled backBy onBy upBy downBy rightBy leftBy toMargin stopSet stopCleared stopsCleared stopRight stopLeft stopsOn stopsBack tabbedOn tabbedBack bytesOf allowed valueOf toNextCell textStep lineDown lineUp nextLine controlStep freshStep escStep toColumn toRow toPlace keptColumn tabControl erasing erasePart isVisual penAfter penAfterAll rendition setMode readyReport cursorReport statusReport listedStep bracketStep eventStep hostStep
 as-worked-out = refl

@@ -32,7 +32,7 @@ use Rattle.steps.specs.Table.{allowed, valueOf}
 use Rattle.steps.specs.Commands.{textStep, lineDown, lineUp, nextLine, controlStep, freshStep, sendBlock, escStep, toColumn, toRow, toPlace, tabControl, erasing, erasePart, rendition, setMode, readyReport, cursorReport, statusReport, listedStep, bracketStep}
 use Rattle.steps.specs.Host.{eventStep, hostStep}
 use Rattle.commands.proofs.Claims.{EndsEscS, Stores, no-cell, text-cell, erased-cells, all-cells, HostSound}
-use Rattle.commands.proofs.Values.{some-value, zero-is-one, some-column, drawn-all-keeps-pen, next-cell-keeps-valid}
+use Rattle.commands.proofs.Values.{some-value, zero-is-one, some-column, pen-after-all-keeps-pen, next-cell-keeps-valid}
 use Rattle.sequence.proofs.Events.{Tells, event-tells}
 
 then-keeps : {before between after : State} → KeepsValid before between → KeepsValid between after → KeepsValid before after
@@ -200,7 +200,7 @@ module _ (Asked : Type 0) (t : Terminal) (valid : Valid t) where
   rendition-holds : (values : List ℕ) → Holds (rendition values t)
   unfolding rendition
   rendition-holds values =
-      line (λ _. goes _ (pen-keeps-valid (t .state) (valid .state) _ (drawn-all-keeps-pen values (t .state .modes .pen) (parts (t .state) (valid .state) .pen)))) refuses
+      line (λ _. goes _ (pen-keeps-valid (t .state) (valid .state) _ (pen-after-all-keeps-pen values (t .state .modes .pen) (parts (t .state) (valid .state) .pen)))) refuses
 
   mode-holds : (on : Bool) (values : List ℕ) → Holds (setMode on values t)
   unfolding setMode
@@ -217,7 +217,7 @@ module _ (Asked : Type 0) (t : Terminal) (valid : Valid t) where
       let ok = valid .state in
       let here = cursor in
       let n = valueOf final arguments 0 in
-      let some : (command i : ℕ) → eqb final command ≡ true → allowed command .zero ≡ 1 → 1 ≤ valueOf final arguments i = λ command i. some-value final command arguments i in
+      let some : (command i : ℕ) → eqb final command ≡ true → allowed command .zeroIs ≡ 1 → 1 ≤ valueOf final arguments i = λ command i. some-value final command arguments i in
       line (λ _. goes _ (up-keeps-valid s ok n))
       (line (λ _. goes _ (down-keeps-valid s ok n))
       (line (λ _. goes _ (right-keeps-valid s ok n))

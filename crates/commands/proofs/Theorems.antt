@@ -13,7 +13,7 @@ use Rattle.page.specs.Page.{Page, erasable, cellsErased}
 use Rattle.state.specs.declared.State.{State}
 use Rattle.state.specs.Moves.{toMargin}
 use Rattle.steps.specs.Steps.{Terminal, Message, fullBlock, changedBlock, Stepped, goesTo, sends, refusing, allCells, Valid}
-use Rattle.steps.specs.Claims.{Rising, TouchesOnly, KeepsProtection, KeepsText, Refusal, SendsBlock}
+use Rattle.steps.specs.Claims.{Rising, TouchesOnly, KeepsProtection, KeepsText, Refusal, SendsBlock, counted}
 use Rattle.steps.proofs.Naming.{named-between, places-rise}
 use Rattle.steps.proofs.Soundness.{sized, names-none}
 use Rattle.steps.specs.Commands.{textStep, lineDown, lineUp, nextLine, freshStep, erasing}
@@ -64,9 +64,6 @@ module _ (byte : ℕ) (t : Terminal) (valid : Valid t) where
   step-keeps-protection same = host-holds byte t valid .sound .protection same
 
 -- The count of cells stored is the number of cells named, by the kinds of steps.
-abbrev counted : Stepped → ℕ
-counted step = length (step .cells)
-
 either-count : (test : Bool) (a b : Stepped) (m n : ℕ) → counted a ≡ m → counted b ≡ n → counted (if test then a else b) ≡ (if test then m else n)
 unfolding if_then_else_
 either-count true a b m n p q = p

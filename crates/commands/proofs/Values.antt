@@ -14,16 +14,16 @@ use Rattle.state.specs.Pen.{validPen}
 use Rattle.state.specs.Validity.{validState}
 use Rattle.state.proofs.Keeping.{KeepsValid, parts, row-range, column-range, cursor-keeps-valid, plain-keeps-pen, bold-keeps-pen, underlined-keeps-pen, blinking-keeps-pen, reversed-keeps-pen, concealed-keeps-pen}
 use Rattle.steps.specs.Table.{allowed, valueOf}
-use Rattle.steps.specs.Commands.{toNextCell, keptColumn, drawn, drawnAll}
+use Rattle.steps.specs.Commands.{toNextCell, keptColumn, penAfter, penAfterAll}
 
 -- Where 0 stands for 1, a value is 1 at least: so for G, d, H and f.
-pub some-value : (final command : ℕ) (arguments : List ℕ) (i : ℕ) → eqb final command ≡ true → allowed command .zero ≡ 1 → 1 ≤ valueOf final arguments i
+pub some-value : (final command : ℕ) (arguments : List ℕ) (i : ℕ) → eqb final command ≡ true → allowed command .zeroIs ≡ 1 → 1 ≤ valueOf final arguments i
 unfolding valueOf
 some-value final command arguments i t e =
-    let one : allowed final .zero ≡ 1 = ap (λ (n : ℕ). allowed n .zero) (eqb-true final command t) ∙ e in
+    let one : allowed final .zeroIs ≡ 1 = ap (λ (n : ℕ). allowed n .zeroIs) (eqb-true final command t) ∙ e in
     either-line (λ (n : ℕ). 1 ≤ n) _ _ _ (λ _. omega arith) (λ t. let given = eqb-false (getD arguments i 0) 0 t in omega arith)
 
-pub zero-is-one : (allowed 0x47 .zero ≡ 1) × (allowed 0x64 .zero ≡ 1) × (allowed 0x48 .zero ≡ 1) × (allowed 0x66 .zero ≡ 1)
+pub zero-is-one : (allowed 0x47 .zeroIs ≡ 1) × (allowed 0x64 .zeroIs ≡ 1) × (allowed 0x48 .zeroIs ≡ 1) × (allowed 0x66 .zeroIs ≡ 1)
 unfolding allowed if_then_else_ _and_ _or_ _is_to_
 zero-is-one = (refl, refl, refl, refl)
 
@@ -32,9 +32,9 @@ unfolding keptColumn
 some-column row given column present h k = either-line (λ (n : ℕ). 1 ≤ n) _ _ _ (λ _. k) (λ _. h)
 
 -- The pen after SGR.
-drawn-keeps-pen : (value pen : ℕ) → validPen pen ≡ true → validPen (drawn value pen) ≡ true
-unfolding drawn
-drawn-keeps-pen value pen p =
+pen-after-keeps-pen : (value pen : ℕ) → validPen pen ≡ true → validPen (penAfter value pen) ≡ true
+unfolding penAfter
+pen-after-keeps-pen value pen p =
     let ok : ℕ → Type 0 = λ n. validPen n ≡ true in
     either-line ok _ _ _ (λ _. plain-keeps-pen pen p)
     (λ _. either-line ok _ _ _ (λ _. bold-keeps-pen pen p)
@@ -42,10 +42,10 @@ drawn-keeps-pen value pen p =
     (λ _. either-line ok _ _ _ (λ _. blinking-keeps-pen pen p)
     (λ _. either-line ok _ _ _ (λ _. reversed-keeps-pen pen p) (λ _. concealed-keeps-pen pen p)))))
 
-pub drawn-all-keeps-pen : (values : List ℕ) (pen : ℕ) → validPen pen ≡ true → validPen (drawnAll values pen) ≡ true
-unfolding drawnAll
-drawn-all-keeps-pen [] pen p = p
-drawn-all-keeps-pen (value ∷ later) pen p = drawn-all-keeps-pen later (drawn value pen) (drawn-keeps-pen value pen p)
+pub pen-after-all-keeps-pen : (values : List ℕ) (pen : ℕ) → validPen pen ≡ true → validPen (penAfterAll values pen) ≡ true
+unfolding penAfterAll
+pen-after-all-keeps-pen [] pen p = p
+pen-after-all-keeps-pen (value ∷ later) pen p = pen-after-all-keeps-pen later (penAfter value pen) (pen-after-keeps-pen value pen p)
 
 -- The next cell in page order.
 pub next-cell-keeps-valid : (s : State) → validState s ≡ true → KeepsValid s (toNextCell s)

@@ -4,12 +4,11 @@ use sequence::Event;
 use state::State;
 use steps::Step;
 ghost use mathlib.Core.Path.{_≡_};
-ghost use mathlib.Core.List.{List};
-ghost use Prim.Native.Nat.{ℕ, _≤_, _+_};
+ghost use Prim.Native.Nat.{_≤_, _+_};
 ghost use lib.ListN.{length};
-ghost use Rattle.page.specs.Page.{Page, pageOf};
+ghost use Rattle.page.specs.Page.{pageOf};
 ghost use Rattle.state.specs.State.{OnPage};
-ghost use Rattle.steps.specs.Steps.{Valid, stores, cursorCell, rowStart};
+ghost use Rattle.steps.specs.Steps.{Valid, cursorCell, rowStart, terminalOf};
 ghost use Rattle.steps.specs.Told.{told, tells, written};
 ghost use Rattle.steps.specs.Commands.{toNextCell, textStep, lineDown, lineUp, controlStep, freshStep, escStep, erasing, erasePart, bracketStep};
 ghost use Rattle.steps.specs.Host.{hostStep};
@@ -29,8 +28,8 @@ fn to_next_cell(state: State) -> State
 }
 
 fn text(state: State, characters: &mut [u8], marks: &mut [u8], character: u8) -> Step
-    requires { ⌜ Valid (record { state = state; page = pageOf (now characters) (now marks) }) ⌝ }
-    ensures { λ r. ⌜ told r (pageOf (now (characters .exit)) (now (marks .exit))) ≡ tells (textStep character (record { state = state; page = pageOf (now (characters .entry)) (now (marks .entry)) })) ⌝ }
+    requires { ⌜ Valid (terminalOf state (now characters) (now marks)) ⌝ }
+    ensures { λ r. ⌜ told r (pageOf (now (characters .exit)) (now (marks .exit))) ≡ tells (textStep character (terminalOf state (now (characters .entry)) (now (marks .entry)))) ⌝ }
 {
     let place = state.place();
     page::store_text(characters, marks, place.cell, character, state.modes.pen);
@@ -39,8 +38,8 @@ fn text(state: State, characters: &mut [u8], marks: &mut [u8], character: u8) ->
 
 // IND and LF.
 fn line_down(state: State, characters: &mut [u8], marks: &mut [u8]) -> Step
-    requires { ⌜ Valid (record { state = state; page = pageOf (now characters) (now marks) }) ⌝ }
-    ensures { λ r. ⌜ told r (pageOf (now (characters .exit)) (now (marks .exit))) ≡ tells (lineDown (record { state = state; page = pageOf (now (characters .entry)) (now (marks .entry)) })) ⌝ }
+    requires { ⌜ Valid (terminalOf state (now characters) (now marks)) ⌝ }
+    ensures { λ r. ⌜ told r (pageOf (now (characters .exit)) (now (marks .exit))) ≡ tells (lineDown (terminalOf state (now (characters .entry)) (now (marks .entry)))) ⌝ }
 {
     if state.cursor.row < state.size.rows {
         return steps::quiet(state.down_by(1));
@@ -52,8 +51,8 @@ fn line_down(state: State, characters: &mut [u8], marks: &mut [u8]) -> Step
 
 // RI.
 fn line_up(state: State, characters: &mut [u8], marks: &mut [u8]) -> Step
-    requires { ⌜ Valid (record { state = state; page = pageOf (now characters) (now marks) }) ⌝ }
-    ensures { λ r. ⌜ told r (pageOf (now (characters .exit)) (now (marks .exit))) ≡ tells (lineUp (record { state = state; page = pageOf (now (characters .entry)) (now (marks .entry)) })) ⌝ }
+    requires { ⌜ Valid (terminalOf state (now characters) (now marks)) ⌝ }
+    ensures { λ r. ⌜ told r (pageOf (now (characters .exit)) (now (marks .exit))) ≡ tells (lineUp (terminalOf state (now (characters .entry)) (now (marks .entry)))) ⌝ }
 {
     if 1 < state.cursor.row {
         return steps::quiet(state.up_by(1));
@@ -65,8 +64,8 @@ fn line_up(state: State, characters: &mut [u8], marks: &mut [u8]) -> Step
 
 // RIS: a fresh page is one erased with erasure mode set.
 fn fresh(state: State, characters: &mut [u8], marks: &mut [u8]) -> Step
-    requires { ⌜ Valid (record { state = state; page = pageOf (now characters) (now marks) }) ⌝ }
-    ensures { λ r. ⌜ told r (pageOf (now (characters .exit)) (now (marks .exit))) ≡ tells (freshStep (record { state = state; page = pageOf (now (characters .entry)) (now (marks .entry)) })) ⌝ }
+    requires { ⌜ Valid (terminalOf state (now characters) (now marks)) ⌝ }
+    ensures { λ r. ⌜ told r (pageOf (now (characters .exit)) (now (marks .exit))) ≡ tells (freshStep (terminalOf state (now (characters .entry)) (now (marks .entry)))) ⌝ }
 {
     let cells = marks.len();
     page::erase(characters, marks, 0, cells, true);
@@ -75,8 +74,8 @@ fn fresh(state: State, characters: &mut [u8], marks: &mut [u8]) -> Step
 
 // BS, HT, LF, CR.
 fn control(state: State, characters: &mut [u8], marks: &mut [u8], byte: u8) -> Step
-    requires { ⌜ Valid (record { state = state; page = pageOf (now characters) (now marks) }) ⌝ }
-    ensures { λ r. ⌜ told r (pageOf (now (characters .exit)) (now (marks .exit))) ≡ tells (controlStep byte (record { state = state; page = pageOf (now (characters .entry)) (now (marks .entry)) })) ⌝ }
+    requires { ⌜ Valid (terminalOf state (now characters) (now marks)) ⌝ }
+    ensures { λ r. ⌜ told r (pageOf (now (characters .exit)) (now (marks .exit))) ≡ tells (controlStep byte (terminalOf state (now (characters .entry)) (now (marks .entry)))) ⌝ }
 {
     match byte {
         0x08 => steps::quiet(state.left_by(1)),
@@ -87,21 +86,21 @@ fn control(state: State, characters: &mut [u8], marks: &mut [u8], byte: u8) -> S
 }
 
 // After ESC, all but S, which sends.
-fn esc_command(state: State, characters: &mut [u8], marks: &mut [u8], byte: u8) -> Step
-    requires { ⌜ Valid (record { state = state; page = pageOf (now characters) (now marks) }) ⌝ }
+fn silent_esc_step(state: State, characters: &mut [u8], marks: &mut [u8], byte: u8) -> Step
+    requires { ⌜ Valid (terminalOf state (now characters) (now marks)) ⌝ }
     requires { ⌜ (byte ≡ 0x53 → ⊥) ⌝ }
-    ensures { λ r. ⌜ told r (pageOf (now (characters .exit)) (now (marks .exit))) ≡ tells (escStep byte (record { state = state; page = pageOf (now (characters .entry)) (now (marks .entry)) })) ⌝ }
+    ensures { λ r. ⌜ told r (pageOf (now (characters .exit)) (now (marks .exit))) ≡ tells (escStep byte (terminalOf state (now (characters .entry)) (now (marks .entry)))) ⌝ }
 {
     match byte {
-        0x44 => line_down(state, characters, marks),
-        0x45 => line_down(state.to_margin(), characters, marks),
-        0x4D => line_up(state, characters, marks),
-        0x48 => steps::quiet(state.set_stop()),
-        0x56 => steps::quiet(state.with_pen(state::pen_protected(state.modes.pen))),
-        0x57 => steps::quiet(state.with_pen(state::pen_unprotected(state.modes.pen))),
-        0x63 => fresh(state, characters, marks),
-        0x60 => steps::quiet(state.disable_input()),
-        0x62 => steps::quiet(state.enable_input()),
+        0x44 => line_down(state, characters, marks), // D
+        0x45 => line_down(state.to_margin(), characters, marks), // E
+        0x4D => line_up(state, characters, marks), // M
+        0x48 => steps::quiet(state.set_stop()), // H
+        0x56 => steps::quiet(state.with_pen(state::pen_protected(state.modes.pen))), // V
+        0x57 => steps::quiet(state.with_pen(state::pen_unprotected(state.modes.pen))), // W
+        0x63 => fresh(state, characters, marks), // c
+        0x60 => steps::quiet(state.disable_input()), // `
+        0x62 => steps::quiet(state.enable_input()), // b
         _ => steps::refuse(state),
     }
 }
@@ -114,7 +113,7 @@ fn erase_cells(
     to: usize,
 ) -> Step
     requires { ⌜ (from ≤ to) × (to ≤ length (now characters)) × (length (now marks) ≡ length (now characters)) ⌝ }
-    ensures { λ r. ⌜ told r (pageOf (now (characters .exit)) (now (marks .exit))) ≡ tells (erasing from to (record { state = state; page = pageOf (now (characters .entry)) (now (marks .entry)) })) ⌝ }
+    ensures { λ r. ⌜ told r (pageOf (now (characters .exit)) (now (marks .exit))) ≡ tells (erasing from to (terminalOf state (now (characters .entry)) (now (marks .entry)))) ⌝ }
 {
     let count = page::erase(characters, marks, from, to, state.modes.erasure);
     steps::stored(state, count, state.modes.erasure)
@@ -129,9 +128,9 @@ fn erase_part(
     first: usize,
     end: usize,
 ) -> Step
-    requires { ⌜ Valid (record { state = state; page = pageOf (now characters) (now marks) }) ⌝ }
+    requires { ⌜ Valid (terminalOf state (now characters) (now marks)) ⌝ }
     requires { ⌜ (first ≤ cursorCell state) × (cursorCell state + 1 ≤ end) × (end ≤ length (now marks)) ⌝ }
-    ensures { λ r. ⌜ told r (pageOf (now (characters .exit)) (now (marks .exit))) ≡ tells (erasePart what first end (record { state = state; page = pageOf (now (characters .entry)) (now (marks .entry)) })) ⌝ }
+    ensures { λ r. ⌜ told r (pageOf (now (characters .exit)) (now (marks .exit))) ≡ tells (erasePart what first end (terminalOf state (now (characters .entry)) (now (marks .entry)))) ⌝ }
 {
     let place = state.place();
     let cell = place.cell;
@@ -145,8 +144,8 @@ fn erase_part(
 
 // EL.
 fn erase_row(state: State, characters: &mut [u8], marks: &mut [u8], what: usize) -> Step
-    requires { ⌜ Valid (record { state = state; page = pageOf (now characters) (now marks) }) ⌝ }
-    ensures { λ r. ⌜ told r (pageOf (now (characters .exit)) (now (marks .exit))) ≡ tells (erasePart what (rowStart state) (rowStart state + state .size .columns) (record { state = state; page = pageOf (now (characters .entry)) (now (marks .entry)) })) ⌝ }
+    requires { ⌜ Valid (terminalOf state (now characters) (now marks)) ⌝ }
+    ensures { λ r. ⌜ told r (pageOf (now (characters .exit)) (now (marks .exit))) ≡ tells (erasePart what (rowStart state) (rowStart state + state .size .columns) (terminalOf state (now (characters .entry)) (now (marks .entry)))) ⌝ }
 {
     let place = state.place();
     let first = place.cell - (state.cursor.column - 1);
@@ -161,7 +160,7 @@ fn erase_row(state: State, characters: &mut [u8], marks: &mut [u8], what: usize)
 }
 
 // After ESC: S sends, and its message may not fit.
-fn after_esc(
+fn esc_step(
     state: State,
     before: State,
     characters: &mut [u8],
@@ -170,18 +169,18 @@ fn after_esc(
     at: usize,
     byte: u8,
 ) -> Step
-    requires { ⌜ Valid (record { state = state; page = pageOf (now characters) (now marks) }) ⌝ }
+    requires { ⌜ Valid (terminalOf state (now characters) (now marks)) ⌝ }
     requires { ⌜ at ≤ length (now out) ⌝ }
-    ensures { λ r. ⌜ record { told = told r (pageOf (now (characters .exit)) (now (marks .exit))); output = now (out .exit) } ≡ written at (now (out .entry)) (record { state = before; page = pageOf (now (characters .entry)) (now (marks .entry)) }) (escStep byte (record { state = state; page = pageOf (now (characters .entry)) (now (marks .entry)) })) ⌝ }
+    ensures { λ r. ⌜ record { told = told r (pageOf (now (characters .exit)) (now (marks .exit))); output = now (out .exit) } ≡ written at (now (out .entry)) (terminalOf before (now (characters .entry)) (now (marks .entry))) (escStep byte (terminalOf state (now (characters .entry)) (now (marks .entry)))) ⌝ }
 {
     if byte == 0x53 {
         return sending::send_block(state, before, characters, marks, out, at, true);
     }
-    esc_command(state, characters, marks, byte)
+    silent_esc_step(state, characters, marks, byte)
 }
 
 // After ESC [: the table is consulted before anything else.
-fn after_bracket(
+fn bracket_step(
     state: State,
     before: State,
     characters: &mut [u8],
@@ -190,9 +189,9 @@ fn after_bracket(
     at: usize,
     letter: u8,
 ) -> Step
-    requires { ⌜ Valid (record { state = state; page = pageOf (now characters) (now marks) }) ⌝ }
+    requires { ⌜ Valid (terminalOf state (now characters) (now marks)) ⌝ }
     requires { ⌜ (at ≤ length (now out)) × (0x40 ≤ letter) × (letter ≤ 0x7E) × (before .half .count ≤ 8) ⌝ }
-    ensures { λ r. ⌜ record { told = told r (pageOf (now (characters .exit)) (now (marks .exit))); output = now (out .exit) } ≡ written at (now (out .entry)) (record { state = before; page = pageOf (now (characters .entry)) (now (marks .entry)) }) (bracketStep letter (before .half) (record { state = state; page = pageOf (now (characters .entry)) (now (marks .entry)) })) ⌝ }
+    ensures { λ r. ⌜ record { told = told r (pageOf (now (characters .exit)) (now (marks .exit))); output = now (out .exit) } ≡ written at (now (out .entry)) (terminalOf before (now (characters .entry)) (now (marks .entry))) (bracketStep letter (before .half) (terminalOf state (now (characters .entry)) (now (marks .entry)))) ⌝ }
 {
     let half = before.half;
     let arguments = half.arguments;
@@ -206,13 +205,13 @@ fn after_bracket(
     let what = moves::value(letter, arguments, 0);
     let cells = marks.len();
     match letter {
-        0x57 => moves::tab_control(state, what),
-        0x4A => erase_part(state, characters, marks, what, 0, cells),
-        0x4B => erase_row(state, characters, marks, what),
-        0x6D => moves::rendition(state, arguments, count as usize),
-        0x68 => moves::set_mode(state, true, arguments, count as usize),
-        0x6C => moves::set_mode(state, false, arguments, count as usize),
-        _ => sending::status_report(state, before, out, at, what),
+        0x57 => moves::tab_control(state, what), // W
+        0x4A => erase_part(state, characters, marks, what, 0, cells), // J
+        0x4B => erase_row(state, characters, marks, what), // K
+        0x6D => moves::rendition(state, arguments, count as usize), // m
+        0x68 => moves::set_mode(state, true, arguments, count as usize), // h
+        0x6C => moves::set_mode(state, false, arguments, count as usize), // l
+        _ => sending::status_report(state, before, out, at, what), // n
     }
 }
 
@@ -225,9 +224,9 @@ pub fn step(
     at: usize,
     byte: u8,
 ) -> Step
-    requires { ⌜ Valid (record { state = state; page = pageOf (now characters) (now marks) }) ⌝ }
+    requires { ⌜ Valid (terminalOf state (now characters) (now marks)) ⌝ }
     requires { ⌜ at ≤ length (now out) ⌝ }
-    ensures { λ r. ⌜ record { told = told r (pageOf (now (characters .exit)) (now (marks .exit))); output = now (out .exit) } ≡ written at (now (out .entry)) (record { state = state; page = pageOf (now (characters .entry)) (now (marks .entry)) }) (hostStep byte (record { state = state; page = pageOf (now (characters .entry)) (now (marks .entry)) })) ⌝ }
+    ensures { λ r. ⌜ record { told = told r (pageOf (now (characters .exit)) (now (marks .exit))); output = now (out .exit) } ≡ written at (now (out .entry)) (terminalOf state (now (characters .entry)) (now (marks .entry))) (hostStep byte (terminalOf state (now (characters .entry)) (now (marks .entry)))) ⌝ }
 {
     let half = state.half;
     let advanced = half.advance(byte);
@@ -236,9 +235,9 @@ pub fn step(
     match event {
         Event::Nothing => steps::quiet(next),
         Event::Text(character) => text(next, characters, marks, character),
-        Event::Control(other) => control(next, characters, marks, other),
-        Event::EscCommand(letter) => after_esc(next, state, characters, marks, out, at, letter),
-        Event::BracketCommand(letter) => after_bracket(
+        Event::Control(code) => control(next, characters, marks, code),
+        Event::EscCommand(letter) => esc_step(next, state, characters, marks, out, at, letter),
+        Event::BracketCommand(letter) => bracket_step(
             next,
             state,
             characters,

@@ -21,12 +21,12 @@ use Rattle.terminal.specs.declared.Answer.{Answer}
 use Rattle.terminal.specs.declared.Answer.the-variants.{Done, WrongSize, WrongState, NoRoom, UnknownKey, Locked, TooLong, NoCell}
 use Rattle.terminal.specs.declared.Reply.{Reply}
 use Rattle.terminal.specs.Runs.{after, sentBy}
-use Rattle.terminal.specs.Answers.{Outcome, numberOf, given}
+use Rattle.terminal.specs.Answers.{Outcome, numberOf, given, bytesSent}
 use Rattle.terminal.specs.Calls.{keyCall}
 use Rattle.terminal.proofs.Answer.{the-type}
 use Rattle.terminal.proofs.Theorems.{key-done, bytes-sent}
-use Rattle.promises.specs.Streams.{press, stepOf, steps, typing, outcomeOf, bytesSent}
-use Rattle.promises.specs.Copying.{StoresNothing, copyOf, laid, RightAfter, CopyHolds}
+use Rattle.promises.specs.Streams.{press, stepOf, steps, keyPress, outcomeOf}
+use Rattle.promises.specs.Copying.{HostStoresNothing, copyOf, laid, RightAfter, CopyHolds}
 use Rattle.promises.proofs.Keeping.{sendable, same-full-block}
 use Rattle.promises.proofs.OurLaws.{our-step-laws, our-call-laws}
 use Rattle.promises.proofs.Theorems as Promised
@@ -102,16 +102,12 @@ module _ (t : Terminal) (valid : Valid t) (key : ℕ) where
   unfolding stepOf
   one-valid = our-step-laws .every-step (press 267) t valid .valid
 
-  two-valid : Valid (two .terminal)
-  unfolding stepOf
-  two-valid = our-step-laws .every-step (press key) (one .terminal) one-valid .valid
-
   first-is-copy : first-block ≡ copyOf (one .terminal)
   unfolding stepOf
   first-is-copy = Promised.copying t valid (press 267) first-block (full-sent t) .0
 
   holds : RightAfter (two .message) (laid (two .message) first-block) (two .terminal) × RightAfter (three .message) (laid (three .message) (laid (two .message) first-block)) (three .terminal)
-  unfolding stepOf steps StoresNothing CopyHolds
+  unfolding stepOf steps HostStoresNothing CopyHolds
   holds =
       let all = Promised.copying t valid (press 267) first-block (full-sent t) .1 (press key ∷ press 266 ∷ []) tt in
       (all .0, all .1 .0)
@@ -149,7 +145,7 @@ pressed : (t : Terminal) (key : ℕ) (lent : List ℕ) → keyCall t key lent .n
 unfolding outcomeOf after sentBy
 pressed t key lent zero =
     let did = key-done t key lent zero in
-    record { valid = our-call-laws .done-is-valid (typing key lent) t zero; terminal = did .terminal; sent = bytes-sent did ∙ append-nil _ }
+    record { valid = our-call-laws .done-is-valid (keyPress key lent) t zero; terminal = did .terminal; sent = bytes-sent did ∙ append-nil _ }
 
 -- What the calls sent, and where all were given 0, what that is.
 module _ {t : Terminal} {key : ℕ} {lentFull lentTyped lentChanged : List ℕ} {replies : KeyReplies} {page : Page} {full typed changed : List ℕ} (keys : ThreeKeys t key lentFull lentTyped lentChanged replies page full typed changed) where

@@ -12,12 +12,12 @@ use Rattle.steps.specs.Steps.{Terminal, bytesOf}
 use Rattle.steps.specs.Keys.{keyStep}
 use Rattle.terminal.specs.declared.Reply.{Reply}
 use Rattle.terminal.specs.Runs.{sentBy}
-use Rattle.terminal.specs.Answers.{Outcome, given, unchanged, did}
+use Rattle.terminal.specs.Answers.{Outcome, given, unchanged, did, bytesSent}
 use Rattle.terminal.specs.Calls.{hostCall, keyCall}
 use Rattle.terminal.proofs.Cases.{KeyCase, key-case}
 use Rattle.terminal.proofs.Cases as Cases
 use Rattle.terminal.proofs.Theorems.{host-done, bytes-sent}
-use Rattle.promises.specs.Streams.{ours, outcomeOf, outcomes, Total, bytesSent, total, AllDone, no-more, done, joinedBytes}
+use Rattle.promises.specs.Streams.{ours, outcomeOf, outcomes, Total, total, AllDone, no-more, done, joinedBytes}
 use Rattle.promises.specs.Promises.{WroteFullBlock, by-key, Receives}
 use Rattle.promises.proofs.Theorems.{cutting, feeding-back}
 use Rattle.demands.specs.Demands.{InTwoReads, Restored, SentOn}

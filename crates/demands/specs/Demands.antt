@@ -9,9 +9,9 @@ use Rattle.words.specs.Choice.{_and_}
 use Rattle.page.specs.Marks.{unprotected}
 use Rattle.page.specs.Page.{Page}
 use Rattle.steps.specs.Steps.{Terminal, Stepped}
-use Rattle.terminal.specs.Answers.{Outcome, numberOf, given}
+use Rattle.terminal.specs.Answers.{Outcome, numberOf, given, bytesSent}
 use Rattle.terminal.specs.Calls.{hostCall, keyCall}
-use Rattle.promises.specs.Streams.{ours, byte, steps, bytesSent, total}
+use Rattle.promises.specs.Streams.{ours, byte, steps, total}
 use Rattle.promises.specs.Promises.{Receives}
 use Rattle.promises.specs.Copying.{copyOf}
 use Rattle.laying.specs.Laying.{laying}

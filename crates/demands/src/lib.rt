@@ -1,4 +1,5 @@
-// The three demands, said of what runs: each function calls the entries, and its contract has the promise.
+// Cutting and feeding back (demand 2) and the copy (demand 3), said of what runs: each function calls the entries, and its contract
+// has the promise.
 // The contracts are in specs/Demands.antt; what they rest on is proved in `promises`.
 use laying::Laid;
 use state::State;
@@ -11,6 +12,7 @@ ghost use lib.ListN.{length, take, drop};
 ghost use Rattle.page.specs.Page.{pageOf};
 ghost use Rattle.terminal.specs.Answers.{given, numberOf};
 ghost use Rattle.demands.specs.Demands.{InTwoReads, SentOn, allAnswered, ThreeKeys, CopyKept};
+ghost use Rattle.steps.specs.Steps.{terminalOf};
 
 // What two calls handed back.
 pub struct Replies {
@@ -38,7 +40,7 @@ pub fn host_in_two(
     out: &mut [u8],
     out_later: &mut [u8],
 ) -> Replies
-    ensures { λ r. ⌜ InTwoReads (record { state = state; page = pageOf (now (characters .entry)) (now (marks .entry)) }) (now (bytes .entry)) cut (now (out .entry)) (now («out_later» .entry)) r (pageOf (now (characters .exit)) (now (marks .exit))) (now (out .exit)) (now («out_later» .exit)) ⌝ }
+    ensures { λ r. ⌜ InTwoReads (terminalOf state (now (characters .entry)) (now (marks .entry))) (now (bytes .entry)) cut (now (out .entry)) (now («out_later» .entry)) r (pageOf (now (characters .exit)) (now (marks .exit))) (now (out .exit)) (now («out_later» .exit)) ⌝ }
 {
     let at = place_of_cut(bytes, cut);
     let first = terminal::host(state, characters, marks, &bytes[..at], out);
@@ -58,7 +60,7 @@ pub fn send_on(
     marks_there: &mut [u8],
     out_there: &mut [u8],
 ) -> Replies
-    ensures { λ r. ⌜ SentOn (record { state = state; page = pageOf (now (characters .entry)) (now (marks .entry)) }) (record { state = «state_there»; page = pageOf (now («characters_there» .entry)) (now («marks_there» .entry)) }) (now (out .entry)) (now («out_there» .entry)) (given (r .first) (pageOf (now (characters .exit)) (now (marks .exit))) (now (out .exit))) (given (r .second) (pageOf (now («characters_there» .exit)) (now («marks_there» .exit))) (now («out_there» .exit))) ⌝ }
+    ensures { λ r. ⌜ SentOn (terminalOf state (now (characters .entry)) (now (marks .entry))) (terminalOf «state_there» (now («characters_there» .entry)) (now («marks_there» .entry))) (now (out .entry)) (now («out_there» .entry)) (given (r .first) (pageOf (now (characters .exit)) (now (marks .exit))) (now (out .exit))) (given (r .second) (pageOf (now («characters_there» .exit)) (now («marks_there» .exit))) (now («out_there» .exit))) ⌝ }
 {
     let first = terminal::key(state, characters, marks, 267, out);
     let sent = first.sent;
@@ -125,7 +127,7 @@ fn press_three(
     typed: &mut [u8],
     changed: &mut [u8],
 ) -> KeyReplies
-    ensures { λ r. ⌜ ThreeKeys (record { state = state; page = pageOf (now (characters .entry)) (now (marks .entry)) }) key (now (full .entry)) (now (typed .entry)) (now (changed .entry)) r (pageOf (now (characters .exit)) (now (marks .exit))) (now (full .exit)) (now (typed .exit)) (now (changed .exit)) ⌝ }
+    ensures { λ r. ⌜ ThreeKeys (terminalOf state (now (characters .entry)) (now (marks .entry))) key (now (full .entry)) (now (typed .entry)) (now (changed .entry)) r (pageOf (now (characters .exit)) (now (marks .exit))) (now (full .exit)) (now (typed .exit)) (now (changed .exit)) ⌝ }
 {
     let first = terminal::key(state, characters, marks, 267, full);
     let sent = first.state;
@@ -150,7 +152,7 @@ pub fn keep_copy(
     changed: &mut [u8],
     copy: &mut [u8],
 ) -> Copied
-    ensures { λ r. ⌜ CopyKept (record { state = state; page = pageOf (now (characters .entry)) (now (marks .entry)) }) key (now (full .entry)) (now (typed .entry)) (now (changed .entry)) (now (copy .entry)) r (pageOf (now (characters .exit)) (now (marks .exit))) (now (full .exit)) (now (typed .exit)) (now (changed .exit)) (now (copy .exit)) ⌝ }
+    ensures { λ r. ⌜ CopyKept (terminalOf state (now (characters .entry)) (now (marks .entry))) key (now (full .entry)) (now (typed .entry)) (now (changed .entry)) (now (copy .entry)) r (pageOf (now (characters .exit)) (now (marks .exit))) (now (full .exit)) (now (typed .exit)) (now (changed .exit)) (now (copy .exit)) ⌝ }
 {
     let replies = press_three(state, characters, marks, key, full, typed, changed);
     if !all_done(replies) {

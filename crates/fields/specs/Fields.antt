@@ -8,7 +8,7 @@ use Rattle.words.specs.Choice.{if_then_else_, _and_}
 use Rattle.places.specs.declared.Place.{Place}
 use Rattle.places.specs.Places.{placeOf}
 
--- A field may run within a stretch of cells; a stretch begins with each row. This is the one place that says so.
+-- Within which cells a field may run: a stretch, which today is a row. This is the one place that says so.
 unfoldable pub opensStretch : Place → Bool
 opensStretch place = eqb (place .column) 1
 

@@ -11,7 +11,7 @@ use Rattle.words.specs.Output.{placed, Wrote}
 use Rattle.words.proofs.Choosing.{one-holds, range-holds}
 use Rattle.words.proofs.Walking.{next-element}
 use Rattle.output.proofs.Digits.{twoDigits}
-use Rattle.figures.specs.Hexadecimal.{isDigit, valueOf, hexByte, hexOf, pairsOf}
+use Rattle.figures.specs.Hexadecimal.{isDigit, digitValue, hexByte, hexOf, pairsOf}
 use Rattle.figures.specs.Figures.{fiveDigits}
 use Rattle.figures.proofs.Walks.{flat-append, flat-length}
 
@@ -37,7 +37,7 @@ pub hex-append : (a b : List ℕ) → hexOf (a ++ b) ≡ hexOf a ++ hexOf b
 hex-append = flat-append hexByte
 
 -- Each pair of digits is a byte.
-pub pairs-next : (text : List ℕ) (i : ℕ) → i + 1 < length text → pairsOf (drop i text) ≡ (valueOf (getD text i 0) * 16 + valueOf (getD text (i + 1) 0)) ∷ pairsOf (drop (i + 2) text)
+pub pairs-next : (text : List ℕ) (i : ℕ) → i + 1 < length text → pairsOf (drop i text) ≡ (digitValue (getD text i 0) * 16 + digitValue (getD text (i + 1) 0)) ∷ pairsOf (drop (i + 2) text)
 unfolding pairsOf
 pairs-next text i here =
     let first : i < length text = omega arith in

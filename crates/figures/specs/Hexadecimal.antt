@@ -11,8 +11,8 @@ use Rattle.words.specs.Lists.{every}
 unfoldable pub isDigit : ℕ → Bool
 isDigit digit = digit is 0x30 to 0x39 or digit is 0x41 to 0x46
 
-unfoldable pub valueOf : ℕ → ℕ
-valueOf digit =
+unfoldable pub digitValue : ℕ → ℕ
+digitValue digit =
     if leb digit 0x39 then digit - 0x30
     else digit - 0x37
 
@@ -32,7 +32,7 @@ hexOf bytes = flatMap hexByte bytes
 unfoldable pub pairsOf : List ℕ → List ℕ
 pairsOf [] = []
 pairsOf (digit ∷ []) = []
-pairsOf (high ∷ low ∷ later) = (valueOf high * 16 + valueOf low) ∷ pairsOf later
+pairsOf (high ∷ low ∷ later) = (digitValue high * 16 + digitValue low) ∷ pairsOf later
 
 unfoldable pub isHexadecimal : List ℕ → Bool
 isHexadecimal text = eqb (length text % 2) 0 and every isDigit text

@@ -6,7 +6,7 @@ ghost use Prim.Native.Nat.{_+_, _*_, _<_, _≤_};
 ghost use lib.ListN.{length, take};
 ghost use Rattle.words.specs.Lists.{every};
 ghost use Rattle.words.specs.Output.{Wrote};
-ghost use Rattle.figures.specs.Hexadecimal.{isDigit, valueOf, digitOf, hexByte, hexOf, pairsOf, isHexadecimal};
+ghost use Rattle.figures.specs.Hexadecimal.{isDigit, digitValue, digitOf, hexByte, hexOf, pairsOf, isHexadecimal};
 ghost use Rattle.figures.specs.Figures.{fiveDigits};
 
 fn is_digit(byte: u8) -> bool
@@ -29,7 +29,7 @@ fn is_digit(byte: u8) -> bool
 
 fn value_of(digit: u8) -> u8
     requires { ⌜ isDigit digit ≡ true ⌝ }
-    ensures { λ r. ⌜ (r ≡ valueOf digit) × (r ≤ 15) ⌝ }
+    ensures { λ r. ⌜ (r ≡ digitValue digit) × (r ≤ 15) ⌝ }
 {
     if digit <= 0x39 {
         return digit - 0x30;

@@ -10,14 +10,14 @@ use Rattle.words.proofs.Choosing.{then-case, else-case}
 use Rattle.page.specs.Page.{pageOf}
 use Rattle.steps.specs.Steps.{Terminal}
 use Rattle.terminal.specs.declared.Reply.{Reply}
-use Rattle.terminal.specs.Answers.{Outcome, given}
+use Rattle.terminal.specs.Answers.{Outcome, given, bytesSent}
 use Rattle.terminal.specs.Calls.{hostCall, keyCall}
 use Rattle.frames.specs.declared.Kind.{Kind}
 use Rattle.frames.specs.declared.Kind.the-variants.{Start, Host, Key, Other}
 use Rattle.frames.specs.declared.Held.{Held}
 use Rattle.frames.specs.declared.Printed.{Printed}
 use Rattle.frames.specs.Frames.{host, key}
-use Rattle.frames.specs.Printing.{bytesSent, printed}
+use Rattle.frames.specs.Printing.{printed}
 use Rattle.frames.specs.Sessions.{Session, noSession, session, Call, output, started, hosted, keyed, uncalled, callOf}
 use Rattle.frames.specs.Held.{frameAt, kept, charactersOf, marksOf, sessionIn, Lent, lent, Enough, Did}
 use Rattle.frames.proofs.Calling.{Alike, printed-same, output-long, host-within}

@@ -14,11 +14,11 @@ use Rattle.steps.specs.Keys.{keyStep}
 use Rattle.terminal.specs.declared.Answer.{Answer}
 use Rattle.terminal.specs.declared.Answer.the-variants.{Done, WrongSize, WrongState, NoRoom, UnknownKey, Locked, TooLong, NoCell}
 use Rattle.terminal.specs.Runs.{stepsOf, fitting, sentBy}
-use Rattle.terminal.specs.Answers.{Outcome, numberOf, unchanged, did, gives}
+use Rattle.terminal.specs.Answers.{Outcome, numberOf, unchanged, did, gives, bytesSent}
 use Rattle.terminal.specs.Lines.{firstOf, hostLines, keyLines}
 use Rattle.terminal.specs.Calls.{hostCall, keyCall}
 use Rattle.terminal.proofs.Running.{steps-count}
-use Rattle.frames.specs.Printing.{highFirst, lineOf, bytesSent, printed}
+use Rattle.frames.specs.Printing.{highFirst, lineOf, printed}
 use Rattle.frames.specs.Sessions.{output}
 
 -- An answer's number has one byte.

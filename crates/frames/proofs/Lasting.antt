@@ -25,7 +25,7 @@ use Rattle.steps.proofs.Soundness.{sized}
 use Rattle.commands.proofs.Silent.{text-silent, control-silent, esc-silent, tab-silent, erase-silent, rendition-silent, mode-silent}
 use Rattle.terminal.specs.Runs.{stepsOf, fitting}
 use Rattle.terminal.specs.Answers.{Outcome, numberOf, unchanged, did}
-use Rattle.terminal.specs.Lines.{exceedsRoom, isValid}
+use Rattle.terminal.specs.Lines.{exceedsRoom, passesLine2}
 use Rattle.terminal.specs.Calls.{hostCall}
 use Rattle.terminal.proofs.Deciding.{fits-on, host-wrong-size, host-wrong-state, host-too-long, host-no-room, host-done}
 use Rattle.figures.specs.Hexadecimal.{bytesIn}
@@ -113,7 +113,7 @@ pub three-takes : (t : Terminal) (bytes : List ℕ) → hostCall t bytes output 
 unfolding unchanged did numberOf
 three-takes t bytes three =
     either-way (sizeFits (t .state .size) (t .page))
-    (λ size. either-way (isValid t)
+    (λ size. either-way (passesLine2 t)
     (λ valid. either-way (ltb 65536 (length bytes))
     (λ long. refused (host-too-long t bytes output size valid (ltb-true 65536 (length bytes) long)) (λ e. omega (arith, e)))
     (λ short. either-way (exceedsRoom (length output) (stepsOf t bytes))

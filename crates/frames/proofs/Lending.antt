@@ -2,10 +2,10 @@
 use mathlib.Core.Path.{_≡_, refl, sym, ap, _∙_}
 use mathlib.Core.Bool.{true, false}
 use mathlib.Core.List.{List, [], _∷_, _++_, append-nil}
-use Prim.Native.Nat.{ℕ, zero, suc, _+_, _-_, _<_, _≤_, min}
+use Prim.Native.Nat.{ℕ, zero, suc, _+_, _-_, _≤_, min}
 use native.Mathlib.Omega.{arith}
-use lib.ListN.{length, take, drop, getD, length-append, length-take, take-append-drop, drop-of-length-le}
-use lib.Seq.{getD-append-add, getD-drop, getD-take, take-append-seam, take-nil, length-take-le, take-all}
+use lib.ListN.{length, take, drop, length-append, length-take, take-append-drop, drop-of-length-le}
+use lib.Seq.{take-nil, length-take-le, take-all}
 use Rattle.words.specs.Output.{placed, Wrote}
 use Rattle.words.specs.Choice.{if_then_else_}
 use Rattle.words.proofs.Choosing.{then-case, else-case, either-line, either-way, less-or-not}

@@ -6,3 +6,5 @@ pub mod Answering
 pub mod Starting
 pub mod Running
 pub mod Lasting
+pub mod Reading
+pub mod Theorems

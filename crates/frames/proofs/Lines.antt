@@ -1,20 +1,18 @@
 -- Laws of a line as the code holds it.
 use mathlib.Core.Path.{_≡_, refl, sym, ap, _∙_}
-use mathlib.Core.Bool.{Bool, true, false, not}
+use mathlib.Core.Bool.{true, false}
 use mathlib.Core.List.{List, [], _∷_, _++_}
-use Prim.Native.Nat.{ℕ, _+_, _%_, _<_, _≤_, min}
+use Prim.Native.Nat.{ℕ, _+_, _%_, _<_, _≤_}
 use native.Mathlib.Numerals.{add-one}
-use borrow.Author.Tests.{le-leb, lt-leb, lt-ltb, le-ltb, eqb-true, not-true}
-use lib.Dec.{eqb, ltb}
+use borrow.Author.Tests.{le-leb, lt-leb, lt-ltb, le-ltb, eqb-true}
+use lib.Dec.{ltb}
 use native.Mathlib.Omega.{arith}
 use lib.ListN.{length, take, set, length-append, length-set}
 use lib.Seq.{take-suc-set}
 use Rattle.words.proofs.Choosing.{then-case, else-case, either-line, either-way, less-or-not, both}
-use Rattle.words.specs.Lists.{every}
 use Rattle.figures.specs.Hexadecimal.{isHexadecimal, bytesIn, pairsOf}
 use Rattle.frames.specs.Frames.{noFrame, frameIn, frameOf}
-use Rattle.frames.specs.Transcript.{withFirst, linesOf}
-use Rattle.frames.specs.Held.{longer, lineIn}
+use Rattle.frames.specs.Held.{longer, lineIn, Collected}
 use Rattle.figures.proofs.Digits.{pairs-least}
 use Rattle.frames.proofs.Framing.{no-bytes, too-many-bytes}
 
@@ -51,12 +49,6 @@ long-line line long =
     ap frameIn (then-case _ _ _ is) ∙ too-many-bytes (pairsOf line) many)
     (λ wrong. ap frameIn (else-case _ _ _ wrong) ∙ no-bytes [] refl)
 
--- What the code has of a line of which all bytes so far were collected.
-pub record Collected (line buffer : List ℕ) (digits : ℕ) : Type 0 where
-  pub room : length buffer ≡ 512
-  pub counted : digits ≡ min (length line) 513
-  pub stands : length line ≤ 512 → take digits buffer ≡ line
-
 pub none-collected : (buffer : List ℕ) → length buffer ≡ 512 → Collected [] buffer 0
 none-collected buffer room = record { room = room; counted = omega arith; stands = λ _. refl }
 
@@ -87,22 +79,3 @@ frame-found {line} {buffer} {digits} all =
     less-or-not 512 (length line)
     (λ long. ap frameIn (line-too-long buffer digits (omega (arith, all .counted))) ∙ no-bytes [] refl ∙ sym (long-line line long))
     (λ short. ap (λ (l : List ℕ). frameIn (bytesIn l)) (line-kept buffer digits (omega (arith, all .counted)) ∙ all .stands short))
-
--- The lines of an input, as they are read: up to each 0A, and what is past the last one.
-abbrev noLineFeed : ℕ → Bool
-noLineFeed byte = not (eqb byte 0x0A)
-
-other-byte : (byte : ℕ) (later : List ℕ) → noLineFeed byte ≡ true → linesOf (byte ∷ later) ≡ withFirst byte (linesOf later)
-unfolding linesOf
-other-byte byte later other = else-case _ _ _ (not-true _ other)
-
-pub lines-cut : (line later : List ℕ) → every noLineFeed line ≡ true → linesOf (line ++ (0x0A ∷ later)) ≡ line ∷ linesOf later
-unfolding every linesOf withFirst
-lines-cut [] later none = then-case _ _ _ refl
-lines-cut (byte ∷ line) later none =
-    other-byte byte (line ++ (0x0A ∷ later)) (both none .0) ∙ ap (withFirst byte) (lines-cut line later (both none .1))
-
-pub lines-last : (byte : ℕ) (line : List ℕ) → every noLineFeed (byte ∷ line) ≡ true → linesOf (byte ∷ line) ≡ (byte ∷ line) ∷ []
-unfolding every linesOf withFirst
-lines-last byte [] none = other-byte byte [] (both none .0)
-lines-last byte (next ∷ line) none = other-byte byte (next ∷ line) (both none .0) ∙ ap (withFirst byte) (lines-last next line (both none .1))

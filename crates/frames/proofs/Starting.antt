@@ -21,11 +21,11 @@ use Rattle.state.proofs.Keeping.{size-bounds}
 use Rattle.commands.proofs.Laws.{erased-is-fresh}
 use Rattle.terminal.specs.declared.Answer.the-variants.{WrongSize}
 use Rattle.terminal.specs.declared.Reply.{Reply}
-use Rattle.terminal.specs.Answers.{Outcome, numberOf, given, unchanged}
+use Rattle.terminal.specs.Answers.{Outcome, numberOf, given, unchanged, bytesSent}
 use Rattle.terminal.specs.Calls.{startCall, unstarted}
 use Rattle.terminal.proofs.Deciding.{start-wrong-size, start-leaves}
 use Rattle.frames.specs.Frames.{start}
-use Rattle.frames.specs.Printing.{bytesSent, printed}
+use Rattle.frames.specs.Printing.{printed}
 use Rattle.frames.specs.Sessions.{Session, session, lentPage, started, callOf}
 use Rattle.frames.specs.Held.{kept, charactersOf, marksOf, sessionIn, Lent, lent, Enough, Did}
 use Rattle.frames.proofs.Lending.{placed-front, held-again}

@@ -2,7 +2,7 @@
 use mathlib.Core.Path.{_≡_}
 use mathlib.Core.Bool.{true, false}
 use mathlib.Core.List.{List, []}
-use Prim.Native.Nat.{ℕ, _+_, _≤_}
+use Prim.Native.Nat.{ℕ, _+_, _≤_, min}
 use lib.Dec.{leb, ltb}
 use lib.ListN.{length, take, drop}
 use Rattle.words.specs.Choice.{if_then_else_}
@@ -15,6 +15,7 @@ use Rattle.frames.specs.declared.Held.{Held}
 use Rattle.frames.specs.declared.Printed.{Printed}
 use Rattle.frames.specs.Frames.{Frame, start, host, key, noFrame}
 use Rattle.frames.specs.Sessions.{Session, noSession, session, Call}
+use Rattle.frames.specs.Transcript.{SoFar}
 
 -- A line stands in 512 bytes; of one that is longer, 513 is all that is known, and it counts as an empty one: neither is a frame.
 unfoldable pub longer : ℕ → ℕ
@@ -26,6 +27,12 @@ unfoldable pub lineIn : List ℕ → ℕ → List ℕ
 lineIn buffer length =
     if leb length 512 then take length buffer
     else []
+
+-- What the code has of a line of which all bytes so far were collected.
+pub record Collected (line buffer : List ℕ) (digits : ℕ) : Type 0 where
+  pub room : length buffer ≡ 512
+  pub counted : digits ≡ min (length line) 513
+  pub stands : length line ≤ 512 → take digits buffer ≡ line
 
 -- A frame's kind, and back: the host bytes stand in the line from place 1 to before the place named; those before `from` are taken.
 unfoldable pub kindOf : Frame → Kind
@@ -57,6 +64,11 @@ unfoldable pub sessionIn : Held → List ℕ → List ℕ → Session
 sessionIn held characters marks =
     if held .going then session (record { state = held .state; page = pageOf (take (held .cells) characters) (take (held .cells) marks) })
     else noSession
+
+-- The code holds what has been read: the line so far and the session.
+pub record Holds (read : SoFar) (held : Held) (digits : ℕ) (line characters marks : List ℕ) : Type 0 where
+  pub collected : Collected (read .line) line digits
+  pub going : sessionIn held characters marks ≡ read .session
 
 -- What is lent to a call: two slices for the page, the output, and the room for the line printed.
 pub record Lent : Type 0 where

@@ -1,8 +1,7 @@
 -- The line printed for a call: number, row, column, stored count in four bytes, bytes sent.
 use mathlib.Core.List.{List, [], _∷_, _++_}
 use Prim.Native.Nat.{ℕ, zero, suc, _/_, _%_}
-use lib.ListN.{take}
-use Rattle.terminal.specs.Answers.{Outcome}
+use Rattle.terminal.specs.Answers.{Outcome, bytesSent}
 use Rattle.figures.specs.Hexadecimal.{hexOf}
 
 -- A number in so many bytes, the high byte first.
@@ -12,9 +11,6 @@ highFirst (suc bytes) number = highFirst bytes (number / 256) ++ (number % 256 �
 
 unfoldable pub lineOf : List ℕ → List ℕ
 lineOf bytes = hexOf bytes ++ (0x0A ∷ [])
-
-abbrev pub bytesSent : Outcome → List ℕ
-bytesSent outcome = take (outcome .sent) (outcome .output)
 
 unfoldable pub printed : Outcome → List ℕ
 printed outcome =

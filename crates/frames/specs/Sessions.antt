@@ -7,10 +7,10 @@ use lib.ListN.{replicate}
 use Rattle.words.specs.Choice.{if_then_else_}
 use Rattle.page.specs.Page.{Page, pageOf}
 use Rattle.steps.specs.Steps.{Terminal}
-use Rattle.terminal.specs.Answers.{Outcome}
+use Rattle.terminal.specs.Answers.{Outcome, bytesSent}
 use Rattle.terminal.specs.Calls.{startCall, hostCall, keyCall}
 use Rattle.frames.specs.Frames.{Frame, start, host, key, noFrame, frameOf, restOf}
-use Rattle.frames.specs.Printing.{bytesSent, printed, refusal}
+use Rattle.frames.specs.Printing.{printed, refusal}
 
 -- None before a good start; then a terminal, with its state and page.
 pub data Session : Type 0 where

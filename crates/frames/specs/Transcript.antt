@@ -2,6 +2,7 @@
 use mathlib.Core.List.{List, [], _∷_, _++_}
 use Prim.Native.Nat.{ℕ}
 use lib.Dec.{eqb}
+use lib.ListN.{length}
 use Rattle.words.specs.Choice.{if_then_else_}
 use Rattle.frames.specs.Sessions.{Session, noSession, lineDone}
 
@@ -24,3 +25,33 @@ linesDone (line ∷ later) before = let done = lineDone line before in done .tex
 
 unfoldable pub transcriptOf : List ℕ → List ℕ
 transcriptOf input = linesDone (linesOf input) noSession
+
+-- The same byte by byte (`read-bytewise`, proofs/Theorems.antt): the line so far, the session, and the text printed.
+pub record SoFar : Type 0 where
+  pub line : List ℕ
+  pub session : Session
+  pub text : List ℕ
+
+abbrev pub noneSoFar : SoFar
+noneSoFar = record { line = []; session = noSession; text = [] }
+
+unfoldable pub lineEnded : SoFar → SoFar
+lineEnded before =
+    let done = lineDone (before .line) (before .session) in
+    record { line = []; session = done .after; text = before .text ++ done .text }
+
+-- 0A ends the line, and its calls are done; another byte is added to it.
+unfoldable pub afterByte : ℕ → SoFar → SoFar
+afterByte byte before =
+    if eqb byte 0x0A then lineEnded before
+    else record { line = before .line ++ (byte ∷ []); session = before .session; text = before .text }
+
+unfoldable pub afterBytes : List ℕ → SoFar → SoFar
+afterBytes [] before = before
+afterBytes (byte ∷ later) before = afterBytes later (afterByte byte before)
+
+-- At the end of the input a last line that lacks its 0A counts.
+unfoldable pub inputEnded : SoFar → SoFar
+inputEnded before =
+    if eqb (length (before .line)) 0 then before
+    else lineEnded before

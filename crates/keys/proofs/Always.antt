@@ -25,9 +25,10 @@ use Rattle.state.specs.Moves.{upBy, downBy, rightBy, leftBy}
 use Rattle.blocks.specs.Blocks.{block}
 use Rattle.steps.specs.Steps.{Terminal, Stepped, goesTo, stores, cursorCell}
 use Rattle.steps.specs.Commands.{sendBlock}
-use Rattle.steps.specs.Keys.{isTyping, free, run, startHere, endHere, goneTo, typedStep, toNextField, toPreviousField, toFirstCell, fieldBlanked, restShifted, keyStep}
+use Rattle.steps.specs.Keys.{isTyping, free, cellsFrom, startHere, endHere, goneTo, typedStep, toNextField, toPreviousField, toFirstUnprotected, fieldBlanked, restShifted, keyStep}
 use Rattle.steps.proofs.Messages.{silent-is-no-full, silent-is-no-changed, told-full, told-changed}
-use Rattle.keys.proofs.Claims.{KeyStores, no-cell, typed-cell, whole-field, rest-of-field, ProtectedKept, KeyAlways}
+use Rattle.keys.proofs.Claims.{KeyStores, no-cell, typed-cell, whole-field, rest-of-field, KeyAlways}
+use Rattle.steps.specs.Claims.{ProtectedKept}
 
 -- A move to what was found leaves the locks.
 gone-keeps-locks : (sought : Sought) (s : State) → goneTo sought s .locks ≡ s .locks
@@ -92,7 +93,7 @@ module _ (key : ℕ) (t : Terminal) where
       }
 
   -- Storing: no cell that is stored is protected.
-  puts-part : {change : List ℕ → List ℕ} → KeepsPart change → (from to : ℕ) → from < to → ((cell : ℕ) → from ≤ cell → cell < to → free t cell ≡ true) → KeyStores key t (run from to) → (s : State) → s .locks ≡ t .state .locks → Always (stores (run from to) false s (partStored change from to (t .page)))
+  puts-part : {change : List ℕ → List ℕ} → KeepsPart change → (from to : ℕ) → from < to → ((cell : ℕ) → from ≤ cell → cell < to → free t cell ≡ true) → KeyStores key t (cellsFrom from to) → (s : State) → s .locks ≡ t .state .locks → Always (stores (cellsFrom from to) false s (partStored change from to (t .page)))
   puts-part {change} keeps from to some all-free names s locks =
       puts s (partStored change from to (t .page)) names (λ _. locks)
       (λ cell p.
@@ -132,7 +133,7 @@ module _ (key : ℕ) (t : Terminal) where
       stays
 
   pub key-always : KeyAlways key t (keyStep key t)
-  unfolding keyStep upBy downBy leftBy rightBy toNextField toPreviousField toFirstCell
+  unfolding keyStep upBy downBy leftBy rightBy toNextField toPreviousField toFirstUnprotected
   key-always =
       line typed-always
       (line (λ _. goes _ (λ _. refl))

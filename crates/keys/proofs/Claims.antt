@@ -3,26 +3,21 @@ use mathlib.Core.Bool.{true, false}
 use mathlib.Core.List.{List, [], _∷_, List·Memᴰ}
 use mathlib.Core.Logic.{_⊎_}
 use mathlib.Core.Path.{_≡_}
-use Prim.Native.Nat.{ℕ, _<_}
-use lib.ListN.{length, getD}
+use Prim.Native.Nat.{ℕ}
+use lib.ListN.{getD}
 use Rattle.page.specs.Marks.{isModified, unprotected}
 use Rattle.page.specs.Page.{Page}
 use Rattle.steps.specs.Steps.{Terminal, fullBlock, changedBlock, Stepped, cursorCell}
-use Rattle.steps.specs.Claims.{SendsBlock, Sound}
-use Rattle.steps.specs.Keys.{isTyping, free, run, startHere, endHere}
+use Rattle.steps.specs.Claims.{SendsBlock, Sound, ProtectedKept}
+use Rattle.steps.specs.Keys.{isTyping, free, cellsFrom, startHere, endHere}
 
 -- The cells that a key may store: none; and where the cursor's cell is unprotected, that cell, for a typed character;
 -- its field, for 263; from the cursor to its field's end, for 264 and 265.
 pub data KeyStores (key : ℕ) (t : Terminal) : List ℕ → Type 0 where
   no-cell : KeyStores key t []
   typed-cell : free t (cursorCell (t .state)) ≡ true → isTyping key ≡ true → KeyStores key t (cursorCell (t .state) ∷ [])
-  whole-field : free t (cursorCell (t .state)) ≡ true → key ≡ 263 → KeyStores key t (run (startHere t) (endHere t))
-  rest-of-field : free t (cursorCell (t .state)) ≡ true → (key ≡ 264) ⊎ (key ≡ 265) → KeyStores key t (run (cursorCell (t .state)) (endHere t))
-
--- The cell keeps its character, if the lent characters have it, and its mark.
-pub record ProtectedKept (before after : Page) (cell : ℕ) : Type 0 where
-  pub character : cell < length (before .characters) → getD (after .characters) cell 0 ≡ getD (before .characters) cell 0
-  pub mark : getD (after .marks) cell 0 ≡ getD (before .marks) cell 0
+  whole-field : free t (cursorCell (t .state)) ≡ true → key ≡ 263 → KeyStores key t (cellsFrom (startHere t) (endHere t))
+  rest-of-field : free t (cursorCell (t .state)) ≡ true → (key ≡ 264) ⊎ (key ≡ 265) → KeyStores key t (cellsFrom (cursorCell (t .state)) (endHere t))
 
 -- In any state, valid or not, whatever the lengths of the two slices.
 pub record KeyAlways (key : ℕ) (t : Terminal) (step : Stepped) : Type 0 where

@@ -21,7 +21,7 @@ use Rattle.fields.proofs.Bounds.{start-of, end-of}
 use Rattle.steps.specs.declared.Step.{Step}
 use Rattle.steps.specs.Steps.{Terminal, Stepped, Valid, goesTo, stores, cursorCell}
 use Rattle.steps.specs.Told.{told, tells}
-use Rattle.steps.specs.Keys.{noField, free, run, startHere, endHere, ifFree, restShifted}
+use Rattle.steps.specs.Keys.{noField, free, cellsFrom, startHere, endHere, ifFree, restShifted}
 use Rattle.steps.proofs.Measuring.{measured}
 
 -- The cursor's place, as the code finds it on a valid terminal.
@@ -44,8 +44,8 @@ found valid is =
       as-many = known .as-many;
     }
 
--- The cells of a run are as many as the code counts.
-pub run-counted : (from end : ℕ) {here after : ℕ} → here ≡ from → after ≡ end → length (run from end) ≡ after - here
+-- The cells of a cellsFrom are as many as the code counts.
+pub run-counted : (from end : ℕ) {here after : ℕ} → here ≡ from → after ≡ end → length (cellsFrom from end) ≡ after - here
 run-counted from end starts ends = run-length from (end - from) ∙ sym (λ i. ends i - starts i)
 
 module _ {t : Terminal} {place : Place} (here : Found t place) where
@@ -85,7 +85,7 @@ module _ {t : Terminal} {place : Place} (here : Found t place) where
     pub rest-shifted : (change : List ℕ → List ℕ) {step : Step} {page : Page} → free t (cursorCell (t .state)) ≡ true → ((cells : List ℕ) (page : Page) → length cells ≡ end - place .cell → told step page ≡ tells (stores cells false (t .state) page)) → page ≡ partStored change (place .cell) end (t .page) → told step page ≡ tells (restShifted change t)
     unfolding restShifted if_then_else_
     rest-shifted change is-free stored left =
-        rw (is-free, stored (run (cursorCell (t .state)) (endHere t)) _ (run-counted _ _ (here .cell) end-is), left, here .cell, end-is)
+        rw (is-free, stored (cellsFrom (cursorCell (t .state)) (endHere t)) _ (run-counted _ _ (here .cell) end-is), left, here .cell, end-is)
 
 -- A search of the fields, going round, finds nothing exactly where there is none.
 pub none-sought : (columns cell : ℕ) (fields : List Field) → nextField columns cell fields ≡ Nowhere → noField fields ≡ true

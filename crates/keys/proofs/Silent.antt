@@ -10,11 +10,11 @@ use Rattle.page.specs.Page.{Page}
 use Rattle.steps.specs.declared.Step.{Step}
 use Rattle.steps.specs.Steps.{Terminal, bytesOf}
 use Rattle.steps.specs.Told.{told, tells, written}
-use Rattle.steps.specs.Keys.{isTyping, typedStep, toNextField, toPreviousField, toFirstCell, fieldBlanked, restShifted, keyStep}
+use Rattle.steps.specs.Keys.{isTyping, typedStep, toNextField, toPreviousField, toFirstUnprotected, fieldBlanked, restShifted, keyStep}
 use Rattle.steps.proofs.Writing.{Silent, told-silent}
 
 key-silent : (key : ℕ) (t : Terminal) → (key ≡ 266 → ⊥) → (key ≡ 267 → ⊥) → Silent (keyStep key t)
-unfolding keyStep typedStep toNextField toPreviousField toFirstCell fieldBlanked restShifted bytesOf
+unfolding keyStep typedStep toNextField toPreviousField toFirstUnprotected fieldBlanked restShifted bytesOf
 key-silent key t not-266 not-267 =
     either-line Silent _ _ _ (λ _. either-line Silent _ _ _ (λ _. refl) (λ _. refl))
     (λ _. either-line Silent _ _ _ (λ _. refl)

@@ -22,7 +22,7 @@ use Rattle.state.proofs.Keeping.{KeepsValid, up-keeps-valid, down-keeps-valid, 
 use Rattle.steps.specs.Steps.{Terminal, blockMessage, Stepped, goesTo, stores, cursorCell, Valid}
 use Rattle.steps.specs.Claims.{markLeft, Sound}
 use Rattle.steps.specs.Commands.{sendBlock}
-use Rattle.steps.specs.Keys.{isTyping, free, run, startHere, endHere, goneTo, typedStep, toNextField, toPreviousField, toFirstCell, fieldBlanked, restShifted, keyStep}
+use Rattle.steps.specs.Keys.{isTyping, free, cellsFrom, startHere, endHere, goneTo, typedStep, toNextField, toPreviousField, toFirstUnprotected, fieldBlanked, restShifted, keyStep}
 use Rattle.steps.proofs.Naming.{named-between, places-rise}
 use Rattle.steps.proofs.Storing.{typed-stored, part-stored}
 use Rattle.steps.proofs.Soundness.{cursor-on-page, goes-soundly, stores-soundly, clears-soundly}
@@ -86,9 +86,9 @@ module _ (t : Terminal) (valid : Valid t) where
       ))
       (goes (t .state) stays)
 
-  part-holds : {change : List ℕ → List ℕ} → KeepsPart change → (from to : ℕ) → from < to → to ≤ length (t .page .marks) → ((cell : ℕ) → from ≤ cell → cell < to → free t cell ≡ true) → (s : State) → KeepsValid (t .state) s → Holds (stores (run from to) false s (partStored change from to (t .page)))
+  part-holds : {change : List ℕ → List ℕ} → KeepsPart change → (from to : ℕ) → from < to → to ≤ length (t .page .marks) → ((cell : ℕ) → from ≤ cell → cell < to → free t cell ≡ true) → (s : State) → KeepsValid (t .state) s → Holds (stores (cellsFrom from to) false s (partStored change from to (t .page)))
   part-holds keeps from to some fits all-free s kept = (
-    stores-soundly t valid (run from to) false s _ kept (part-stored (t .page) (valid .page) (size .as-many) keeps from to some fits),
+    stores-soundly t valid (cellsFrom from to) false s _ kept (part-stored (t .page) (valid .page) (size .as-many) keeps from to some fits),
     λ cell named.
         let between = named-between (places-rise (λ _. true) to from (to - from) (omega arith)) cell named in
         (all-free cell (between .0) (between .1), tagged-modified from to (t .page .marks) cell (between .0) (between .1) (omega arith)),
@@ -112,7 +112,7 @@ module _ (t : Terminal) (valid : Valid t) where
       (goes (t .state) stays)
 
   table-holds : (key : ℕ) → Holds (keyStep key t)
-  unfolding keyStep toNextField toPreviousField toFirstCell
+  unfolding keyStep toNextField toPreviousField toFirstUnprotected
   table-holds key =
       let s = t .state in
       let ok = valid .state in

@@ -10,12 +10,12 @@ use Rattle.words.proofs.Choosing.{not-both, then-case, first-holds}
 use Rattle.words.proofs.Elements.{run-length}
 use Rattle.page.specs.Marks.{isModified, unprotected}
 use Rattle.state.specs.State.{withLocks, unlocked}
-use Rattle.steps.specs.Steps.{Terminal, fullBlock, changedBlock, Stepped, goesTo, cursorCell, Valid}
-use Rattle.steps.specs.Claims.{Rising, TouchesOnly, KeepsProtection, KeepsText, SendsBlock}
+use Rattle.steps.specs.Steps.{Terminal, fullBlock, changedBlock, goesTo, cursorCell, Valid}
+use Rattle.steps.specs.Claims.{Rising, TouchesOnly, KeepsProtection, KeepsText, SendsBlock, ProtectedKept, counted}
 use Rattle.steps.specs.Keys.{isTyping, isEditing, free, startHere, endHere, typedStep, fieldBlanked, restShifted, keyStep}
 use Rattle.steps.proofs.Naming.{named-between}
 use Rattle.steps.proofs.Soundness.{names-none}
-use Rattle.keys.proofs.Claims.{KeyStores, no-cell, typed-cell, whole-field, rest-of-field, ProtectedKept}
+use Rattle.keys.proofs.Claims.{KeyStores, no-cell, typed-cell, whole-field, rest-of-field}
 use Rattle.keys.proofs.Always.{key-always}
 use Rattle.keys.proofs.Tables.{key-holds}
 
@@ -93,9 +93,6 @@ stores-where key t (rest-of-field here (inl asked)) = inr (here, ap (λ (k : ℕ
 stores-where key t (rest-of-field here (inr asked)) = inr (here, ap (λ (k : ℕ). isTyping k or isEditing k) asked)
 
 -- The count of cells stored is the number of cells named, in any state.
-abbrev counted : Stepped → ℕ
-counted step = length (step .cells)
-
 module _ (t : Terminal) where
   module _ (here : free t (cursorCell (t .state)) ≡ true) where
     -- 1 for a typed character.
@@ -103,7 +100,7 @@ module _ (t : Terminal) where
     unfolding keyStep typedStep
     typed-count key typing = ap counted (then-case _ _ _ typing ∙ then-case _ _ _ here)
 
-    -- The run for 263.
+    -- The cellsFrom for 263.
     pub blanked-count : counted (keyStep 263 t) ≡ endHere t - startHere t
     unfolding keyStep isTyping _is_to_ _and_ if_then_else_ fieldBlanked
     blanked-count = ap counted (then-case _ _ _ here) ∙ run-length (startHere t) (endHere t - startHere t)

@@ -5,9 +5,9 @@ use steps::Step;
 ghost use mathlib.Core.Path.{_≡_};
 ghost use mathlib.Core.Bool.{false};
 ghost use Rattle.page.specs.Page.{pageOf, closedUp, movedRight};
-ghost use Rattle.steps.specs.Steps.{Valid};
+ghost use Rattle.steps.specs.Steps.{Valid, terminalOf};
 ghost use Rattle.steps.specs.Told.{told, tells, written};
-ghost use Rattle.steps.specs.Keys.{isTyping, isEditing, isFieldMove, isKnown, isLocked, isLockedOut, noField, fieldsHere, lacksCell, goneTo, typedStep, toNextField, toPreviousField, toFirstCell, fieldBlanked, restShifted, keyStep};
+ghost use Rattle.steps.specs.Keys.{isTyping, isEditing, isFieldMove, isKnown, isLocked, isLockedOut, noField, fieldsHere, lacksCell, goneTo, typedStep, toNextField, toPreviousField, toFirstUnprotected, fieldBlanked, restShifted, keyStep};
 
 fn is_typing(key: usize) -> bool
     ensures { λ r. ⌜ r ≡ isTyping key ⌝ }
@@ -69,8 +69,8 @@ pub fn is_locked_out(key: usize, state: State) -> bool
 }
 
 fn has_no_field(state: State, characters: &[u8], marks: &[u8]) -> bool
-    requires { ⌜ Valid (record { state = state; page = pageOf (now characters) (now marks) }) ⌝ }
-    ensures { λ r. ⌜ r ≡ noField (fieldsHere (record { state = state; page = pageOf (now (characters .entry)) (now (marks .entry)) })) ⌝ }
+    requires { ⌜ Valid (terminalOf state (now characters) (now marks)) ⌝ }
+    ensures { λ r. ⌜ r ≡ noField (fieldsHere (terminalOf state (now (characters .entry)) (now (marks .entry)))) ⌝ }
 {
     let sought = fields::next_field(marks, state.place(), state.size.columns);
     match sought {
@@ -81,8 +81,8 @@ fn has_no_field(state: State, characters: &[u8], marks: &[u8]) -> bool
 
 // Document 01's number 7: the key needs an unprotected cell or a field, and there is none.
 pub fn lacks_cell(key: usize, state: State, characters: &[u8], marks: &[u8]) -> bool
-    requires { ⌜ Valid (record { state = state; page = pageOf (now characters) (now marks) }) ⌝ }
-    ensures { λ r. ⌜ r ≡ lacksCell key (record { state = state; page = pageOf (now (characters .entry)) (now (marks .entry)) }) ⌝ }
+    requires { ⌜ Valid (terminalOf state (now characters) (now marks)) ⌝ }
+    ensures { λ r. ⌜ r ≡ lacksCell key (terminalOf state (now (characters .entry)) (now (marks .entry))) ⌝ }
 {
     let place = state.place();
     if is_typing(key) {
@@ -108,8 +108,8 @@ fn gone_to(sought: Sought, state: State) -> State
 
 // 32 to 126.
 fn type_character(state: State, characters: &mut [u8], marks: &mut [u8], character: u8) -> Step
-    requires { ⌜ Valid (record { state = state; page = pageOf (now characters) (now marks) }) ⌝ }
-    ensures { λ r. ⌜ told r (pageOf (now (characters .exit)) (now (marks .exit))) ≡ tells (typedStep character (record { state = state; page = pageOf (now (characters .entry)) (now (marks .entry)) })) ⌝ }
+    requires { ⌜ Valid (terminalOf state (now characters) (now marks)) ⌝ }
+    ensures { λ r. ⌜ told r (pageOf (now (characters .exit)) (now (marks .exit))) ≡ tells (typedStep character (terminalOf state (now (characters .entry)) (now (marks .entry)))) ⌝ }
 {
     let place = state.place();
     if !page::is_unprotected(marks, place.cell) {
@@ -122,24 +122,24 @@ fn type_character(state: State, characters: &mut [u8], marks: &mut [u8], charact
 
 // 260, 261 and 262.
 fn to_next_field(state: State, characters: &[u8], marks: &[u8]) -> Step
-    requires { ⌜ Valid (record { state = state; page = pageOf (now characters) (now marks) }) ⌝ }
-    ensures { λ r. ⌜ told r (pageOf (now (characters .entry)) (now (marks .entry))) ≡ tells (toNextField (record { state = state; page = pageOf (now (characters .entry)) (now (marks .entry)) })) ⌝ }
+    requires { ⌜ Valid (terminalOf state (now characters) (now marks)) ⌝ }
+    ensures { λ r. ⌜ told r (pageOf (now (characters .entry)) (now (marks .entry))) ≡ tells (toNextField (terminalOf state (now (characters .entry)) (now (marks .entry)))) ⌝ }
 {
     let sought = fields::next_field(marks, state.place(), state.size.columns);
     steps::quiet(gone_to(sought, state))
 }
 
 fn to_previous_field(state: State, characters: &[u8], marks: &[u8]) -> Step
-    requires { ⌜ Valid (record { state = state; page = pageOf (now characters) (now marks) }) ⌝ }
-    ensures { λ r. ⌜ told r (pageOf (now (characters .entry)) (now (marks .entry))) ≡ tells (toPreviousField (record { state = state; page = pageOf (now (characters .entry)) (now (marks .entry)) })) ⌝ }
+    requires { ⌜ Valid (terminalOf state (now characters) (now marks)) ⌝ }
+    ensures { λ r. ⌜ told r (pageOf (now (characters .entry)) (now (marks .entry))) ≡ tells (toPreviousField (terminalOf state (now (characters .entry)) (now (marks .entry)))) ⌝ }
 {
     let sought = fields::previous_field(marks, state.place(), state.size.rows, state.size.columns);
     steps::quiet(gone_to(sought, state))
 }
 
-fn to_first_cell(state: State, characters: &[u8], marks: &[u8]) -> Step
-    requires { ⌜ Valid (record { state = state; page = pageOf (now characters) (now marks) }) ⌝ }
-    ensures { λ r. ⌜ told r (pageOf (now (characters .entry)) (now (marks .entry))) ≡ tells (toFirstCell (record { state = state; page = pageOf (now (characters .entry)) (now (marks .entry)) })) ⌝ }
+fn to_first_unprotected(state: State, characters: &[u8], marks: &[u8]) -> Step
+    requires { ⌜ Valid (terminalOf state (now characters) (now marks)) ⌝ }
+    ensures { λ r. ⌜ told r (pageOf (now (characters .entry)) (now (marks .entry))) ≡ tells (toFirstUnprotected (terminalOf state (now (characters .entry)) (now (marks .entry)))) ⌝ }
 {
     let sought = fields::first_unprotected(marks, state.size.columns);
     match sought {
@@ -150,8 +150,8 @@ fn to_first_cell(state: State, characters: &[u8], marks: &[u8]) -> Step
 
 // 263.
 fn blank_field(state: State, characters: &mut [u8], marks: &mut [u8]) -> Step
-    requires { ⌜ Valid (record { state = state; page = pageOf (now characters) (now marks) }) ⌝ }
-    ensures { λ r. ⌜ told r (pageOf (now (characters .exit)) (now (marks .exit))) ≡ tells (fieldBlanked (record { state = state; page = pageOf (now (characters .entry)) (now (marks .entry)) })) ⌝ }
+    requires { ⌜ Valid (terminalOf state (now characters) (now marks)) ⌝ }
+    ensures { λ r. ⌜ told r (pageOf (now (characters .exit)) (now (marks .exit))) ≡ tells (fieldBlanked (terminalOf state (now (characters .entry)) (now (marks .entry)))) ⌝ }
 {
     let place = state.place();
     if !page::is_unprotected(marks, place.cell) {
@@ -169,8 +169,8 @@ fn blank_field(state: State, characters: &mut [u8], marks: &mut [u8]) -> Step
 
 // 264.
 fn delete_here(state: State, characters: &mut [u8], marks: &mut [u8]) -> Step
-    requires { ⌜ Valid (record { state = state; page = pageOf (now characters) (now marks) }) ⌝ }
-    ensures { λ r. ⌜ told r (pageOf (now (characters .exit)) (now (marks .exit))) ≡ tells (restShifted closedUp (record { state = state; page = pageOf (now (characters .entry)) (now (marks .entry)) })) ⌝ }
+    requires { ⌜ Valid (terminalOf state (now characters) (now marks)) ⌝ }
+    ensures { λ r. ⌜ told r (pageOf (now (characters .exit)) (now (marks .exit))) ≡ tells (restShifted closedUp (terminalOf state (now (characters .entry)) (now (marks .entry)))) ⌝ }
 {
     let place = state.place();
     if !page::is_unprotected(marks, place.cell) {
@@ -183,8 +183,8 @@ fn delete_here(state: State, characters: &mut [u8], marks: &mut [u8]) -> Step
 
 // 265.
 fn insert_here(state: State, characters: &mut [u8], marks: &mut [u8]) -> Step
-    requires { ⌜ Valid (record { state = state; page = pageOf (now characters) (now marks) }) ⌝ }
-    ensures { λ r. ⌜ told r (pageOf (now (characters .exit)) (now (marks .exit))) ≡ tells (restShifted movedRight (record { state = state; page = pageOf (now (characters .entry)) (now (marks .entry)) })) ⌝ }
+    requires { ⌜ Valid (terminalOf state (now characters) (now marks)) ⌝ }
+    ensures { λ r. ⌜ told r (pageOf (now (characters .exit)) (now (marks .exit))) ≡ tells (restShifted movedRight (terminalOf state (now (characters .entry)) (now (marks .entry)))) ⌝ }
 {
     let place = state.place();
     if !page::is_unprotected(marks, place.cell) {
@@ -197,9 +197,9 @@ fn insert_here(state: State, characters: &mut [u8], marks: &mut [u8]) -> Step
 
 // The keys from 256 on that send nothing; a number that is no key does nothing.
 fn act(state: State, characters: &mut [u8], marks: &mut [u8], key: usize) -> Step
-    requires { ⌜ Valid (record { state = state; page = pageOf (now characters) (now marks) }) ⌝ }
+    requires { ⌜ Valid (terminalOf state (now characters) (now marks)) ⌝ }
     requires { ⌜ (isTyping key ≡ false) × (key ≡ 266 → ⊥) × (key ≡ 267 → ⊥) ⌝ }
-    ensures { λ r. ⌜ told r (pageOf (now (characters .exit)) (now (marks .exit))) ≡ tells (keyStep key (record { state = state; page = pageOf (now (characters .entry)) (now (marks .entry)) })) ⌝ }
+    ensures { λ r. ⌜ told r (pageOf (now (characters .exit)) (now (marks .exit))) ≡ tells (keyStep key (terminalOf state (now (characters .entry)) (now (marks .entry)))) ⌝ }
 {
     match key {
         256 => steps::quiet(state.up_by(1)),
@@ -208,7 +208,7 @@ fn act(state: State, characters: &mut [u8], marks: &mut [u8], key: usize) -> Ste
         259 => steps::quiet(state.right_by(1)),
         260 => to_next_field(state, characters, marks),
         261 => to_previous_field(state, characters, marks),
-        262 => to_first_cell(state, characters, marks),
+        262 => to_first_unprotected(state, characters, marks),
         263 => blank_field(state, characters, marks),
         264 => delete_here(state, characters, marks),
         265 => insert_here(state, characters, marks),
@@ -225,8 +225,8 @@ pub fn step(
     out: &mut [u8],
     key: usize,
 ) -> Step
-    requires { ⌜ Valid (record { state = state; page = pageOf (now characters) (now marks) }) ⌝ }
-    ensures { λ r. ⌜ record { told = told r (pageOf (now (characters .exit)) (now (marks .exit))); output = now (out .exit) } ≡ written 0 (now (out .entry)) (record { state = state; page = pageOf (now (characters .entry)) (now (marks .entry)) }) (keyStep key (record { state = state; page = pageOf (now (characters .entry)) (now (marks .entry)) })) ⌝ }
+    requires { ⌜ Valid (terminalOf state (now characters) (now marks)) ⌝ }
+    ensures { λ r. ⌜ record { told = told r (pageOf (now (characters .exit)) (now (marks .exit))); output = now (out .exit) } ≡ written 0 (now (out .entry)) (terminalOf state (now (characters .entry)) (now (marks .entry))) (keyStep key (terminalOf state (now (characters .entry)) (now (marks .entry)))) ⌝ }
 {
     if is_typing(key) {
         return type_character(state, characters, marks, key as u8);

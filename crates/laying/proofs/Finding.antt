@@ -15,9 +15,9 @@ use Rattle.words.proofs.Passing.{every-append}
 use Rattle.output.specs.Decimal.{decimal, placeBytes}
 use Rattle.blocks.specs.Blocks.{Entry, entryBytes, encode}
 use Rattle.blocks.specs.Lay.{samePlace}
-use Rattle.blocks.proofs.Claims.{validEntry}
 use Rattle.blocks.proofs.Decoding.{digits, plain, valid, encode-injective}
 use Rattle.laying.specs.Laying.{plainLength, sameHead}
+use Rattle.blocks.specs.Decode.{validEntry}
 
 -- The end of an entry: a byte below 20 ends it, and any other is passed.
 module _ (bytes : List ℕ) (end : ℕ) where

@@ -12,9 +12,8 @@ use Rattle.words.specs.Lists.{every}
 use Rattle.words.proofs.Choosing.{then-case, else-case, both}
 use Rattle.output.specs.Decimal.{placeBytes}
 use Rattle.blocks.specs.Blocks.{Entry, entryBytes, encode}
-use Rattle.blocks.specs.Decode.{decode}
+use Rattle.blocks.specs.Decode.{decode, validEntry}
 use Rattle.blocks.specs.Lay.{samePlace, laidOn, lay}
-use Rattle.blocks.proofs.Claims.{validEntry}
 use Rattle.blocks.proofs.Decoding.{runOf, entry-is, plain-run, valid}
 use Rattle.blocks.proofs.Theorems.{entries-read-back}
 use Rattle.laying.specs.Laying.{IsBlock, plainLength, entryEnd, sameHead, NextLaid}

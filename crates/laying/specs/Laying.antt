@@ -10,14 +10,13 @@ use Rattle.words.specs.Choice.{if_then_else_, _and_, _or_}
 use Rattle.words.specs.Lists.{every}
 use Rattle.words.specs.Output.{placed}
 use Rattle.blocks.specs.Blocks.{encode}
-use Rattle.blocks.specs.Decode.{decode}
+use Rattle.blocks.specs.Decode.{decode, validEntry}
 use Rattle.blocks.specs.Lay.{lay}
-use Rattle.blocks.proofs.Claims.{validEntry}
 use Rattle.laying.specs.declared.Laid.{Laid}
 use Rattle.laying.specs.declared.Laid.the-variants.{Bytes, NoRoom}
 use Rattle.laying.specs.declared.Part.{Part}
 
--- Bytes that are a block of entries such as a page can send: read and written again they are the same.
+-- Bytes that are a block of entries that can be written: read and written again they are the same.
 pub record IsBlock (bytes : List ℕ) : Type 0 where
   pub valid : every validEntry (decode bytes) ≡ true
   pub same : encode (decode bytes) ≡ bytes
@@ -50,6 +49,7 @@ abbrev pub partBytes : List ℕ → List ℕ → Part → List ℕ
 partBytes block copy part = take (part .to - part .from) (drop (part .from) (sourceOf block copy part))
 
 -- The part has what is laid for the copy's entry at a place; the copy's next entry, or its end, is at `next`.
+-- More than one part may meet this; what is laid is the same.
 pub record NextLaid (block copy : List ℕ) (at : ℕ) (part : Part) : Type 0 where
   pub in-order : part .from ≤ part .to
   pub inside : part .to ≤ length (sourceOf block copy part)
@@ -58,11 +58,11 @@ pub record NextLaid (block copy : List ℕ) (at : ℕ) (part : Part) : Type 0 wh
   pub laid : lay block (drop at copy) ≡ partBytes block copy part ++ lay block (drop (part .next) copy)
 
 -- Bytes put into an output from its start on; where there is too little room, nothing happens.
-pub record Laying : Type 0 where
+pub record BlockLaid : Type 0 where
   pub answer : Laid
   pub output : List ℕ
 
-unfoldable pub laying : List ℕ → List ℕ → Laying
+unfoldable pub laying : List ℕ → List ℕ → BlockLaid
 laying bytes output =
     if leb (length bytes) (length output) then record { answer = Bytes (length bytes); output = placed 0 bytes output }
     else record { answer = NoRoom; output = output }

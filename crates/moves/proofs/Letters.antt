@@ -17,9 +17,9 @@ outside : (n least more : ℕ) → NoneOf n least more → least ≤ n → n < l
 outside n least zero none h l = omega arith
 outside n least (suc more) none h l = outside n least more (none .0) h (omega (arith, none .1))
 
-module _ (letter : ℕ) (move : isMove letter ≡ true) where
+module _ (final : ℕ) (move : isMove final ≡ true) where
   -- What follows of A to I, of Z, of d and of f follows of a move.
-  of-each-move : {A : Type 0} → (0x41 ≤ letter → letter ≤ 0x49 → A) → (letter ≡ 0x5A → A) → (letter ≡ 0x64 → A) → (letter ≡ 0x66 → A) → A
+  of-each-move : {A : Type 0} → (0x41 ≤ final → final ≤ 0x49 → A) → (final ≡ 0x5A → A) → (final ≡ 0x64 → A) → (final ≡ 0x66 → A) → A
   unfolding isMove
   of-each-move a-to-i z d f =
       ⊎-elim
@@ -32,11 +32,11 @@ module _ (letter : ℕ) (move : isMove letter ≡ true) where
       (one-holds move)
 
   -- The table by final byte has an entry for it.
-  pub in-table : (0x40 ≤ letter) × (letter ≤ 0x7E)
+  pub in-table : (0x40 ≤ final) × (final ≤ 0x7E)
   in-table =
       of-each-move (λ least most. (omega arith, omega arith)) (λ e. (omega arith, omega arith)) (λ e. (omega arith, omega arith)) (λ e. (omega arith, omega arith))
 
   -- A move that is none of A to I, d and f is Z.
-  pub only-z : NoneOf letter 0x41 9 → (letter ≡ 0x64 → ⊥) → (letter ≡ 0x66 → ⊥) → letter ≡ 0x5A
+  pub only-z : NoneOf final 0x41 9 → (final ≡ 0x64 → ⊥) → (final ≡ 0x66 → ⊥) → final ≡ 0x5A
   only-z none not-d not-f =
-      of-each-move (λ least most. absurd (outside letter 0x41 9 none least (omega arith))) (λ z. z) (λ d. absurd (not-d d)) (λ f. absurd (not-f f))
+      of-each-move (λ least most. absurd (outside final 0x41 9 none least (omega arith))) (λ z. z) (λ d. absurd (not-d d)) (λ f. absurd (not-f f))

@@ -9,7 +9,7 @@ use lib.Seq.{getD-take, length-take-le}
 use Rattle.words.specs.Lists.{every}
 use Rattle.words.proofs.Walking.{next-element}
 use Rattle.words.proofs.Passing.{next-passes, next-fails, all-pass}
-use Rattle.steps.specs.Commands.{drawn, drawnAll}
+use Rattle.steps.specs.Commands.{penAfter, penAfterAll}
 
 module _ (values : List ℕ) (count i : ℕ) (counted : count ≤ length values) where
   among : i < count → i < length (take count values)
@@ -30,11 +30,11 @@ module _ (values : List ℕ) (count i : ℕ) (counted : count ≤ length values)
     all-values-pass h = all-pass test 0 (take count values) i (behind h)
 
   -- A pen that each of them changes.
-  pub next-drawn : (pen : ℕ) → i < count → drawnAll (drop i (take count values)) pen ≡ drawnAll (drop (i + 1) (take count values)) (drawn (getD values i 0) pen)
-  unfolding drawnAll
+  pub next-drawn : (pen : ℕ) → i < count → penAfterAll (drop i (take count values)) pen ≡ penAfterAll (drop (i + 1) (take count values)) (penAfter (getD values i 0) pen)
+  unfolding penAfterAll
   next-drawn pen h =
-      ap (λ (later : List ℕ). drawnAll later pen) (next-element (take count values) i 0 (among h)) ∙ rw (getD-take count values i 0 h)
+      ap (λ (later : List ℕ). penAfterAll later pen) (next-element (take count values) i 0 (among h)) ∙ rw (getD-take count values i 0 h)
 
-  pub all-drawn : (pen : ℕ) → count ≤ i → drawnAll (drop i (take count values)) pen ≡ pen
-  unfolding drawnAll
+  pub all-drawn : (pen : ℕ) → count ≤ i → penAfterAll (drop i (take count values)) pen ≡ pen
+  unfolding penAfterAll
   all-drawn pen h = rw (drop-of-length-le (take count values) (behind h))

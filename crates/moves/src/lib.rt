@@ -12,26 +12,23 @@ ghost use Rattle.page.specs.Page.{Page};
 ghost use Rattle.state.specs.State.{OnPage};
 ghost use Rattle.steps.specs.Told.{told, tells};
 ghost use Rattle.steps.specs.Table.{allowed, valueOf};
-ghost use Rattle.steps.specs.Commands.{isMove, toColumn, toRow, toPlace, keptColumn, tabControl, isVisual, drawn, drawnAll, rendition, setMode, listedStep};
+ghost use Rattle.steps.specs.Commands.{isMove, toColumn, toRow, toPlace, keptColumn, tabControl, isVisual, penAfter, penAfterAll, rendition, setMode, listedStep};
 
-// By final byte, 40 to 7E: how many arguments at most; 0 is for a command that isn't listed.
+// By final byte, 40 to 7E (`letter`, as `final` is a word of the language): how many arguments at most; 0 is for a command that
+// isn't listed.
 const MOST: [u8; 63] = [
     0,
-    1,
-    1,
-    1,
-    1,
-    1,
-    1,
-    1,
-    2,
-    1,
-    1,
-    1,
-    0,
-    0,
-    0,
-    0, //
+    1, // A
+    1, // B
+    1, // C
+    1, // D
+    1, // E
+    1, // F
+    1, // G
+    2, // H
+    1, // I
+    1, // J
+    1, // K
     0,
     0,
     0,
@@ -39,31 +36,35 @@ const MOST: [u8; 63] = [
     0,
     0,
     0,
-    1,
-    0,
-    0,
-    1,
     0,
     0,
     0,
     0,
-    0, //
+    1, // W
+    0,
+    0,
+    1, // Z
     0,
     0,
     0,
     0,
-    1,
-    0,
-    2,
-    0,
-    8,
     0,
     0,
     0,
-    8,
-    8,
-    1,
-    0, //
+    0,
+    0,
+    1, // d
+    0,
+    2, // f
+    0,
+    8, // h
+    0,
+    0,
+    0,
+    8, // l
+    8, // m
+    1, // n
+    0,
     0,
     0,
     0,
@@ -84,21 +85,15 @@ const MOST: [u8; 63] = [
 // What an argument of 0 stands for.
 const ZERO_IS: [u8; 63] = [
     0,
-    1,
-    1,
-    1,
-    1,
-    1,
-    1,
-    1,
-    1,
-    1,
-    0,
-    0,
-    0,
-    0,
-    0,
-    0, //
+    1, // A
+    1, // B
+    1, // C
+    1, // D
+    1, // E
+    1, // F
+    1, // G
+    1, // H
+    1, // I
     0,
     0,
     0,
@@ -109,19 +104,13 @@ const ZERO_IS: [u8; 63] = [
     0,
     0,
     0,
-    1,
     0,
     0,
     0,
     0,
-    0, //
     0,
     0,
-    0,
-    0,
-    1,
-    0,
-    1,
+    1, // Z
     0,
     0,
     0,
@@ -130,7 +119,19 @@ const ZERO_IS: [u8; 63] = [
     0,
     0,
     0,
-    0, //
+    0,
+    1, // d
+    0,
+    1, // f
+    0,
+    0,
+    0,
+    0,
+    0,
+    0,
+    0,
+    0,
+    0,
     0,
     0,
     0,
@@ -159,7 +160,7 @@ pub fn most_arguments(letter: u8) -> u8
 
 fn zero_is(letter: u8) -> u8
     requires { ⌜ (0x40 ≤ letter) × (letter ≤ 0x7E) ⌝ }
-    ensures { λ r. ⌜ r ≡ allowed letter .zero ⌝ }
+    ensures { λ r. ⌜ r ≡ allowed letter .zeroIs ⌝ }
 {
     let at = (letter - 0x40) as usize;
     ZERO_IS[at]
@@ -280,7 +281,7 @@ fn all_six(values: [u16; 8], count: usize) -> bool
 
 // What one value of SGR does to the pen.
 fn draw(value: u16, pen: u8) -> u8
-    ensures { λ r. ⌜ r ≡ drawn value pen ⌝ }
+    ensures { λ r. ⌜ r ≡ penAfter value pen ⌝ }
 {
     match value {
         0 => state::pen_plain(pen),
@@ -294,15 +295,15 @@ fn draw(value: u16, pen: u8) -> u8
 
 fn draw_all(values: [u16; 8], count: usize, pen: u8) -> u8
     requires { ⌜ count ≤ 8 ⌝ }
-    ensures { λ r. ⌜ r ≡ drawnAll (take count values) pen ⌝ }
+    ensures { λ r. ⌜ r ≡ penAfterAll (take count values) pen ⌝ }
 {
-    let mut drawn = pen;
+    let mut penAfter = pen;
     let mut i = 0;
     while i < count {
-        drawn = draw(values[i], drawn);
+        penAfter = draw(values[i], penAfter);
         i += 1;
     }
-    drawn
+    penAfter
 }
 
 // SGR: all values are tested before any acts.
@@ -357,21 +358,22 @@ pub fn move_command(state: State, letter: u8, arguments: [u16; 8]) -> Step
     let row = arguments[0];
     let given = arguments[1];
     match letter {
-        0x41 => steps::quiet(state.up_by(first)),
-        0x42 => steps::quiet(state.down_by(first)),
-        0x43 => steps::quiet(state.right_by(first)),
-        0x44 => steps::quiet(state.left_by(first)),
-        0x45 => steps::quiet(state.down_by(first).to_margin()),
-        0x46 => steps::quiet(state.up_by(first).to_margin()),
-        0x47 => to_column(state, first),
-        0x48 => to_place(state, first, second),
-        0x49 => steps::quiet(state.tab_on(first)),
-        0x64 => to_row(state, first),
+        0x41 => steps::quiet(state.up_by(first)), // A
+        0x42 => steps::quiet(state.down_by(first)), // B
+        0x43 => steps::quiet(state.right_by(first)), // C
+        0x44 => steps::quiet(state.left_by(first)), // D
+        0x45 => steps::quiet(state.down_by(first).to_margin()), // E
+        0x46 => steps::quiet(state.up_by(first).to_margin()), // F
+        0x47 => to_column(state, first), // G
+        0x48 => to_place(state, first, second), // H
+        0x49 => steps::quiet(state.tab_on(first)), // I
+        0x64 => to_row(state, first), // d
+        // f
         0x66 => to_place(
             state,
             first,
             kept_column(row, given, second, state.cursor.column),
         ),
-        _ => steps::quiet(state.tab_back(first)),
+        _ => steps::quiet(state.tab_back(first)), // Z
     }
 }

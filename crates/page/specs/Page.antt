@@ -5,7 +5,7 @@ use mathlib.Core.Path.{_≡_}
 use Prim.Native.Nat.{ℕ, _-_}
 use lib.ListN.{length, take, drop, getD, set, replicate}
 use Rattle.words.specs.Choice.{if_then_else_, _and_, _or_}
-use Rattle.words.specs.Lists.{within, every, each, placesFrom, onPart}
+use Rattle.words.specs.Lists.{within, every, each, numbersFrom, onPart}
 use Rattle.page.specs.Marks.{isProtected, withModified, withoutModified, validCharacter, validMark, unprotected}
 
 -- The two lent slices, in page order: row 1 from the left, then row 2. A cell's number is its place in them.
@@ -16,7 +16,7 @@ pub record Page : Type 0 where
 abbrev pub pageOf : List ℕ → List ℕ → Page
 pageOf characters marks = record { characters = characters; marks = marks }
 
--- "Numbers a call gives back", 2: every cell and marks byte is as it may be.
+-- "Numbers a call gives back", 2: every character is 20 to 7E, and bit 7 of every marks byte is zero.
 unfoldable pub validPage : Page → Bool
 validPage page = every validCharacter (page .characters) and every validMark (page .marks)
 
@@ -44,10 +44,10 @@ erased mode from to page =
     }
 
 unfoldable pub cellsErased : Bool → ℕ → ℕ → Page → List ℕ
-cellsErased mode from to page = placesFrom (erasable mode (page .marks)) from (to - from)
+cellsErased mode from to page = numbersFrom (erasable mode (page .marks)) from (to - from)
 
 -- What erasing left, and its count of the cells erased.
-pub record Erasing (mode : Bool) (from to : ℕ) (before after : Page) (count : ℕ) : Type 0 where
+pub record HasErased (mode : Bool) (from to : ℕ) (before after : Page) (count : ℕ) : Type 0 where
   pub page : after ≡ erased mode from to before
   pub counted : count ≡ length (cellsErased mode from to before)
 

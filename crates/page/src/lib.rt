@@ -5,7 +5,7 @@ ghost use Prim.Native.Nat.{_≤_, _<_};
 ghost use lib.ListN.{length, getD, set};
 ghost use Rattle.words.specs.Lists.{every};
 ghost use Rattle.page.specs.Marks.{isProtected, isModified, isBold, isUnderlined, isBlinking, isReversed, isConcealed, withModified, withoutModified, validCharacter, validMark, unprotected};
-ghost use Rattle.page.specs.Page.{pageOf, validPage, textStored, typed, erasable, Erasing, scrolledUp, scrolledDown, tagged, blanked, closedUp, movedRight, partStored, sentMark, modifiedCleared, pulledUp, pushedDown};
+ghost use Rattle.page.specs.Page.{pageOf, validPage, textStored, typed, erasable, HasErased, scrolledUp, scrolledDown, tagged, blanked, closedUp, movedRight, partStored, sentMark, modifiedCleared, pulledUp, pushedDown};
 
 pub fn is_protected(mark: u8) -> bool
     ensures { λ r. ⌜ r ≡ isProtected mark ⌝ }
@@ -153,7 +153,7 @@ fn is_erasable(marks: &[u8], cell: usize, mode: bool) -> bool
 // Erases the cells from `from` to before `to`, and counts them.
 pub fn erase(characters: &mut [u8], marks: &mut [u8], from: usize, to: usize, mode: bool) -> usize
     requires { ⌜ (from ≤ to) × (to ≤ length (now characters)) × (length (now marks) ≡ length (now characters)) ⌝ }
-    ensures { λ r. ⌜ Erasing mode from to (pageOf (now (characters .entry)) (now (marks .entry))) (pageOf (now (characters .exit)) (now (marks .exit))) r ⌝ }
+    ensures { λ r. ⌜ HasErased mode from to (pageOf (now (characters .entry)) (now (marks .entry))) (pageOf (now (characters .exit)) (now (marks .exit))) r ⌝ }
 {
     let mut count = 0;
     let mut cell = from;

@@ -1,13 +1,13 @@
 -- Calls are steps, however a stream is cut: demand 2, cutting, by the laws alone.
 use mathlib.Core.Path.{_≡_, refl, sym, ap, _∙_, subst}
-use mathlib.Core.List.{List, [], _∷_, _++_, map, map-append, append-assoc, append-nil}
+use mathlib.Core.List.{List, [], _∷_, _++_, map, map-append, append-assoc}
 use Prim.Native.Nat.{ℕ, _+_}
 use lib.ListN.{length, take, drop, length-append, take-append-drop}
 use lib.Seq.{take-length}
 use Rattle.steps.specs.Steps.{Terminal, Stepped, Valid}
-use Rattle.terminal.specs.Answers.{Outcome}
+use Rattle.terminal.specs.Answers.{Outcome, bytesSent}
 use Rattle.terminal.specs.Runs.{after, sentBy, storedBy}
-use Rattle.promises.specs.Streams.{Machine, Input, byte, stepOf, steps, read, outcomeOf, outcomes, Total, bytesSent, total, inputsOf, inputsDone, AllDone, done, Read, reads, joinedBytes}
+use Rattle.promises.specs.Streams.{Machine, Input, byte, stepOf, steps, Call, read, outcomeOf, outcomes, Total, total, inputsOf, inputsDone, AllDone, done, Read, reads, joinedBytes, readAll, readOne, Carries, ended, taken, stopped}
 use Rattle.promises.specs.Laws.{StepLaws, DidSteps, CallLaws}
 use Rattle.promises.specs.Promises.{CallsAreSteps, Cutting, Continuing}
 
@@ -47,6 +47,11 @@ total-joined : (t : Terminal) (first second : List Stepped) (outcome : Outcome) 
 total-joined t first second outcome did =
     rw (after-joined t first second, sent-joined first second, stored-joined first second, length-append (storedBy first) (storedBy second), did .sent, did .stored)
 
+-- What a call did, in front of what later calls did.
+pub inputs-in-front : (m : Machine) (t : Terminal) (call : Call) (calls : List Call) {outcome : Outcome} → outcomeOf m call t ≡ outcome → inputsDone m t (call ∷ calls) ≡ inputsOf call outcome ++ inputsDone m (outcome .terminal) calls
+unfolding inputsDone
+inputs-in-front m t call calls is = λ i. inputsOf call (is i) ++ inputsDone m (is i .terminal) calls
+
 pub first-done : {outcome : Outcome} {later : List Outcome} → AllDone (outcome ∷ later) → outcome .number ≡ 0
 first-done (done outcome later number further) = number
 
@@ -77,47 +82,36 @@ module _ (m : Machine) (step-laws : StepLaws m) (call-laws : CallLaws m) where
   all-taken : (t : Terminal) (bytes output : List ℕ) → m .host t bytes output .number ≡ 0 → map byte (take (m .host t bytes output .taken) bytes) ≡ map byte bytes
   all-taken t bytes output number = rw (call-laws .done-takes-all t bytes output number, take-length)
 
-  -- So reads that are all given 0 did together the inputs of their bytes joined, and are the steps of these.
-  reads-done : (t : Terminal) (list : List Read) → AllDone (outcomes m t (reads list)) → inputsDone m t (reads list) ≡ map byte (joinedBytes list)
-  unfolding outcomes outcomeOf inputsDone inputsOf joinedBytes
-  reads-done t [] all-done = refl
-  reads-done t (r ∷ later) all-done =
-      rw (all-taken t (r .bytes) (r .output) (first-done all-done), reads-done (m .host t (r .bytes) (r .output) .terminal) later (later-done all-done), map-append byte (r .bytes) (joinedBytes later))
+  -- So reads that carry a stream did its inputs, and are the steps of these.
+  carried-inputs : {t : Terminal} {stream : List ℕ} {list : List Read} → Carries m t stream list → inputsDone m t (reads list) ≡ map byte stream
+  unfolding outcomeOf inputsDone inputsOf
+  carried-inputs ended = refl
+  carried-inputs {t} (taken r {later} zero further) = rw (all-taken t (r .bytes) (r .output) zero, carried-inputs further, map-append byte (r .bytes) later)
+  carried-inputs {t} (stopped r later three further) =
+      let n = readOne m t r .taken in
+      rw (carried-inputs further, ← map-append byte (take n (r .bytes)) (drop n (r .bytes) ++ later), ← append-assoc (take n (r .bytes)) (drop n (r .bytes)) later, take-append-drop n (r .bytes))
 
-  reads-are-steps : (t : Terminal) (list : List Read) → AllDone (outcomes m t (reads list)) → total t (outcomes m t (reads list)) ≡ doneBy m t (map byte (joinedBytes list))
-  unfolding outcomes outcomeOf total joinedBytes steps after sentBy storedBy
-  reads-are-steps t [] all-done = refl
-  reads-are-steps t (r ∷ later) all-done =
-      calls-are-steps-of t (call-laws .done-is-valid (read (r .bytes) (r .output)) t (first-done all-done)) (reads (r ∷ later))
-      ∙ ap (doneBy m t) (reads-done t (r ∷ later) all-done)
+  as-steps : {t : Terminal} {stream : List ℕ} {list : List Read} → Valid t → Carries m t stream list → readAll m t list ≡ doneBy m t (map byte stream)
+  as-steps {t} {list} valid carries = calls-are-steps-of t valid (reads list) ∙ ap (doneBy m t) (carried-inputs carries)
+
+  carried : {t : Terminal} {stream : List ℕ} {list : List Read} → Carries m t stream list → readAll m t list ≡ doneBy m t (map byte stream)
+  unfolding outcomes outcomeOf total steps after sentBy storedBy
+  carried ended = refl
+  carried {t} (taken r zero further) = as-steps (call-laws .done-is-valid (read (r .bytes) (r .output)) t zero) (taken r zero further)
+  carried {t} (stopped r later three further) = as-steps (call-laws .stopped-is-valid t (r .bytes) (r .output) three) (stopped r later three further)
+
+  pub continuing-of : Continuing m
+  continuing-of t stream one other carries carries-too = carried carries ∙ sym (carried carries-too)
+
+  -- Reads that are all given 0 carry their bytes joined.
+  all-done-carry : (t : Terminal) (list : List Read) → AllDone (outcomes m t (reads list)) → Carries m t (joinedBytes list) list
+  unfolding outcomes outcomeOf joinedBytes
+  all-done-carry t [] all-done = ended
+  all-done-carry t (r ∷ later) all-done = taken r (first-done all-done) (all-done-carry _ later (later-done all-done))
 
   pub cutting-of : Cutting m
   cutting-of t one other same one-done other-done =
-      reads-are-steps t one one-done
-      ∙ ap (λ (bytes : List ℕ). doneBy m t (map byte bytes)) same
-      ∙ sym (reads-are-steps t other other-done)
+      continuing-of t (joinedBytes other) one other (subst (λ (stream : List ℕ). Carries m t stream one) same (all-done-carry t one one-done)) (all-done-carry t other other-done)
 
-  -- One read, given 0.
-  read-whole : (t : Terminal) (bytes output : List ℕ) → m .host t bytes output .number ≡ 0 → inputsDone m t (read bytes output ∷ []) ≡ map byte bytes
-  unfolding outcomeOf inputsDone inputsOf
-  read-whole t bytes output is-done = rw (all-taken t bytes output is-done, append-nil (map byte bytes))
-
-  -- A call that took some bytes, and one given 0 with those not taken, did the inputs of all bytes.
-  continued : (t : Terminal) (bytes short output : List ℕ) →
-      let first = m .host t bytes short in
-      let rest = drop (first .taken) bytes in
-      m .host (first .terminal) rest output .number ≡ 0 → inputsDone m t (read bytes short ∷ read rest output ∷ []) ≡ map byte bytes
-  unfolding outcomeOf inputsDone inputsOf
-  continued t bytes short output rest-done =
-      let first = m .host t bytes short in
-      let rest = drop (first .taken) bytes in
-      rw (all-taken (first .terminal) rest output rest-done, append-nil (map byte rest), ← map-append byte (take (first .taken) bytes) rest, take-append-drop (first .taken) bytes)
-
-  pub continuing-of : Continuing m
-  unfolding outcomes outcomeOf
-  continuing-of t bytes short output enough _ rest-done whole-done =
-      let rest = drop (m .host t bytes short .taken) bytes in
-      let valid = call-laws .done-is-valid (read bytes enough) t whole-done in
-      calls-are-steps-of t valid (read bytes short ∷ read rest output ∷ [])
-      ∙ ap (doneBy m t) (continued t bytes short output rest-done ∙ sym (read-whole t bytes enough whole-done))
-      ∙ sym (calls-are-steps-of t valid (read bytes enough ∷ []))
+  pub reads-done : (t : Terminal) (list : List Read) → AllDone (outcomes m t (reads list)) → inputsDone m t (reads list) ≡ map byte (joinedBytes list)
+  reads-done t list all-done = carried-inputs (all-done-carry t list all-done)

@@ -1,6 +1,6 @@
 -- What is opened where something is computed from the definitions: each name stands for all that its line lists.
 use Rattle.words.specs.Choice.{if_then_else_, _and_, _or_, _is_to_}
-use Rattle.words.specs.Lists.{within, every, eachFrom, placesFrom, onPart, selected}
+use Rattle.words.specs.Lists.{within, every, eachFrom, numbersFrom, onPart, selected}
 use Rattle.words.specs.Output.{placed}
 use Rattle.sequence.specs.Record.{argumentsFit, largestArgument, validHalfRead, withDigit, withNextArgument}
 use Rattle.sequence.specs.Reading.{isControl, isCancel, outsideSequence, afterEsc, afterIntermediate, afterBracket, insideSequence, advanceOf}
@@ -11,9 +11,9 @@ use Rattle.output.specs.Decimal.{decimal, placeBytes}
 use Rattle.fields.specs.Fields.{opensStretch, joined, startsField, fieldStart, endFrom, fieldEnd, fieldsFrom}
 use Rattle.fields.specs.Searches.{orElse, firstFree, firstUnprotected, nextUnprotected}
 use Rattle.blocks.specs.Blocks.{entryBytes, encode, entryOf, someModified, isSent}
-use Rattle.blocks.specs.Decode.{inFront, cut, readNumber, readEntry, decode}
+use Rattle.blocks.specs.Decode.{inFront, split, readNumber, readEntry, decode}
 use Rattle.blocks.specs.Lay.{samePlace, laidOn, lay}
-use Rattle.state.specs.State.{refused, inputDisabled}
+use Rattle.state.specs.State.{refused, inputDisabled, unlocked}
 use Rattle.state.specs.Moves.{onBy, rightBy}
 use Rattle.state.specs.Pen.{validPen}
 use Rattle.state.specs.Validity.{listedRows, listedColumns, listedSize, sizeFits, cursorFits, stopsFit, validState}
@@ -24,7 +24,7 @@ use Rattle.steps.specs.Host.{eventStep, hostStep}
 use Rattle.steps.specs.Keys.{isTyping, isEditing, isFieldMove, isKnown, isLocked, isLockedOut, lacksCell, goneTo, typedStep, fieldBlanked, keyStep}
 use Rattle.terminal.specs.Runs.{stepsOf, fitting, after, sentBy, storedBy}
 use Rattle.terminal.specs.Answers.{numberOf, unchanged, did, gives}
-use Rattle.terminal.specs.Lines.{firstOf, exceedsRoom, isValid, startLines, hostLines, keyLines}
+use Rattle.terminal.specs.Lines.{firstOf, exceedsRoom, passesLine2, startLines, hostLines, keyLines}
 use Rattle.terminal.specs.Calls.{startCall, hostCall, keyCall}
 use Rattle.promises.specs.Streams.{stepOf, steps, outcomeOf, outcomes, total, inputsOf, inputsDone, joinedBytes}
 
@@ -43,7 +43,7 @@ unfolding tests selected unprotected placeOf decimal placeBytes opensStretch joi
 blockBytes = tt
 
 unfoldable pub laying : Unit {0}
-unfolding tests inFront cut readNumber readEntry decode samePlace laidOn lay entryBytes encode decimal placeBytes
+unfolding tests inFront split readNumber readEntry decode samePlace laidOn lay entryBytes encode decimal placeBytes
 laying = tt
 
 -- The steps of host bytes and of keys.
@@ -52,12 +52,12 @@ unfolding tests withDigit withNextArgument isControl isCancel outsideSequence af
 hostSteps = tt
 
 unfoldable pub keySteps : Unit {0}
-unfolding tests within eachFrom placesFrom onPart unprotected typed tagged blanked sentMark modifiedCleared placeOf opensStretch joined fieldStart endFrom fieldEnd orElse firstFree firstUnprotected nextUnprotected onBy rightBy bytesOf blockMessage sendBlock isTyping isEditing isFieldMove isKnown isLocked isLockedOut lacksCell goneTo typedStep fieldBlanked keyStep
+unfolding tests within eachFrom numbersFrom onPart unprotected typed tagged blanked sentMark modifiedCleared placeOf opensStretch joined fieldStart endFrom fieldEnd orElse firstFree firstUnprotected nextUnprotected onBy rightBy unlocked bytesOf blockMessage sendBlock isTyping isEditing isFieldMove isKnown isLocked isLockedOut lacksCell goneTo typedStep fieldBlanked keyStep
 keySteps = tt
 
 -- Calls, with all but their steps; and what several of them leave.
 unfoldable pub calls : Unit {0}
-unfolding validity bytesOf placed stepsOf fitting after sentBy storedBy numberOf unchanged did gives firstOf exceedsRoom isValid startLines hostLines keyLines startCall hostCall keyCall
+unfolding validity bytesOf placed stepsOf fitting after sentBy storedBy numberOf unchanged did gives firstOf exceedsRoom passesLine2 startLines hostLines keyLines startCall hostCall keyCall
 calls = tt
 
 unfoldable pub streams : Unit {0}

@@ -13,7 +13,7 @@ use Rattle.blocks.proofs.Claims.{Sendable, SameForm, UnmodifiedKept}
 use Rattle.blocks.proofs.Theorems.{copy-changed, copy-replaced}
 use Rattle.steps.specs.Steps.{Terminal, Message, silent, report, fullBlock, changedBlock, Stepped, Valid}
 use Rattle.steps.specs.Claims.{markLeft}
-use Rattle.promises.specs.Streams.{Machine, Input, stepOf}
+use Rattle.promises.specs.Streams.{Machine, stepOf}
 use Rattle.promises.specs.Copying.{copyOf, laid, RightAfter, CopyHolds}
 use Rattle.promises.specs.Laws.{StepLaw, TagLaw, StepLaws}
 use Rattle.promises.specs.Promises.{Copying}
@@ -86,18 +86,13 @@ copy-holds (one-more {t} {step} valid law tag further) copy copied =
     let now = copied-on copy t valid step law tag copied (step .message) refl in
     (now .0, copy-holds further (laid (step .message) copy) (now .1))
 
-module _ (m : Machine) (laws : StepLaws m) (t : Terminal) (valid : Valid t) (first : Input) (block : List ℕ) (sends : stepOf m first t .message ≡ fullBlock block) where
-  -- Right after the first full block, too, the copy is the full block of the page as it stands.
-  pub first-copy : block ≡ copyOf (stepOf m first t .terminal)
-  first-copy =
-      let law = laws .every-step first t valid in
-      let sent = law .full-block block sends in
-      sent .of-page ∙ same-full-block t valid (stepOf m first t) law (sent .no-cell)
-
+-- Right after the first full block, too, the copy is the full block of the page as it stands.
 pub copying-of : (m : Machine) → StepLaws m → Copying m
 copying-of m laws t valid first block sends =
-    let now-valid = laws .every-step first t valid .valid in
-    let at-first = first-copy m laws t valid first block sends in (
+    let step = stepOf m first t in
+    let law = laws .every-step first t valid in
+    let sent = law .full-block block sends in
+    let at-first = sent .of-page ∙ same-full-block t valid step law (sent .no-cell) in (
       at-first,
-      λ inputs nothing. copy-holds (follow m laws (stepOf m first t .terminal) now-valid inputs nothing) block (own-copy (stepOf m first t .terminal) now-valid at-first),
+      λ inputs nothing. copy-holds (follow m laws (step .terminal) (law .valid) inputs nothing) block (own-copy (step .terminal) (law .valid) at-first),
     )

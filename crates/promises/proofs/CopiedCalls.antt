@@ -1,13 +1,12 @@
 -- Demand 3 carried to calls: what they sent is the messages of the steps that they did.
-use mathlib.Core.Path.{_≡_, sym, ap, _∙_}
+use mathlib.Core.Path.{_≡_, ap, _∙_}
 use mathlib.Core.List.{List, _∷_, _++_}
 use Prim.Native.Nat.{ℕ}
-use Rattle.steps.specs.Steps.{Terminal, fullBlock, Stepped, bytesOf, Message, Valid}
+use Rattle.steps.specs.Steps.{Terminal, fullBlock, bytesOf, Message}
 use Rattle.terminal.specs.Runs.{after, sentBy}
-use Rattle.promises.specs.Streams.{Machine, Input, stepOf, steps, Call, outcomes, Total, total, inputsDone}
+use Rattle.promises.specs.Streams.{Machine, Input, stepOf, steps, Total}
 use Rattle.promises.specs.Laws.{StepLaws, CallLaws}
-use Rattle.promises.specs.Copying.{StoresNothing}
-use Rattle.promises.specs.Promises.{CopiedOver, CopyingCalls}
+use Rattle.promises.specs.Promises.{CopyingCalls}
 use Rattle.promises.proofs.Calling.{sent-joined, steps-joined, steps-keep-valid, calls-are-steps-of}
 use Rattle.promises.proofs.Copied.{copying-of}
 use Rattle.promises.proofs.Omitted.{omission-of}

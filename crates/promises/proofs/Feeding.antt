@@ -1,7 +1,7 @@
 -- Demand 2, feeding back: a full block, read by a receiver of equal size, fills its fields with the sender's characters and changes no protected cell.
 use mathlib.Core.Path.{_≡_, sym, ap, _∙_, subst}
 use mathlib.Core.Bool.{true, false, not}
-use mathlib.Core.List.{List}
+use mathlib.Core.List.{List, map}
 use Prim.Native.Nat.{ℕ, _<_, _≤_}
 use native.Mathlib.Omega.{arith}
 use lib.ListN.{length, getD}
@@ -15,8 +15,10 @@ use Rattle.blocks.proofs.Pages.{all-sent}
 use Rattle.blocks.proofs.Theorems.{longest-block}
 use Rattle.steps.specs.Steps.{Terminal, Valid}
 use Rattle.steps.proofs.Measuring.{measured}
-use Rattle.promises.specs.Streams.{ours, outcomes, total, Read, reads, joinedBytes}
+use Rattle.promises.specs.Streams.{ours, byte, Read, joinedBytes, readAll}
 use Rattle.promises.specs.Promises.{WroteFullBlock, Receives, FedBack, FeedingBack}
+use Rattle.promises.proofs.OurLaws.{our-step-laws, our-call-laws}
+use Rattle.promises.proofs.Calling.{reads-done}
 use Rattle.promises.proofs.FeedingRuns.{Leads, none-refused}
 use Rattle.promises.proofs.FeedingReads.{ReadThrough, read-through}
 use Rattle.promises.proofs.FeedingSender.{full-block-sent}
@@ -65,7 +67,7 @@ module _ (sender receiver : Terminal) (bytes : List ℕ) (cut : List Read) (wrot
 
   -- What the reads leave of a cell.
   abbrev left : Page
-  left = total receiver (outcomes ours receiver (reads cut)) .terminal .page
+  left = readAll ours receiver cut .terminal .page
 
   left-character : (cell : ℕ) → getD (left .characters) cell 0 ≡ getD (reached .end .page .characters) cell 0
   left-character cell = ap (λ (t : Terminal). getD (t .page .characters) cell 0) (through .terminal)
@@ -85,6 +87,7 @@ module _ (sender receiver : Terminal) (bytes : List ℕ) (cut : List Read) (wrot
   is-fed-back : FedBack ours sender receiver bytes cut
   is-fed-back = record {
     answered = through .answered;
+    taken-whole = reads-done ours our-step-laws our-call-laws receiver cut (through .answered) ∙ ap (map byte) joined;
     nothing-sent = through .nothing-sent;
     nothing-refused = none-refused (reached .leads);
     characters = λ cell here free. left-character cell ∙ reached .filled cell here free .character;

@@ -3,42 +3,36 @@ use mathlib.Core.Path.{_≡_, refl, ap, _∙_}
 use mathlib.Core.Bool.{true}
 use mathlib.Core.List.{List, [], _∷_, _++_, append-nil}
 use Prim.Native.Nat.{ℕ}
-use Rattle.words.specs.Choice.{if_then_else_, _and_, _or_, _is_to_}
-use Rattle.sequence.specs.Record.{nothingRead, escRead}
-use Rattle.sequence.specs.Reading.{isCancel, afterEsc, insideSequence, advanceOf}
+use Rattle.sequence.specs.Record.{escRead}
 use Rattle.blocks.specs.Blocks.{block}
 use Rattle.state.specs.State.{withHalf}
-use Rattle.steps.specs.Steps.{Terminal, Stepped, bytesOf, blockMessage, goesTo, Valid}
-use Rattle.steps.specs.Commands.{sendBlock, escStep}
-use Rattle.steps.specs.Host.{eventStep, hostStep}
-use Rattle.steps.specs.Keys.{isTyping, keyStep}
+use Rattle.steps.specs.Steps.{Terminal, Message, Stepped, bytesOf, blockMessage, goesTo, Valid}
+use Rattle.steps.specs.Host.{hostStep}
+use Rattle.steps.specs.Keys.{keyStep}
 use Rattle.terminal.specs.Runs.{stepsOf, sentBy}
 use Rattle.terminal.proofs.Theorems.{host-done, key-done, host-found-valid, key-found-valid, bytes-sent}
-use Rattle.promises.specs.Streams.{ours}
-use Rattle.promises.specs.Promises.{WroteFullBlock, by-key, by-host}
+use Rattle.promises.specs.Streams.{ours, byte, press, stepOf}
+use Rattle.promises.specs.Promises.{WroteFullBlock, by-key, by-host, full-by-267, full-by-esc-s}
 use Rattle.promises.proofs.FeedingRuns.{reading, reads-on}
 use Rattle.promises.proofs.FeedingPlace.{esc-event}
+use Rattle.promises.proofs.Asking.{block-asked}
 
 module _ (t : Terminal) where
   -- ESC S, from any half-read record.
-  first-step : hostStep 0x1B t ≡ goesTo (withHalf (t .state) escRead) t
-  first-step = reads-on t 0x1B (esc-event (t .state .half))
-
-  second-step : hostStep 0x53 (reading t escRead) ≡ sendBlock true (reading t nothingRead)
-  unfolding hostStep eventStep escStep advanceOf insideSequence isCancel afterEsc if_then_else_ _or_ _is_to_ _and_
-  second-step = refl
+  esc-step : hostStep 0x1B t ≡ goesTo (withHalf (t .state) escRead) t
+  esc-step = reads-on t 0x1B (esc-event (t .state .half))
 
   esc-s-sends : sentBy (stepsOf t (0x1B ∷ 0x53 ∷ [])) ≡ block true (t .state .size .columns) (t .page)
-  unfolding stepsOf sentBy bytesOf sendBlock blockMessage
+  unfolding stepsOf stepOf sentBy bytesOf blockMessage
   esc-s-sends =
-      ap (λ (s : Stepped). bytesOf (s .message) ++ (bytesOf (hostStep 0x53 (s .terminal) .message) ++ [])) first-step
-      ∙ ap (λ (s : Stepped). bytesOf (s .message) ++ []) second-step
+      ap (λ (s : Stepped). bytesOf (s .message) ++ (bytesOf (hostStep 0x53 (s .terminal) .message) ++ [])) esc-step
+      ∙ ap (λ (message : Message). bytesOf message ++ []) (block-asked (reading t escRead) true (byte 0x53) (full-by-esc-s refl))
       ∙ append-nil _
 
   -- 267.
   key-267-sends : sentBy (keyStep 267 t ∷ []) ≡ block true (t .state .size .columns) (t .page)
-  unfolding sentBy keyStep isTyping bytesOf sendBlock blockMessage if_then_else_ _is_to_ _and_
-  key-267-sends = append-nil _
+  unfolding stepOf sentBy bytesOf blockMessage
+  key-267-sends = ap (λ (message : Message). bytesOf message ++ []) (block-asked t true (press 267) full-by-267) ∙ append-nil _
 
 -- What either call tells.
 pub record SentFull (sender : Terminal) (bytes : List ℕ) : Type 0 where

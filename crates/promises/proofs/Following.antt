@@ -2,7 +2,7 @@
 use mathlib.Core.List.{List, [], _∷_}
 use Rattle.steps.specs.Steps.{Terminal, Stepped, Valid}
 use Rattle.promises.specs.Streams.{Machine, Input, byte, press, stepOf, steps}
-use Rattle.promises.specs.Copying.{StoresNothing}
+use Rattle.promises.specs.Copying.{HostStoresNothing}
 use Rattle.promises.specs.Laws.{StepLaw, TagLaw, StepLaws}
 use Rattle.promises.proofs.Keeping.{names-none}
 
@@ -12,8 +12,8 @@ pub data Follow : Terminal → List Stepped → Type 0 where
   one-more : {t : Terminal} {step : Stepped} {later : List Stepped} → Valid t → StepLaw t step → TagLaw t step → Follow (step .terminal) later → Follow t (step ∷ later)
 
 -- So do keys, and host bytes that name no cell.
-pub follow : (m : Machine) → StepLaws m → (t : Terminal) → Valid t → (inputs : List Input) → StoresNothing m t inputs → Follow t (steps m t inputs)
-unfolding StoresNothing steps stepOf
+pub follow : (m : Machine) → StepLaws m → (t : Terminal) → Valid t → (inputs : List Input) → HostStoresNothing m t inputs → Follow t (steps m t inputs)
+unfolding HostStoresNothing steps stepOf
 follow m laws t valid [] nothing = no-more
 follow m laws t valid (byte b ∷ later) nothing =
     let law : StepLaw t (m .onByte b t) = laws .every-step (byte b) t valid in

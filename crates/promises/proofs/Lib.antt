@@ -6,6 +6,7 @@ pub mod Unsent
 pub mod Omitted
 pub mod OurLaws
 pub mod FeedingRuns
+pub mod Asking
 pub mod FeedingReads
 pub mod FeedingPlace
 pub mod FeedingSender
@@ -20,9 +21,11 @@ pub mod Theorems
 pub mod Sheets
 pub mod Computing
 pub mod WrongAnswers
+pub mod WrongContracts
 pub mod WrongReads
 pub mod WrongKeys
 pub mod WrongBounds
 pub mod WrongFeeding
 pub mod WrongCopies
+pub mod WrongCalls
 pub mod Worked

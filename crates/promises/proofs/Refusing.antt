@@ -5,7 +5,6 @@ use mathlib.Core.Logic.{_⊎_, inl, inr, ⊎-elim}
 use Prim.Native.Nat.{ℕ}
 use Rattle.page.specs.Marks.{unprotected}
 use Rattle.keys.proofs.Theorems.{no-key-changes-protected, no-key-changes-protection}
-use Rattle.keys.proofs.Claims.{ProtectedKept}
 use Rattle.steps.specs.Steps.{Terminal, Valid}
 use Rattle.steps.specs.Keys.{keyStep}
 use Rattle.terminal.specs.Runs.{after}
@@ -14,8 +13,9 @@ use Rattle.terminal.specs.Calls.{keyCall}
 use Rattle.terminal.proofs.Cases.{KeyCase, key-case}
 use Rattle.terminal.proofs.Cases
 use Rattle.terminal.proofs.Theorems
-use Rattle.promises.specs.Streams.{ours, Call, read, typing, outcomeOf, outcomes, total}
+use Rattle.promises.specs.Streams.{ours, Call, read, keyPress, outcomeOf, outcomes, total}
 use Rattle.promises.specs.Promises.{Numbers, Refusals, StaysValid, KeysKeep}
+use Rattle.steps.specs.Claims.{ProtectedKept}
 
 pub our-numbers : Numbers ours
 our-numbers = record { of-start = Theorems.start-exactly; of-host = Theorems.host-exactly; of-key = Theorems.key-exactly }
@@ -26,8 +26,8 @@ our-refusals = record { of-start = Theorems.start-refused; of-host = Theorems.ho
 through : (t : Terminal) → Valid t → (calls : List Call) → Valid (total t (outcomes ours t calls) .terminal)
 unfolding total outcomes outcomeOf
 through t valid [] = valid
-through t valid (read bytes output ∷ later) = through _ (Theorems.host-keeps-valid t bytes output valid) later
-through t valid (typing key output ∷ later) = through _ (Theorems.key-keeps-valid t key output valid) later
+through t valid (read bytes output ∷ later) = through _ (Theorems.host-call-keeps-valid t bytes output valid) later
+through t valid (keyPress key output ∷ later) = through _ (Theorems.key-call-keeps-valid t key output valid) later
 
 pub our-stays-valid : StaysValid ours
 our-stays-valid = record { from-start = Theorems.start-gives-valid; through-calls = through }

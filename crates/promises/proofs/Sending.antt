@@ -1,21 +1,20 @@
 -- What every block leaves of protected cells, and how long it is, by the laws of a step.
 use mathlib.Core.Path.{_≡_, refl, sym, ap, _∙_}
 use mathlib.Core.Bool.{Bool, true, false, not}
-use mathlib.Core.List.{List, [], List·Memᴰ·not-nil}
-use Prim.Native.Nat.{ℕ, _<_, _≤_}
+use mathlib.Core.List.{List, List·Memᴰ·not-nil}
+use Prim.Native.Nat.{ℕ, _<_}
 use native.Mathlib.Omega.{arith}
 use borrow.Author.Tests.{not-false}
 use lib.ListN.{length, getD, List·getD-eq-default}
 use Rattle.words.proofs.Choosing.{true-is-not-false, less-or-not, then-case}
 use Rattle.page.specs.Marks.{isProtected, unprotected}
 use Rattle.page.specs.Page.{sentMark}
-use Rattle.blocks.specs.Blocks.{block}
 use Rattle.blocks.proofs.Theorems.{longest-block}
-use Rattle.steps.specs.Steps.{Terminal, Message, fullBlock, changedBlock, blockMessage, Stepped, Valid}
+use Rattle.steps.specs.Steps.{Terminal, Message, blockMessage, Stepped}
 use Rattle.steps.specs.Claims.{markLeft}
 use Rattle.steps.proofs.Measuring.{measured}
-use Rattle.promises.specs.Streams.{Machine, Input, stepOf}
-use Rattle.promises.specs.Laws.{IsBlock, StepLaw, StepLaws}
+use Rattle.promises.specs.Streams.{Machine, stepOf}
+use Rattle.promises.specs.Laws.{BlockOfPage, StepLaw, StepLaws}
 use Rattle.promises.specs.Promises.{BlocksKeep, Bounded}
 
 -- A protected cell is on the page, and sending leaves its mark.
@@ -30,7 +29,7 @@ unfolding unprotected sentMark
 protected-stays marks cell protected = then-case _ _ _ (not-false _ protected)
 
 -- A block of either kind.
-is-block : (t : Terminal) (step : Stepped) → StepLaw t step → (full : Bool) (bytes : List ℕ) → step .message ≡ blockMessage full bytes → IsBlock full t step bytes
+is-block : (t : Terminal) (step : Stepped) → StepLaw t step → (full : Bool) (bytes : List ℕ) → step .message ≡ blockMessage full bytes → BlockOfPage full t step bytes
 unfolding blockMessage
 is-block t step law true bytes sends = law .full-block bytes sends
 is-block t step law false bytes sends = law .changed-block bytes sends

@@ -1,32 +1,34 @@
 -- Demand 3 worked out on a form: two fields in row 1, AB and CD, with a protected colon between them.
-use mathlib.Core.Path.{_≡_, refl, sym, ap, _∙_, subst}
-use mathlib.Core.List.{List, [], _∷_, _++_, map, append-nil}
-use mathlib.Core.Bool.{Bool, true, false}
-use Prim.Native.Nat.{ℕ, _≤_}
+use mathlib.Core.Path.{_≡_, refl, ap, _∙_}
+use mathlib.Core.List.{List, [], _∷_, _++_, map}
+use mathlib.Core.Bool.{true, false}
+use Prim.Native.Nat.{ℕ}
 use native.Mathlib.Omega.{arith}
 use lib.ListN.{length, replicate}
-use Rattle.blocks.specs.Blocks.{Entry, block}
+use Rattle.blocks.specs.Blocks.{block}
 use Rattle.blocks.specs.Decode.{decode}
 use Rattle.blocks.specs.Lay.{lay}
 use Rattle.page.specs.Page.{Page}
-use Rattle.steps.specs.Steps.{Terminal, Message, silent, report, fullBlock, changedBlock, Stepped, Valid}
+use Rattle.steps.specs.Steps.{Terminal, silent, report, fullBlock, changedBlock, Stepped, Valid}
 use Rattle.words.specs.Output.{placed}
-use Rattle.terminal.specs.Runs.{stepsOf, sentBy}
-use Rattle.terminal.specs.Answers.{Outcome}
+use Rattle.terminal.specs.Runs.{stepsOf, after, sentBy}
+use Rattle.terminal.specs.Answers.{Outcome, bytesSent}
 use Rattle.terminal.specs.Calls.{hostCall, keyCall}
 use Rattle.terminal.proofs.Deciding.{valid-holds, key-done}
 use Rattle.terminal.proofs.Cases.{host-did}
-use Rattle.promises.specs.Streams.{ours, Input, byte, press, stepOf, steps, Call, read, typing, outcomeOf, outcomes, bytesSent, inputsOf, inputsDone}
-use Rattle.promises.specs.Copying.{StoresNothing, CopyHolds, OmissionHolds}
-use Rattle.promises.proofs.Theorems.{copying, omission}
+use Rattle.promises.specs.Streams.{ours, Input, byte, press, stepOf, steps, Call, read, keyPress, outcomeOf, outcomes, inputsOf, inputsDone}
+use Rattle.promises.specs.Copying.{HostStoresNothing}
+use Rattle.promises.specs.Promises.{CopiedOver}
+use Rattle.promises.proofs.Calling.{inputs-in-front}
+use Rattle.promises.proofs.Theorems.{copying-calls}
 use Rattle.promises.proofs.Sheets.{sheet, at, sheet-block}
 use Rattle.promises.proofs.Computing.{validity, blockBytes, laying, hostSteps, keySteps, calls, streams}
 
 -- The form, by the first character of each field and the marks; in three states of the marks.
-abbrev form : ℕ → ℕ → List ℕ → Page
+abbrev pub form : ℕ → ℕ → List ℕ → Page
 form one other marks = sheet (one ∷ 0x42 ∷ 0x3A ∷ other ∷ 0x44 ∷ []) marks
 
-abbrev noTag : List ℕ
+abbrev pub noTag : List ℕ
 noTag = 0 ∷ 0 ∷ 1 ∷ 0 ∷ 0 ∷ []
 
 abbrev firstTagged : List ℕ
@@ -36,7 +38,7 @@ abbrev secondTagged : List ℕ
 secondTagged = 0 ∷ 0 ∷ 1 ∷ 2 ∷ 0 ∷ []
 
 -- Where it begins: cursor 1;1, AB and CD, nothing modified.
-abbrev start : Terminal
+abbrev pub start : Terminal
 start = at 1 (form 0x41 0x43 noTag)
 
 start-valid : Valid start
@@ -51,7 +53,7 @@ abbrev afterFirst : List Input
 afterFirst = press 0x58 ∷ (map byte hostBytes ++ (press 259 ∷ press 259 ∷ press 0x59 ∷ press 266 ∷ []))
 
 -- The blocks: ESC [ 1 ; 1 f .. B ESC [ 1 ; 4 f .. D 03, and ESC [ 1 ; 4 f Y D 03; the report: ESC [ 1 ; 2 R.
-abbrev fullBytes : ℕ → ℕ → List ℕ
+abbrev pub fullBytes : ℕ → ℕ → List ℕ
 fullBytes one other = 0x1B ∷ 0x5B ∷ 0x31 ∷ 0x3B ∷ 0x31 ∷ 0x66 ∷ one ∷ 0x42 ∷ 0x1B ∷ 0x5B ∷ 0x31 ∷ 0x3B ∷ 0x34 ∷ 0x66 ∷ other ∷ 0x44 ∷ 0x03 ∷ []
 
 abbrev changedBytes : List ℕ
@@ -94,18 +96,9 @@ messages = λ i.
     ∷ []
 
 -- The host stored nothing.
-stores-nothing : StoresNothing ours (stepOf ours (press 267) start .terminal) afterFirst
-unfolding hostSteps keySteps streams StoresNothing
+stores-nothing : HostStoresNothing ours (stepOf ours (press 267) start .terminal) afterFirst
+unfolding hostSteps keySteps streams HostStoresNothing
 stores-nothing = (refl, (refl, (refl, (refl, (refl, (refl, (refl, (refl, tt))))))))
-
--- So demand 3 speaks of these steps: the copy is right after each of the three blocks that follow, and the changed one omits what was not stored.
-copy-holds : CopyHolds (fullBytes 0x41 0x43) (steps ours (stepOf ours (press 267) start .terminal) afterFirst)
-unfolding keySteps streams
-copy-holds = copying start start-valid (press 267) (fullBytes 0x41 0x43) (ap fullBlock (full-noTag 0x41 0x43)) .1 afterFirst stores-nothing
-
-omission-holds : OmissionHolds (stepOf ours (press 267) start .terminal) [] (steps ours (stepOf ours (press 267) start .terminal) afterFirst)
-unfolding keySteps streams
-omission-holds = omission start start-valid (press 267) (fullBytes 0x41 0x43) (ap fullBlock (full-noTag 0x41 0x43)) afterFirst stores-nothing
 
 -- The changed block has one field, the second, whose cell was stored since the block before; the first is omitted.
 one-field : decode changedBytes ≡ record { row = 1; column = 4; characters = 0x59 ∷ 0x44 ∷ [] } ∷ []
@@ -120,14 +113,14 @@ copies = (refl, refl, refl)
 -- As calls, with a Y besides that is typed on the colon: it is given 7.
 abbrev session : List Call
 session =
-    typing 267 (replicate 17 0)
-    ∷ typing 0x58 []
+    keyPress 267 (replicate 17 0)
+    ∷ keyPress 0x58 []
     ∷ read hostBytes (replicate 40 0)
-    ∷ typing 259 []
-    ∷ typing 0x59 []
-    ∷ typing 259 []
-    ∷ typing 0x59 []
-    ∷ typing 266 (replicate 9 0)
+    ∷ keyPress 259 []
+    ∷ keyPress 0x59 []
+    ∷ keyPress 259 []
+    ∷ keyPress 0x59 []
+    ∷ keyPress 266 (replicate 9 0)
     ∷ []
 
 -- What is seen of a call: number, cells stored, bytes sent.
@@ -152,14 +145,14 @@ unfolding streams
 no-calls = record { outcomes-seen = refl; inputs-are = refl }
 
 next-call : {t : Terminal} {calls : List Call} {saw : List Seen} {inputs : List Input} (call : Call) (outcome : Outcome) → outcomeOf ours call t ≡ outcome → Told (outcome .terminal) calls saw inputs → Told t (call ∷ calls) (seen outcome ∷ saw) (inputsOf call outcome ++ inputs)
-unfolding outcomes inputsDone
+unfolding outcomes
 next-call {calls} call outcome is later = record {
   outcomes-seen = (λ i. seen (is i) ∷ map seen (outcomes ours (is i .terminal) calls)) ∙ ap (λ (rest : List Seen). seen outcome ∷ rest) (later .outcomes-seen);
-  inputs-are = (λ i. inputsOf call (is i) ++ inputsDone ours (is i .terminal) calls) ∙ ap (λ (rest : List Input). inputsOf call outcome ++ rest) (later .inputs-are);
+  inputs-are = inputs-in-front ours _ call calls is ∙ ap (λ (rest : List Input). inputsOf call outcome ++ rest) (later .inputs-are);
 }
 
 -- An outcome whose output is just the bytes sent.
-abbrev leaves : ℕ → ℕ → ℕ → List ℕ → Terminal → Outcome
+abbrev pub leaves : ℕ → ℕ → ℕ → List ℕ → Terminal → Outcome
 leaves number taken stored sent t = record { number = number; taken = taken; sent = length sent; stored = stored; terminal = t; output = sent }
 
 -- The terminals that the calls leave: after X, after the host's bytes with the cursor in a column, after Y, after 266.
@@ -176,7 +169,7 @@ abbrev end : Terminal
 end = at 5 (form 0x58 0x59 noTag)
 
 -- The calls that send.
-call-267 : keyCall start 267 (replicate 17 0) ≡ leaves 0 0 0 (fullBytes 0x41 0x43) start
+pub call-267 : keyCall start 267 (replicate 17 0) ≡ leaves 0 0 0 (fullBytes 0x41 0x43) start
 unfolding validity keySteps calls
 call-267 =
     key-done start 267 (replicate 17 0) refl (valid-holds start start-valid) refl refl refl (omega (arith, ap length (full-noTag 0x41 0x43)))
@@ -228,3 +221,8 @@ session-told =
     (next-call _ (leaves 0 0 0 [] (sentTwice 4)) refl
     (next-call _ (leaves 0 0 1 [] typedY) refl
     (next-call _ (leaves 0 0 0 changedBytes end) call-266 no-calls)))))))
+
+-- So demand 3 speaks of this session: the copy is right after each of the three blocks that follow, and the changed one omits what was not stored.
+session-copied : CopiedOver ours start session [] (fullBytes 0x41 0x43) (stepOf ours (press 267) start .terminal) afterFirst
+unfolding keySteps streams after
+session-copied = copying-calls start start-valid session [] (press 267) afterFirst (fullBytes 0x41 0x43) (session-told .inputs-are) (ap fullBlock (full-noTag 0x41 0x43)) stores-nothing

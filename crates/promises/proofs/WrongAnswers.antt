@@ -2,7 +2,7 @@
 use mathlib.Core.Path.{_≡_, refl, sym, ap, _∙_}
 use mathlib.Core.Bool.{true, false}
 use mathlib.Core.List.{List, [], _∷_}
-use Prim.Native.Nat.{ℕ, _<_}
+use Prim.Native.Nat.{ℕ}
 use native.Mathlib.Omega.{arith}
 use borrow.Author.Tests.{eqb-false}
 use lib.ListN.{length, getD}
@@ -12,15 +12,14 @@ use Rattle.page.specs.Page.{Page, pageOf, sentMark, modifiedCleared}
 use Rattle.blocks.specs.Blocks.{block}
 use Rattle.state.specs.declared.Size.{Size}
 use Rattle.state.specs.State.{withLocks}
-use Rattle.state.specs.Validity.{validState}
-use Rattle.steps.specs.Steps.{Terminal, Stepped, withState, Valid}
+use Rattle.steps.specs.Steps.{Terminal, withState, Valid}
 use Rattle.terminal.specs.Runs.{stepsOf, after}
-use Rattle.terminal.specs.Calls.{startCall, hostCall, keyCall}
+use Rattle.terminal.specs.Calls.{hostCall, keyCall}
 use Rattle.terminal.specs.declared.Answer.the-variants.{NoRoom}
 use Rattle.terminal.specs.Answers.{numberOf, unchanged}
 use Rattle.terminal.proofs.Deciding.{valid-holds, key-no-room}
 use Rattle.terminal.proofs.Exceeding.{line-3-done}
-use Rattle.promises.specs.Streams.{ours, Machine, read, typing}
+use Rattle.promises.specs.Streams.{Machine, read, keyPress}
 use Rattle.promises.specs.Promises.{Numbers, Refusals, StaysValid}
 use Rattle.promises.specs.Wrong.{alwaysRefuses, lockedBeforeUnknown, blanksRefusedStart, clearsTagsRefused, losesSequenceOn3, leavesRow0, setsMessage2}
 use Rattle.promises.proofs.Refusing.{our-numbers}
@@ -36,7 +35,7 @@ module _ {m : Machine} (kept : Numbers m) where
   key-number t key output = sym (our-numbers .of-key t key output _ .1 (kept .of-key t key output _ .0 refl))
 
 -- A field of one cell, modified, with the cursor on it; and the same terminal under the soft lock.
-abbrev oneField : Terminal
+abbrev pub oneField : Terminal
 oneField = at 1 (sheet (0x41 ∷ 0x20 ∷ 0x20 ∷ 0x20 ∷ 0x20 ∷ []) (2 ∷ 1 ∷ 1 ∷ 1 ∷ 1 ∷ []))
 
 abbrev locked : Terminal
@@ -69,10 +68,10 @@ unfolding calls keySteps
 lockedBeforeUnknown-breaks-numbers kept = eqb-false 5 4 refl (key-number kept locked 0 [] ∙ unknown-locked)
 
 -- A page of one cell is of no listed size: a start is given 1, and hands the page back as it was.
-abbrev tiny : Page
+abbrev pub tiny : Page
 tiny = pageOf (0x41 ∷ []) (0 ∷ [])
 
-abbrev oneByOne : Size
+abbrev pub oneByOne : Size
 oneByOne = record { rows = 1; columns = 1 }
 
 pub blanksRefusedStart-breaks-refusals : Refusals blanksRefusedStart → ⊥
@@ -113,5 +112,5 @@ leavesRow0-breaks-validity kept =
 pub setsMessage2-breaks-validity : StaysValid setsMessage2 → ⊥
 unfolding calls keySteps streams
 setsMessage2-breaks-validity kept =
-    let out-of-range : false ≡ true = kept .through-calls oneField one-field-valid (typing 259 [] ∷ []) .state in
+    let out-of-range : false ≡ true = kept .through-calls oneField one-field-valid (keyPress 259 [] ∷ []) .state in
     true-is-not-false (sym out-of-range)

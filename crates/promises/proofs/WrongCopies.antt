@@ -2,31 +2,30 @@
 use mathlib.Core.Path.{_≡_, refl, sym, ap, _∙_, subst}
 use mathlib.Core.Bool.{true, false}
 use mathlib.Core.List.{List, [], _∷_, _++_, map, List·Memᴰ, List·Memᴰ·head, List·Memᴰ·not-nil}
-use Prim.Native.Nat.{ℕ, _+_, _<_, _≤_}
+use Prim.Native.Nat.{ℕ}
 use native.Mathlib.Omega.{arith}
 use borrow.Author.Tests.{eqb-false}
 use lib.ListN.{length, getD, replicate}
 use Rattle.words.specs.Lists.{selected}
 use Rattle.page.specs.Marks.{isModified, unprotected}
-use Rattle.page.specs.Page.{Page}
 use Rattle.fields.specs.Fields.{Field, fieldsFrom, fieldsOf}
 use Rattle.blocks.specs.Blocks.{Entry, encode, entryOf, block}
 use Rattle.blocks.specs.Decode.{decode}
 use Rattle.blocks.specs.Lay.{lay}
 use Rattle.steps.specs.Steps.{Terminal, changedBlock, Valid}
 use Rattle.steps.specs.Keys.{fieldsHere}
-use Rattle.promises.specs.Streams.{Machine, Input, press}
-use Rattle.promises.specs.Copying.{StoresNothing, laid, RightAfter, CopyHolds, Omitted, Unstored, OmitsExactly, storedSince, OmissionHolds}
+use Rattle.promises.specs.Streams.{Input, press}
+use Rattle.promises.specs.Copying.{HostStoresNothing, laid, RightAfter, CopyHolds, OmitsExactly, storedSince, OmissionHolds}
 use Rattle.promises.specs.Promises.{Copying, Omission}
 use Rattle.promises.specs.Wrong.{firstCellBlock, looksAtFirstCells, feignsChangedBlocks, neverTags, tagsOnlyChanges, isBlock, keepsTags}
 use Rattle.promises.proofs.Sheets.{sheet, at, sheet-fields, sheet-block}
-use Rattle.promises.proofs.Computing.{tests, validity, blockBytes, laying, keySteps, streams}
+use Rattle.promises.proofs.Computing.{validity, blockBytes, laying, keySteps, streams}
 
 -- A field of three cells: A, some second character, C. Its marks: no tag, a tag on the first cell, one on the second.
-abbrev texts : ℕ → List ℕ
+abbrev pub texts : ℕ → List ℕ
 texts second = 0x41 ∷ second ∷ 0x43 ∷ 0x20 ∷ 0x20 ∷ []
 
-abbrev clear : List ℕ
+abbrev pub clear : List ℕ
 clear = 0 ∷ 0 ∷ 0 ∷ 1 ∷ 1 ∷ []
 
 abbrev firstTagged : List ℕ
@@ -36,27 +35,27 @@ abbrev secondTagged : List ℕ
 secondTagged = 0 ∷ 2 ∷ 0 ∷ 1 ∷ 1 ∷ []
 
 -- The cursor is on the second cell, and after a typed character on the third.
-abbrev before : ℕ → List ℕ → Terminal
+abbrev pub before : ℕ → List ℕ → Terminal
 before second marks = at 2 (sheet (texts second) marks)
 
-abbrev after : ℕ → List ℕ → Terminal
+abbrev pub after : ℕ → List ℕ → Terminal
 after second marks = at 3 (sheet (texts second) marks)
 
-B-valid : Valid (before 0x42 clear)
+pub B-valid : Valid (before 0x42 clear)
 unfolding validity
 B-valid = record { size = refl; state = refl; page = refl }
 
 -- ESC [ 1 ; 1 f, the three characters, 03; and 03 alone.
-abbrev fieldBlock : ℕ → List ℕ
+abbrev pub fieldBlock : ℕ → List ℕ
 fieldBlock second = 0x1B ∷ 0x5B ∷ 0x31 ∷ 0x3B ∷ 0x31 ∷ 0x66 ∷ 0x41 ∷ second ∷ 0x43 ∷ 0x03 ∷ []
 
-abbrev emptyBlock : List ℕ
+abbrev pub emptyBlock : List ℕ
 emptyBlock = 0x03 ∷ []
 
-abbrev firstBlock : List ℕ
+abbrev pub firstBlock : List ℕ
 firstBlock = block true 80 (sheet (texts 0x42) clear)
 
-full-block-is : (second : ℕ) → block true 80 (sheet (texts second) clear) ≡ fieldBlock second
+pub full-block-is : (second : ℕ) → block true 80 (sheet (texts second) clear) ≡ fieldBlock second
 unfolding blockBytes
 full-block-is second = sheet-block clear refl true (texts second) ∙ refl
 
@@ -68,31 +67,31 @@ by-first-cells second =
     (sheet-fields secondTagged refl)
     ∙ refl
 
-untagged-block : (second : ℕ) → block false 80 (sheet (texts second) clear) ≡ emptyBlock
+pub untagged-block : (second : ℕ) → block false 80 (sheet (texts second) clear) ≡ emptyBlock
 unfolding blockBytes
 untagged-block second = sheet-block clear refl false (texts second) ∙ refl
 
 -- The copy. After a full block with B, X is typed and a changed block sent. If that has no field, the copy has B still.
-copy-is-stale : {changed : List ℕ} → changed ≡ emptyBlock → lay changed firstBlock ≡ block true 80 (sheet (texts 0x58) clear) → ⊥
+pub copy-is-stale : {changed : List ℕ} → changed ≡ emptyBlock → lay changed firstBlock ≡ block true 80 (sheet (texts 0x58) clear) → ⊥
 unfolding laying
 copy-is-stale empty right =
     eqb-false 0x42 0x58 refl (ap (λ (bytes : List ℕ). getD bytes 7 0) (sym (λ i. lay (empty i) (full-block-is 0x42 i)) ∙ right ∙ full-block-is 0x58))
 
-abbrev typeX : List Input
+abbrev pub typeX : List Input
 typeX = press 0x58 ∷ press 266 ∷ []
 
 pub looksAtFirstCells-breaks-copying : Copying looksAtFirstCells → ⊥
-unfolding keySteps streams StoresNothing CopyHolds RightAfter laid
+unfolding keySteps streams HostStoresNothing CopyHolds RightAfter laid
 looksAtFirstCells-breaks-copying kept =
     copy-is-stale (by-first-cells 0x58) (kept (before 0x42 clear) B-valid (press 267) firstBlock refl .1 typeX tt .1 .0)
 
 pub feignsChangedBlocks-breaks-copying : Copying feignsChangedBlocks → ⊥
-unfolding keySteps streams StoresNothing CopyHolds RightAfter laid
+unfolding keySteps streams HostStoresNothing CopyHolds RightAfter laid
 feignsChangedBlocks-breaks-copying kept =
     copy-is-stale refl (kept (before 0x42 clear) B-valid (press 267) firstBlock refl .1 typeX tt .1 .0)
 
 pub neverTags-breaks-copying : Copying neverTags → ⊥
-unfolding keySteps streams StoresNothing CopyHolds RightAfter laid
+unfolding keySteps streams HostStoresNothing CopyHolds RightAfter laid
 neverTags-breaks-copying kept =
     copy-is-stale (untagged-block 0x58) (kept (before 0x42 clear) B-valid (press 267) firstBlock refl .1 typeX tt .1 .0)
 
@@ -100,10 +99,10 @@ neverTags-breaks-copying kept =
 abbrev threeCells : Field
 threeCells = record { start = 0; length = 3 }
 
-field-listed : (marks : List ℕ) → length marks ≡ 5 → fieldsFrom (unprotected (marks ++ replicate 1915 1)) 80 1920 5 0 ≡ threeCells ∷ [] → List·Memᴰ threeCells (fieldsOf (unprotected (marks ++ replicate 1915 1)) 80 (length (marks ++ replicate 1915 1)))
+pub field-listed : (marks : List ℕ) → length marks ≡ 5 → fieldsFrom (unprotected (marks ++ replicate 1915 1)) 80 1920 5 0 ≡ threeCells ∷ [] → List·Memᴰ threeCells (fieldsOf (unprotected (marks ++ replicate 1915 1)) 80 (length (marks ++ replicate 1915 1)))
 field-listed marks five is = subst (List·Memᴰ threeCells) (sym (sheet-fields marks five ∙ is)) (List·Memᴰ·head refl)
 
-wrongly-omitted : (marks changed : List ℕ) → List·Memᴰ threeCells (fieldsHere (after 0x42 marks)) → changed ≡ emptyBlock → OmitsExactly (changedBlock changed) (after 0x42 marks) (1 ∷ []) → ⊥
+pub wrongly-omitted : (marks changed : List ℕ) → List·Memᴰ threeCells (fieldsHere (after 0x42 marks)) → changed ≡ emptyBlock → OmitsExactly (changedBlock changed) (after 0x42 marks) (1 ∷ []) → ⊥
 unfolding laying OmitsExactly
 wrongly-omitted marks changed listed empty exactly =
     let none : decode changed ≡ [] = ap decode empty in
@@ -111,17 +110,17 @@ wrongly-omitted marks changed listed empty exactly =
     unstored .no-cell 1 (omega arith) (omega arith) (List·Memᴰ·head refl)
 
 -- B is typed where B stands.
-abbrev typeB : List Input
+abbrev pub typeB : List Input
 typeB = press 0x42 ∷ press 266 ∷ []
 
 pub looksAtFirstCells-breaks-omission : Omission looksAtFirstCells → ⊥
-unfolding blockBytes keySteps streams StoresNothing OmissionHolds OmitsExactly storedSince
+unfolding blockBytes keySteps streams HostStoresNothing OmissionHolds OmitsExactly storedSince
 looksAtFirstCells-breaks-omission kept =
     wrongly-omitted secondTagged (firstCellBlock (after 0x42 secondTagged)) (field-listed secondTagged refl refl) (by-first-cells 0x42)
     (kept (before 0x42 clear) B-valid (press 267) firstBlock refl typeB tt .1 .0)
 
 pub tagsOnlyChanges-breaks-omission : Omission tagsOnlyChanges → ⊥
-unfolding blockBytes keySteps streams StoresNothing OmissionHolds OmitsExactly storedSince
+unfolding blockBytes keySteps streams HostStoresNothing OmissionHolds OmitsExactly storedSince
 tagsOnlyChanges-breaks-omission kept =
     wrongly-omitted clear (block false 80 (sheet (texts 0x42) clear)) (field-listed clear refl refl) (untagged-block 0x42)
     (kept (before 0x42 clear) B-valid (press 267) firstBlock refl typeB tt .1 .0)
@@ -143,6 +142,6 @@ wrongly-sent exactly =
     omitted .no-entry entry (subst (λ (bytes : List ℕ). List·Memᴰ entry (decode bytes)) (sym first-tagged-block) (List·Memᴰ·head refl)) refl refl
 
 pub keepsTags-breaks-omission : Omission keepsTags → ⊥
-unfolding keySteps streams isBlock StoresNothing OmissionHolds OmitsExactly storedSince
+unfolding keySteps streams isBlock HostStoresNothing OmissionHolds OmitsExactly storedSince
 keepsTags-breaks-omission kept =
     wrongly-sent (kept (before 0x42 firstTagged) first-tagged-valid (press 267) (block true 80 (sheet (texts 0x42) firstTagged)) refl (press 266 ∷ []) tt .0)

@@ -1,13 +1,12 @@
 -- What goes wrong where a stream is cut, stopped or counted is caught by demand 2, and by calls being steps.
-use mathlib.Core.Path.{_≡_, refl, sym, ap, _∙_}
-use mathlib.Core.Bool.{true, false}
+use mathlib.Core.Path.{refl, ap}
 use mathlib.Core.List.{List, [], _∷_}
 use Prim.Native.Nat.{ℕ}
 use borrow.Author.Tests.{eqb-false}
 use lib.ListN.{length, getD, replicate}
 use Rattle.words.proofs.Choosing.{true-is-not-false}
 use Rattle.steps.specs.Steps.{Terminal, Valid}
-use Rattle.promises.specs.Streams.{read, Total, no-more, done, Read}
+use Rattle.promises.specs.Streams.{read, Total, no-more, done, Read, ended, taken, stopped}
 use Rattle.promises.specs.Promises.{Cutting, Continuing, CallsAreSteps}
 use Rattle.promises.specs.Wrong.{dropsHalfRead, actsOnFirstByte, forgetsCountOn3, takesLastByteOn3, inventsCount, sendsBackwards}
 use Rattle.promises.proofs.Sheets.{sheet, at}
@@ -42,16 +41,22 @@ actsOnFirstByte-breaks-cutting kept =
 abbrev textAndAsk : List ℕ
 textAndAsk = 0x41 ∷ 0x1B ∷ 0x5B ∷ 0x35 ∷ 0x6E ∷ []
 
+abbrev noRoom : Read
+noRoom = bytes textAndAsk
+
+abbrev enoughRoom : Read
+enoughRoom = record { bytes = textAndAsk; output = replicate 4 0 }
+
 pub forgetsCountOn3-breaks-continuing : Continuing forgetsCountOn3 → ⊥
 unfolding calls hostSteps streams
 forgetsCountOn3-breaks-continuing kept =
-    let same = kept form textAndAsk [] (replicate 4 0) (replicate 4 0) refl refl refl in
+    let same = kept form textAndAsk _ _ (stopped noRoom [] refl (taken (record { bytes = 0x6E ∷ []; output = replicate 4 0 }) refl ended)) (taken enoughRoom refl ended) in
     eqb-false 0 1 refl (ap (λ (left : Total). left .stored) same)
 
 pub takesLastByteOn3-breaks-continuing : Continuing takesLastByteOn3 → ⊥
 unfolding calls hostSteps streams
 takesLastByteOn3-breaks-continuing kept =
-    let same = kept form textAndAsk [] (replicate 4 0) (replicate 4 0) refl refl refl in
+    let same = kept form textAndAsk _ _ (stopped noRoom [] refl ended) (taken enoughRoom refl ended) in
     eqb-false 0 4 refl (ap (λ (left : Total). length (left .sent)) same)
 
 -- An empty host call stores nothing.

@@ -14,10 +14,10 @@ use Rattle.steps.specs.Keys.{fieldsHere}
 use Rattle.promises.specs.Streams.{Machine, Input, byte, press}
 
 -- Host bytes follow, as long as each one's step names no cell; keys as they come.
-unfoldable pub StoresNothing : Machine → Terminal → List Input → Type 0
-StoresNothing m t [] = Unit {0}
-StoresNothing m t (byte b ∷ later) = (m .onByte b t .cells ≡ []) × StoresNothing m (m .onByte b t .terminal) later
-StoresNothing m t (press key ∷ later) = StoresNothing m (m .onKey key t .terminal) later
+unfoldable pub HostStoresNothing : Machine → Terminal → List Input → Type 0
+HostStoresNothing m t [] = Unit {0}
+HostStoresNothing m t (byte b ∷ later) = (m .onByte b t .cells ≡ []) × HostStoresNothing m (m .onByte b t .terminal) later
+HostStoresNothing m t (press key ∷ later) = HostStoresNothing m (m .onKey key t .terminal) later
 
 -- The full block of a page as it stands.
 abbrev pub copyOf : Terminal → List ℕ

@@ -1,4 +1,5 @@
 pub mod Streams
+pub mod Contracts
 pub mod Copying
 pub mod Promises
 pub mod Laws

@@ -1,26 +1,28 @@
--- The three demands, in the order of document 01's table and of the demands: each is a predicate over a terminal's functions.
--- `ours` (Streams) is the terminal that the entries' contracts speak of; the theorems are in proofs/Theorems.antt, and Wrong.antt has
--- terminals with one fault each, for which a promise is refuted (proofs/Wrong*.antt).
+-- The three demands: each promise is a predicate over a terminal's functions, and OneResult over what contracts allow.
+-- `ours` (Streams) is the terminal that the entries' contracts speak of. The theorems are in proofs/Theorems.antt; Wrong.antt has
+-- terminals with one fault each, and loose contracts, for which a promise is refuted (proofs/Wrong*.antt).
 use mathlib.Core.Path.{_≡_}
 use mathlib.Core.Bool.{Bool, true, false}
 use mathlib.Core.List.{List, [], _∷_, _++_, map, List·Memᴰ}
 use mathlib.Core.Logic.{_↔_}
 use Prim.Native.Nat.{ℕ, _<_, _≤_}
-use lib.ListN.{length, drop, getD}
+use lib.ListN.{length, getD}
 use Rattle.sequence.specs.Record.{nothingRead}
 use Rattle.page.specs.Marks.{isProtected, unprotected}
 use Rattle.page.specs.Page.{Page}
+use Rattle.blocks.specs.Blocks.{block}
 use Rattle.state.specs.declared.Size.{Size}
 use Rattle.steps.specs.Steps.{Terminal, fullBlock, blockMessage, Stepped, Valid}
-use Rattle.keys.proofs.Claims.{ProtectedKept}
 use Rattle.terminal.specs.Runs.{stepsOf, after, sentBy, storedBy}
 use Rattle.terminal.specs.Calls.{unstarted}
 use Rattle.terminal.specs.Table.{Line3, Decides, startTable, hostTable, keyTable}
 use Rattle.terminal.specs.declared.Reply.{Reply}
-use Rattle.terminal.specs.Answers.{Outcome, given}
 use Rattle.terminal.specs.Claims.{Leaves, Did, SameResult}
-use Rattle.promises.specs.Streams.{Machine, Input, byte, stepOf, steps, Call, outcomes, bytesSent, total, inputsDone, AllDone, Read, reads, joinedBytes}
-use Rattle.promises.specs.Copying.{StoresNothing, copyOf, CopyHolds, OmissionHolds}
+use Rattle.promises.specs.Streams.{Machine, Input, byte, press, stepOf, steps, Call, outcomes, total, inputsDone, AllDone, Read, reads, joinedBytes, readAll, Carries}
+use Rattle.promises.specs.Contracts.{Results, Contracts}
+use Rattle.promises.specs.Copying.{HostStoresNothing, copyOf, CopyHolds, OmissionHolds}
+use Rattle.steps.specs.Claims.{ProtectedKept}
+use Rattle.terminal.specs.Answers.{bytesSent}
 
 -- Demand 1, the numbers: each call is given n exactly when n's line holds and none before it does.
 pub record Numbers (m : Machine) : Type 1 where
@@ -36,13 +38,17 @@ pub record Refusals (m : Machine) : Type 0 where
   pub of-host-3 : (t : Terminal) (bytes output : List ℕ) → m .host t bytes output .number ≡ 3 → (line : Line3 (length output) (stepsOf t bytes)) × Did (length (line .before)) t output (line .before) (m .host t bytes output)
   pub of-key : (t : Terminal) (key : ℕ) (output : List ℕ) → (m .key t key output .number ≡ 0 → ⊥) → Leaves t output (m .key t key output)
 
--- Any two results that a contract allows are equal: each says that what was given and left is one outcome.
-abbrev pub OneResult : Type 0
-OneResult =
-    (one other : Reply) (page there : Page) (output lent : List ℕ) (outcome : Outcome) → given one page output ≡ outcome → given other there lent ≡ outcome →
-    SameResult one other page there output lent
+-- Demand 1, one result: whatever comes in, any two results that the contract of an entry allows are the same.
+abbrev pub AllSame : Results → Type 0
+AllSame allowed =
+    (one other : Reply) (page there : Page) (output lent : List ℕ) → allowed one page output → allowed other there lent → SameResult one other page there output lent
 
--- A start given 0 leaves a valid terminal, and so does any list of calls on a valid one: it never meets 1 or 2 again.
+pub record OneResult (contracts : Contracts) : Type 0 where
+  pub of-start : (size : Size) (page : Page) → AllSame (contracts .start size page)
+  pub of-host : (t : Terminal) (bytes output : List ℕ) → AllSame (contracts .host t bytes output)
+  pub of-key : (t : Terminal) (key : ℕ) (output : List ℕ) → AllSame (contracts .key t key output)
+
+-- Demand 1, validity: a start given 0 leaves a valid terminal, and any list of calls leaves a valid one valid (so, by Numbers, it never meets 1 or 2).
 pub record StaysValid (m : Machine) : Type 0 where
   pub from-start : (size : Size) (page : Page) → m .start size page .number ≡ 0 → Valid (m .start size page .terminal)
   pub through-calls : (t : Terminal) → Valid t → (calls : List Call) → Valid (total t (outcomes m t calls) .terminal)
@@ -51,16 +57,13 @@ pub record StaysValid (m : Machine) : Type 0 where
 abbrev pub Cutting : Machine → Type 0
 Cutting m =
     (t : Terminal) (one other : List Read) → joinedBytes one ≡ joinedBytes other → AllDone (outcomes m t (reads one)) → AllDone (outcomes m t (reads other)) →
-    total t (outcomes m t (reads one)) ≡ total t (outcomes m t (reads other))
+    readAll m t one ≡ readAll m t other
 
--- Demand 2, a call given 3 and then one with the bytes not taken are one stream: they end as one call with room enough does.
+-- Demand 2, calls given 3: reads that carry the same stream, stopped for room wherever and however often, leave, send and store the same.
 abbrev pub Continuing : Machine → Type 0
 Continuing m =
-    (t : Terminal) (bytes short output enough : List ℕ) →
-    let first = m .host t bytes short in
-    let rest = m .host (first .terminal) (drop (first .taken) bytes) output in
-    let whole = m .host t bytes enough in
-    first .number ≡ 3 → rest .number ≡ 0 → whole .number ≡ 0 → total t (first ∷ rest ∷ []) ≡ total t (whole ∷ [])
+    (t : Terminal) (stream : List ℕ) (one other : List Read) → Carries m t stream one → Carries m t stream other →
+    readAll m t one ≡ readAll m t other
 
 -- Demand 2, feeding back: the block that 267 or ESC S wrote, from any terminal that these calls find valid.
 pub data WroteFullBlock (m : Machine) (sender : Terminal) : List ℕ → Type 0 where
@@ -77,60 +80,78 @@ pub record Receives (sender receiver : Terminal) : Type 0 where
 
 pub record FedBack (m : Machine) (sender receiver : Terminal) (block : List ℕ) (cut : List Read) : Type 0 where
   pub answered : AllDone (outcomes m receiver (reads cut))
-  pub nothing-sent : total receiver (outcomes m receiver (reads cut)) .sent ≡ []
+  pub taken-whole : inputsDone m receiver (reads cut) ≡ map byte block
+  pub nothing-sent : readAll m receiver cut .sent ≡ []
   pub nothing-refused : (step : Stepped) → List·Memᴰ step (steps m receiver (map byte block)) → step .wasRefused ≡ false
-  pub characters : (cell : ℕ) → cell < length (sender .page .marks) → unprotected (sender .page .marks) cell ≡ true → getD (total receiver (outcomes m receiver (reads cut)) .terminal .page .characters) cell 0 ≡ getD (sender .page .characters) cell 0
-  pub protected-character : (cell : ℕ) → unprotected (sender .page .marks) cell ≡ false → getD (total receiver (outcomes m receiver (reads cut)) .terminal .page .characters) cell 0 ≡ getD (receiver .page .characters) cell 0
-  pub protection : (cell : ℕ) → cell < length (sender .page .marks) → unprotected (total receiver (outcomes m receiver (reads cut)) .terminal .page .marks) cell ≡ unprotected (sender .page .marks) cell
-  pub protected-mark : (cell : ℕ) → unprotected (sender .page .marks) cell ≡ false → getD (total receiver (outcomes m receiver (reads cut)) .terminal .page .marks) cell 0 ≡ getD (receiver .page .marks) cell 0
+  pub characters : (cell : ℕ) → cell < length (sender .page .marks) → unprotected (sender .page .marks) cell ≡ true → getD (readAll m receiver cut .terminal .page .characters) cell 0 ≡ getD (sender .page .characters) cell 0
+  pub protected-character : (cell : ℕ) → unprotected (sender .page .marks) cell ≡ false → getD (readAll m receiver cut .terminal .page .characters) cell 0 ≡ getD (receiver .page .characters) cell 0
+  pub protection : (cell : ℕ) → cell < length (sender .page .marks) → unprotected (readAll m receiver cut .terminal .page .marks) cell ≡ unprotected (sender .page .marks) cell
+  pub protected-mark : (cell : ℕ) → unprotected (sender .page .marks) cell ≡ false → getD (readAll m receiver cut .terminal .page .marks) cell 0 ≡ getD (receiver .page .marks) cell 0
 
 abbrev pub FeedingBack : Machine → Type 0
 FeedingBack m =
     (sender receiver : Terminal) (block : List ℕ) (cut : List Read) → WroteFullBlock m sender block → Receives sender receiver → joinedBytes cut ≡ block →
     FedBack m sender receiver block cut
 
--- Demand 2: no key ever changes a protected cell, nor which cells are protected; whatever the state, the slices and the room.
+-- Demand 2, keys: none ever changes a protected cell, nor which cells are protected; whatever the state, the slices and the room.
 pub record KeysKeep (m : Machine) : Type 0 where
   pub protected-cells : (t : Terminal) (key : ℕ) (output : List ℕ) (cell : ℕ) → unprotected (t .page .marks) cell ≡ false → ProtectedKept (t .page) (m .key t key output .terminal .page) cell
   pub protection : (t : Terminal) (key : ℕ) (output : List ℕ) (cell : ℕ) → unprotected (m .key t key output .terminal .page .marks) cell ≡ unprotected (t .page .marks) cell
 
--- A block leaves the marks of protected cells as they are, modified too.
+-- Demand 2, sending: a block leaves the marks of protected cells as they are, modified too.
 abbrev pub BlocksKeep : Machine → Type 0
 BlocksKeep m =
     (t : Terminal) → Valid t → (input : Input) (full : Bool) (bytes : List ℕ) → stepOf m input t .message ≡ blockMessage full bytes →
     (cell : ℕ) → unprotected (t .page .marks) cell ≡ false → getD (stepOf m input t .terminal .page .marks) cell 0 ≡ getD (t .page .marks) cell 0
 
+-- Demand 3, blocks. What asks for one, full or changed: 266, 267, and S after ESC.
+pub data Asks (t : Terminal) : Bool → Input → Type 0 where
+  changed-by-266 : Asks t false (press 266)
+  full-by-267 : Asks t true (press 267)
+  full-by-esc-s : t .state .half .kind ≡ 1 → Asks t true (byte 0x53)
+
+-- A step sends a block exactly when it is asked for, and it is that of the page as it stands.
+abbrev pub SendsBlocks : Machine → Type 0
+SendsBlocks m =
+    (t : Terminal) → Valid t → (input : Input) (full : Bool) (bytes : List ℕ) →
+    (stepOf m input t .message ≡ blockMessage full bytes) ↔ (Asks t full input × (bytes ≡ block full (t .state .size .columns) (t .page)))
+
 -- Demand 3, the copy: after a full block, wherever it was sent, keys and host bytes that store nothing follow.
 abbrev pub Copying : Machine → Type 0
 Copying m =
     (t : Terminal) → Valid t → (first : Input) (block : List ℕ) → stepOf m first t .message ≡ fullBlock block →
-    (block ≡ copyOf (stepOf m first t .terminal)) × ((inputs : List Input) → StoresNothing m (stepOf m first t .terminal) inputs → CopyHolds block (steps m (stepOf m first t .terminal) inputs))
+    let there = stepOf m first t .terminal in
+    (block ≡ copyOf there) × ((inputs : List Input) → HostStoresNothing m there inputs → CopyHolds block (steps m there inputs))
 
 -- Demand 3, omission, over the same inputs.
 abbrev pub Omission : Machine → Type 0
 Omission m =
     (t : Terminal) → Valid t → (first : Input) (block : List ℕ) → stepOf m first t .message ≡ fullBlock block →
-    (inputs : List Input) → StoresNothing m (stepOf m first t .terminal) inputs → OmissionHolds (stepOf m first t .terminal) [] (steps m (stepOf m first t .terminal) inputs)
+    let there = stepOf m first t .terminal in
+    (inputs : List Input) → HostStoresNothing m there inputs → OmissionHolds there [] (steps m there inputs)
 
 -- Calls are the steps of what they did: their bytes are those messages joined, their count the cells that those steps name.
 abbrev pub CallsAreSteps : Machine → Type 0
 CallsAreSteps m =
     (t : Terminal) → Valid t → (calls : List Call) →
-    total t (outcomes m t calls) ≡ record { terminal = after t (steps m t (inputsDone m t calls)); sent = sentBy (steps m t (inputsDone m t calls)); stored = length (storedBy (steps m t (inputsDone m t calls))) }
+    let done = steps m t (inputsDone m t calls) in
+    total t (outcomes m t calls) ≡ record { terminal = after t done; sent = sentBy done; stored = length (storedBy done) }
 
 -- Demand 3, of calls: wherever in a list of calls the full block was sent, in the middle of a host call too, also of one given 3.
--- What the calls sent are the messages before it, the block, and the messages after it; over those, the copy and omission hold.
-pub record CopiedOver (m : Machine) (t : Terminal) (calls : List Call) (before : List Input) (first : Input) (later : List Input) (block : List ℕ) : Type 0 where
-  pub sent : total t (outcomes m t calls) .sent ≡ sentBy (steps m t before) ++ (block ++ sentBy (steps m (stepOf m first (after t (steps m t before)) .terminal) later))
-  pub at-first : block ≡ copyOf (stepOf m first (after t (steps m t before)) .terminal)
-  pub copy : CopyHolds block (steps m (stepOf m first (after t (steps m t before)) .terminal) later)
-  pub omission : OmissionHolds (stepOf m first (after t (steps m t before)) .terminal) [] (steps m (stepOf m first (after t (steps m t before)) .terminal) later)
+-- What the calls sent is the messages before it, the block, and the messages after it; over those, the copy and omission hold.
+-- `there` is the terminal that the block's step left.
+pub record CopiedOver (m : Machine) (t : Terminal) (calls : List Call) (before : List Input) (block : List ℕ) (there : Terminal) (later : List Input) : Type 0 where
+  pub sent : total t (outcomes m t calls) .sent ≡ sentBy (steps m t before) ++ (block ++ sentBy (steps m there later))
+  pub at-first : block ≡ copyOf there
+  pub copy : CopyHolds block (steps m there later)
+  pub omission : OmissionHolds there [] (steps m there later)
 
 abbrev pub CopyingCalls : Machine → Type 0
 CopyingCalls m =
     (t : Terminal) → Valid t → (calls : List Call) (before : List Input) (first : Input) (later : List Input) (block : List ℕ) →
-    inputsDone m t calls ≡ before ++ (first ∷ later) → stepOf m first (after t (steps m t before)) .message ≡ fullBlock block →
-    StoresNothing m (stepOf m first (after t (steps m t before)) .terminal) later → CopiedOver m t calls before first later block
+    inputsDone m t calls ≡ before ++ (first ∷ later) →
+    let step = stepOf m first (after t (steps m t before)) in
+    step .message ≡ fullBlock block → HostStoresNothing m (step .terminal) later → CopiedOver m t calls before block (step .terminal) later
 
 -- No block that is sent exceeds 35,185 bytes.
 abbrev pub Bounded : Machine → Type 0

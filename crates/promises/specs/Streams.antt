@@ -3,14 +3,14 @@ use mathlib.Core.Path.{_≡_}
 use mathlib.Core.List.{List, [], _∷_, _++_, map}
 use Prim.Native.Nat.{ℕ, _+_}
 use lib.Dec.{eqb}
-use lib.ListN.{take}
+use lib.ListN.{take, drop}
 use Rattle.words.specs.Choice.{if_then_else_}
 use Rattle.page.specs.Page.{Page}
 use Rattle.state.specs.declared.Size.{Size}
 use Rattle.steps.specs.Steps.{Terminal, Stepped}
 use Rattle.steps.specs.Host.{hostStep}
 use Rattle.steps.specs.Keys.{keyStep}
-use Rattle.terminal.specs.Answers.{Outcome}
+use Rattle.terminal.specs.Answers.{Outcome, bytesSent}
 use Rattle.terminal.specs.Calls.{startCall, hostCall, keyCall}
 
 -- The step of a host byte and of a key; the calls: start, host bytes and a key, the last two with the output lent.
@@ -41,11 +41,11 @@ steps m t (input ∷ later) = let step = stepOf m input t in step ∷ steps m (s
 -- A call: host bytes or a key, with an output of its own.
 pub data Call : Type 0 where
   read : List ℕ → List ℕ → Call
-  typing : ℕ → List ℕ → Call
+  keyPress : ℕ → List ℕ → Call
 
 unfoldable pub outcomeOf : Machine → Call → Terminal → Outcome
 outcomeOf m (read bytes output) t = m .host t bytes output
-outcomeOf m (typing key output) t = m .key t key output
+outcomeOf m (keyPress key output) t = m .key t key output
 
 -- In a sequence of calls each gets the page and state that the one before left.
 unfoldable pub outcomes : Machine → Terminal → List Call → List Outcome
@@ -58,9 +58,6 @@ pub record Total : Type 0 where
   pub sent : List ℕ
   pub stored : ℕ
 
-abbrev pub bytesSent : Outcome → List ℕ
-bytesSent outcome = take (outcome .sent) (outcome .output)
-
 unfoldable pub total : Terminal → List Outcome → Total
 total t [] = record { terminal = t; sent = []; stored = 0 }
 total t (outcome ∷ later) =
@@ -70,7 +67,7 @@ total t (outcome ∷ later) =
 -- The inputs that a call did: the bytes taken, also of a call given 3; the key of a call given 0. A refused call did none.
 unfoldable pub inputsOf : Call → Outcome → List Input
 inputsOf (read bytes output) outcome = map byte (take (outcome .taken) bytes)
-inputsOf (typing key output) outcome =
+inputsOf (keyPress key output) outcome =
     if eqb (outcome .number) 0 then press key ∷ []
     else []
 
@@ -94,3 +91,18 @@ reads list = map (λ (r : Read). read (r .bytes) (r .output)) list
 unfoldable pub joinedBytes : List Read → List ℕ
 joinedBytes [] = []
 joinedBytes (r ∷ later) = r .bytes ++ joinedBytes later
+
+-- What reads leave together.
+abbrev pub readAll : Machine → Terminal → List Read → Total
+readAll m t list = total t (outcomes m t (reads list))
+
+-- One read; and reads that carry a stream: one given 0 took its bytes; after one given 3 the others carry on with the bytes that it didn't take.
+abbrev pub readOne : Machine → Terminal → Read → Outcome
+readOne m t r = m .host t (r .bytes) (r .output)
+
+pub data Carries (m : Machine) : Terminal → List ℕ → List Read → Type 0 where
+  ended : {t : Terminal} → Carries m t [] []
+  taken : {t : Terminal} (r : Read) {later : List ℕ} {further : List Read} → readOne m t r .number ≡ 0
+      → Carries m (readOne m t r .terminal) later further → Carries m t (r .bytes ++ later) (r ∷ further)
+  stopped : {t : Terminal} (r : Read) (later : List ℕ) {further : List Read} → readOne m t r .number ≡ 3
+      → Carries m (readOne m t r .terminal) (drop (readOne m t r .taken) (r .bytes) ++ later) further → Carries m t (r .bytes ++ later) (r ∷ further)

@@ -1,11 +1,12 @@
--- Wrong terminals, each ours with one thing changed: a promise that one of these kept would say nothing.
+-- Wrong terminals, each ours with one thing changed, and contracts that leave something open: a promise that one of these kept would say nothing.
 -- That each breaks its promise is proved in proofs/Wrong*.antt.
+use mathlib.Core.Path.{_≡_}
 use mathlib.Core.Bool.{Bool, true, false}
 use mathlib.Core.List.{List, [], _∷_, _++_, map, reverse}
 use Prim.Native.Nat.{ℕ, _+_}
 use lib.Dec.{ltb, eqb}
-use lib.ListN.{length, take, drop, getD, set, replicate}
-use Rattle.words.specs.Choice.{if_then_else_, _and_, _or_}
+use lib.ListN.{length, take, getD, set, replicate}
+use Rattle.words.specs.Choice.{if_then_else_, _and_}
 use Rattle.words.specs.Lists.{selected}
 use Rattle.words.specs.Output.{placed}
 use Rattle.sequence.specs.Record.{nothingRead}
@@ -17,19 +18,27 @@ use Rattle.state.specs.declared.Size.{Size}
 use Rattle.state.specs.State.{withCursor, withLocks, withHalf}
 use Rattle.steps.specs.Steps.{Terminal, Message, silent, report, fullBlock, changedBlock, Stepped, withState, stores, sends, cursorCell, rowStart}
 use Rattle.steps.specs.Host.{hostStep}
-use Rattle.steps.specs.Keys.{isTyping, isLocked, fieldsHere, run, keyStep}
-use Rattle.terminal.specs.declared.Answer.the-variants.{Done, Locked, TooLong}
-use Rattle.terminal.specs.Runs.{stepsOf, sentBy}
-use Rattle.terminal.specs.Answers.{Outcome, unchanged, did}
+use Rattle.steps.specs.Keys.{isTyping, isLocked, fieldsHere, cellsFrom, keyStep}
+use Rattle.terminal.specs.declared.Answer.the-variants.{Done, NoRoom, Locked, TooLong}
+use Rattle.terminal.specs.Runs.{stepsOf, fitting, sentBy}
+use Rattle.terminal.specs.Answers.{Outcome, given, unchanged, did, gives, bytesSent}
+use Rattle.terminal.specs.Lines.{_answers_, firstOf, exceedsRoom, keyLines}
 use Rattle.terminal.specs.Calls.{startCall, hostCall, keyCall}
 use Rattle.promises.specs.Streams.{Machine, ours}
+use Rattle.promises.specs.Contracts.{Contracts}
 
--- Ours with another function for one of the five.
+-- Ours with another function for one of the five. With another step of a key goes the key call that does it, after lines 1, 2, 4, 5 and 7.
 abbrev withOnByte : (ℕ → Terminal → Stepped) → Machine
 withOnByte onByte = record { onByte = onByte; onKey = ours .onKey; start = ours .start; host = ours .host; key = ours .key }
 
+abbrev pub keyCallBy : (ℕ → Terminal → Stepped) → Terminal → ℕ → List ℕ → Outcome
+keyCallBy onKey t key output =
+    let room = length output in
+    let pressed = onKey key t ∷ [] in
+    gives (firstOf (take 5 (keyLines t key output) ++ (exceedsRoom room pressed answers NoRoom ∷ []))) 0 t output (fitting room pressed)
+
 abbrev withOnKey : (ℕ → Terminal → Stepped) → Machine
-withOnKey onKey = record { onByte = ours .onByte; onKey = onKey; start = ours .start; host = ours .host; key = ours .key }
+withOnKey onKey = record { onByte = ours .onByte; onKey = onKey; start = ours .start; host = ours .host; key = keyCallBy onKey }
 
 abbrev withStart : (Size → Page → Outcome) → Machine
 withStart start = record { onByte = ours .onByte; onKey = ours .onKey; start = start; host = ours .host; key = ours .key }
@@ -40,7 +49,7 @@ withHost host = record { onByte = ours .onByte; onKey = ours .onKey; start = our
 abbrev withKey : (Terminal → ℕ → List ℕ → Outcome) → Machine
 withKey key = record { onByte = ours .onByte; onKey = ours .onKey; start = ours .start; host = ours .host; key = key }
 
--- An outcome with another terminal, other bytes taken, another count.
+-- An outcome with another terminal, other bytes taken, another count, another output.
 abbrev leaving : Terminal → Outcome → Outcome
 leaving t o = record { number = o .number; taken = o .taken; sent = o .sent; stored = o .stored; terminal = t; output = o .output }
 
@@ -49,6 +58,9 @@ taking taken o = record { number = o .number; taken = taken; sent = o .sent; sto
 
 abbrev counting : ℕ → Outcome → Outcome
 counting stored o = record { number = o .number; taken = o .taken; sent = o .sent; stored = stored; terminal = o .terminal; output = o .output }
+
+abbrev pub showing : List ℕ → Outcome → Outcome
+showing output o = record { number = o .number; taken = o .taken; sent = o .sent; stored = o .stored; terminal = o .terminal; output = output }
 
 -- A terminal with another page, with nothing half read, with no cell modified.
 abbrev withPage : Page → Terminal → Terminal
@@ -59,6 +71,22 @@ withNothingRead t = withState t (withHalf (t .state) nothingRead)
 
 abbrev withTagsCleared : Terminal → Terminal
 withTagsCleared t = withPage (pageOf (t .page .characters) (modifiedCleared (t .page .marks))) t
+
+-- An outcome that leaves nothing half read; one changed only where it is given 3.
+abbrev withoutHalfRead : Outcome → Outcome
+withoutHalfRead o = leaving (withNothingRead (o .terminal)) o
+
+abbrev on3 : (Outcome → Outcome) → Outcome → Outcome
+on3 change o = if eqb (o .number) 3 then change o else o
+
+-- Ours with what every host call gives and leaves changed; ours with another message for 266 or 267.
+abbrev changingHost : (Outcome → Outcome) → Machine
+changingHost change = withHost (λ t bytes output. change (hostCall t bytes output))
+
+abbrev sendingOn : ℕ → (Terminal → Message) → Machine
+sendingOn sendKey message = withOnKey (λ key t.
+    if eqb key sendKey then sends (message t) (t .state) (withTagsCleared t .page)
+    else keyStep key t)
 
 -- Numbers. It always refuses: every host call is given 6.
 abbrev pub alwaysRefuses : Machine
@@ -80,23 +108,35 @@ blanksRefusedStart = withStart (λ size page.
 
 -- A tag cleared though the block was refused for room.
 abbrev pub clearsTagsRefused : Machine
-clearsTagsRefused = withKey (λ t key output.
-    let given = keyCall t key output in
-    if eqb (given .number) 3 then leaving (withTagsCleared t) given
-    else given)
+clearsTagsRefused = withKey (λ t key output. on3 (leaving (withTagsCleared t)) (keyCall t key output))
 
 -- A host call given 3 loses the sequence that its next command has begun.
 abbrev pub losesSequenceOn3 : Machine
-losesSequenceOn3 = withHost (λ t bytes output.
-    let given = hostCall t bytes output in
-    if eqb (given .number) 3 then leaving (withNothingRead (given .terminal)) given
-    else given)
+losesSequenceOn3 = changingHost (on3 withoutHalfRead)
+
+-- One result. Contracts that compare only what is seen of an outcome.
+abbrev seeing : (Outcome → Outcome) → Contracts
+seeing seen = record {
+  start = λ size page reply left output. seen (given reply left output) ≡ seen (startCall size page);
+  host = λ t bytes lent reply left output. seen (given reply left output) ≡ seen (hostCall t bytes lent);
+  key = λ t key lent reply left output. seen (given reply left output) ≡ seen (keyCall t key lent);
+}
+
+-- They leave open the output past the bytes sent,
+abbrev pub openPastSent : Contracts
+openPastSent = seeing (λ o. showing (bytesSent o) o)
+
+-- or the count of cells stored,
+abbrev pub openCount : Contracts
+openCount = seeing (counting 0)
+
+-- or the half-read record.
+abbrev pub openHalfRead : Contracts
+openHalfRead = seeing withoutHalfRead
 
 -- Validity. A host call leaves the cursor in row 0.
 abbrev pub leavesRow0 : Machine
-leavesRow0 = withHost (λ t bytes output.
-    let given = hostCall t bytes output in
-    leaving (withState (given .terminal) (withCursor (given .terminal .state) 0 (given .terminal .state .cursor .column))) given)
+leavesRow0 = changingHost (λ o. leaving (withState (o .terminal) (withCursor (o .terminal .state) 0 (o .terminal .state .cursor .column))) o)
 
 -- A key sets message 2.
 abbrev pub setsMessage2 : Machine
@@ -106,7 +146,7 @@ setsMessage2 = withKey (λ t key output.
 
 -- Cutting. Part of a sequence dropped at a read's end.
 abbrev pub dropsHalfRead : Machine
-dropsHalfRead = withHost (λ t bytes output. let given = hostCall t bytes output in leaving (withNothingRead (given .terminal)) given)
+dropsHalfRead = changingHost withoutHalfRead
 
 -- It acts on the first byte and feigns the rest.
 abbrev pub actsOnFirstByte : Machine
@@ -114,17 +154,11 @@ actsOnFirstByte = withHost (λ t bytes output. taking (length bytes) (hostCall t
 
 -- Continuing. A call given 3 gives counts of 0, though commands before it were done.
 abbrev pub forgetsCountOn3 : Machine
-forgetsCountOn3 = withHost (λ t bytes output.
-    let given = hostCall t bytes output in
-    if eqb (given .number) 3 then counting 0 given
-    else given)
+forgetsCountOn3 = changingHost (on3 (counting 0))
 
 -- A call given 3 takes the last byte of the command that it doesn't do.
 abbrev pub takesLastByteOn3 : Machine
-takesLastByteOn3 = withHost (λ t bytes output.
-    let given = hostCall t bytes output in
-    if eqb (given .number) 3 then taking (given .taken + 1) given
-    else given)
+takesLastByteOn3 = changingHost (on3 (λ o. taking (o .taken + 1) o))
 
 -- Feeding back. It stores nothing that the host sends.
 abbrev pub storesNoText : Machine
@@ -143,7 +177,7 @@ abbrev rowBlanked : Terminal → Stepped
 rowBlanked t =
     let from = rowStart (t .state) in
     let end = from + t .state .size .columns in
-    stores (run from end) false (t .state) (partStored blanked from end (t .page))
+    stores (cellsFrom from end) false (t .state) (partStored blanked from end (t .page))
 
 abbrev pub blanksRow : Machine
 blanksRow = withKey (λ t key output.
@@ -180,21 +214,21 @@ clearsAllTags = withOnKey (λ key t. pageAfterBlock (λ page. pageOf (page .char
 abbrev pub unprotectsFirst : Machine
 unprotectsFirst = withOnByte (λ b t. pageAfterBlock (λ page. pageOf (page .characters) (set (page .marks) 0 0)) (hostStep b t))
 
+-- 266 clears modified and sends nothing.
+abbrev pub withholdsChanged : Machine
+withholdsChanged = sendingOn 266 (λ t. silent)
+
 -- The copy. A changed block has those fields whose first cell is modified.
 unfoldable pub firstCellBlock : Terminal → List ℕ
 firstCellBlock t =
     encode (map (entryOf (t .state .size .columns) (t .page .characters)) (selected (λ (field : Field). isModified (getD (t .page .marks) (field .start) 0)) (fieldsHere t)))
 
 abbrev pub looksAtFirstCells : Machine
-looksAtFirstCells = withOnKey (λ key t.
-    if eqb key 266 then sends (changedBlock (firstCellBlock t)) (t .state) (withTagsCleared t .page)
-    else keyStep key t)
+looksAtFirstCells = sendingOn 266 (λ t. changedBlock (firstCellBlock t))
 
 -- A changed block is feigned: 03 alone, whatever was typed.
 abbrev pub feignsChangedBlocks : Machine
-feignsChangedBlocks = withOnKey (λ key t.
-    if eqb key 266 then sends (changedBlock (0x03 ∷ [])) (t .state) (withTagsCleared t .page)
-    else keyStep key t)
+feignsChangedBlocks = sendingOn 266 (λ t. changedBlock (0x03 ∷ []))
 
 -- A key that stores leaves the tag clear, always,
 abbrev untagged : Terminal → Stepped → Stepped
@@ -215,29 +249,18 @@ keepsTags = withOnKey (λ key t. pageAfterBlock (λ page. t .page) (keyStep key 
 
 -- Calls. An invented count of cells stored.
 abbrev pub inventsCount : Machine
-inventsCount = withHost (λ t bytes output. let given = hostCall t bytes output in counting (given .stored + 1) given)
+inventsCount = changingHost (λ o. counting (o .stored + 1) o)
 
 -- The messages of a host call, the last one first.
 abbrev pub sendsBackwards : Machine
 sendsBackwards = withHost (λ t bytes output.
     let given = hostCall t bytes output in
-    record {
-      number = given .number;
-      taken = given .taken;
-      sent = given .sent;
-      stored = given .stored;
-      terminal = given .terminal;
-      output = placed 0 (sentBy (reverse (stepsOf t (take (given .taken) bytes)))) output;
-    })
+    showing (placed 0 (sentBy (reverse (stepsOf t (take (given .taken) bytes)))) output) given)
 
--- The bound. A full block ends with 03 twice,
+-- Blocks asked for, and the bound. A full block ends with 03 twice,
 abbrev pub endsTwice : Machine
-endsTwice = withOnKey (λ key t.
-    if eqb key 267 then sends (fullBlock (block true (t .state .size .columns) (t .page) ++ (0x03 ∷ []))) (t .state) (withTagsCleared t .page)
-    else keyStep key t)
+endsTwice = sendingOn 267 (λ t. fullBlock (block true (t .state .size .columns) (t .page) ++ (0x03 ∷ [])))
 
 -- or a changed block is 35,186 bytes of 03, whatever the page.
 abbrev pub sendsFixedBlock : Machine
-sendsFixedBlock = withOnKey (λ key t.
-    if eqb key 266 then sends (changedBlock (replicate 35186 0x03)) (t .state) (withTagsCleared t .page)
-    else keyStep key t)
+sendsFixedBlock = sendingOn 266 (λ t. changedBlock (replicate 35186 0x03))

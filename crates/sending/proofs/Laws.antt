@@ -9,19 +9,19 @@ use Rattle.words.proofs.Choosing.{either-way, then-case, else-case}
 use Rattle.page.specs.Page.{Page, pageOf}
 use Rattle.blocks.specs.declared.Sent.{Sent}
 use Rattle.blocks.specs.declared.Sent.the-variants.{Bytes, NoRoom}
-use Rattle.blocks.specs.Blocks.{block, Sending, sending}
+use Rattle.blocks.specs.Blocks.{block, BlockSent, sending}
 use Rattle.state.specs.declared.State.{State}
-use Rattle.steps.specs.Told.{Told, tellsFull, Written, written}
+use Rattle.steps.specs.Told.{Told, tellsExceeding, Written, written}
 use Rattle.steps.specs.Commands.{sendBlock}
 use Rattle.steps.proofs.Writing.{block-bytes}
 
 -- What the code makes of a block's answer.
 abbrev pub toldOf : State → State → List ℕ → Sent → List ℕ → Told
 toldOf state before characters (Bytes bytes) marks =
-    record { terminal = record { state = state; page = pageOf characters marks }; stored = 0; sent = bytes; wasRefused = false; protection = false; full = false }
-toldOf state before characters NoRoom marks = tellsFull (record { state = before; page = pageOf characters marks })
+    record { terminal = record { state = state; page = pageOf characters marks }; stored = 0; sent = bytes; wasRefused = false; protection = false; exceeds = false }
+toldOf state before characters NoRoom marks = tellsExceeding (record { state = before; page = pageOf characters marks })
 
-abbrev writtenOf : State → State → List ℕ → Sending → Written
+abbrev writtenOf : State → State → List ℕ → BlockSent → Written
 writtenOf state before characters s = record { told = toldOf state before characters (s .answer) (s .marks); output = s .output }
 
 -- That is the step that sends a block.

@@ -1,5 +1,5 @@
-// Document 01, "Commands": the commands that send, a report or a full block. Where the message doesn't fit nothing happens.
-// `before` is the state before the command's last byte, which is then handed back.
+// What sends: a report, or a block, full or changed.
+// `before` is the state before the command's last byte; it is handed back where the message doesn't fit, and then nothing happens.
 use state::State;
 use steps::Step;
 ghost use mathlib.Core.Path.{_≡_};
@@ -9,13 +9,13 @@ ghost use lib.ListN.{length};
 ghost use Rattle.words.specs.Output.{Wrote};
 ghost use Rattle.page.specs.Page.{Page, pageOf};
 ghost use Rattle.state.specs.State.{OnPage};
-ghost use Rattle.steps.specs.Steps.{Valid};
-ghost use Rattle.steps.specs.Told.{told, tellsFull, written};
+ghost use Rattle.steps.specs.Steps.{Valid, terminalOf};
+ghost use Rattle.steps.specs.Told.{told, tellsExceeding, written};
 ghost use Rattle.steps.specs.Commands.{readyBytes, readyReport, cursorReport, statusReport, sendBlock};
 
 // A message that doesn't fit: its command has no effect.
 fn no_room(before: State) -> Step
-    ensures { λ r. ⌜ ((page : Page) → told r page ≡ tellsFull (record { state = before; page = page })) ⌝ }
+    ensures { λ r. ⌜ ((page : Page) → told r page ≡ tellsExceeding (record { state = before; page = page })) ⌝ }
 {
     Step {
         state: before,
@@ -23,13 +23,13 @@ fn no_room(before: State) -> Step
         sent: 0,
         refused: false,
         protection: false,
-        full: true,
+        exceeds: true,
     }
 }
 
 // A message of so many bytes was sent.
 fn sent(state: State, bytes: usize) -> Step
-    ensures { λ r. ⌜ r ≡ record { state = state; stored = 0; sent = bytes; refused = false; protection = false; full = false } ⌝ }
+    ensures { λ r. ⌜ r ≡ record { state = state; stored = 0; sent = bytes; refused = false; protection = false; exceeds = false } ⌝ }
 {
     Step {
         state,
@@ -37,7 +37,7 @@ fn sent(state: State, bytes: usize) -> Step
         sent: bytes,
         refused: false,
         protection: false,
-        full: false,
+        exceeds: false,
     }
 }
 
@@ -105,9 +105,9 @@ pub fn send_block(
     at: usize,
     full: bool,
 ) -> Step
-    requires { ⌜ Valid (record { state = state; page = pageOf (now characters) (now marks) }) ⌝ }
+    requires { ⌜ Valid (terminalOf state (now characters) (now marks)) ⌝ }
     requires { ⌜ at ≤ length (now out) ⌝ }
-    ensures { λ r. ⌜ record { told = told r (pageOf (now (characters .entry)) (now (marks .exit))); output = now (out .exit) } ≡ written at (now (out .entry)) (record { state = before; page = pageOf (now (characters .entry)) (now (marks .entry)) }) (sendBlock full (record { state = state; page = pageOf (now (characters .entry)) (now (marks .entry)) })) ⌝ }
+    ensures { λ r. ⌜ record { told = told r (pageOf (now (characters .entry)) (now (marks .exit))); output = now (out .exit) } ≡ written at (now (out .entry)) (terminalOf before (now (characters .entry)) (now (marks .entry))) (sendBlock full (terminalOf state (now (characters .entry)) (now (marks .entry)))) ⌝ }
 {
     let answer = blocks::send_block(out, at, characters, marks, state.size.columns, full);
     match answer {

@@ -1,4 +1,4 @@
--- Document 01, "Reading host bytes", rule by rule: what one host byte does to the half-read record, and the event it gives.
+-- Document 01, "Reading host bytes", rule by rule (its bullets, numbered from 1): what one host byte does to the half-read record, and the event it gives.
 -- What an event does to the terminal is told by later definitions.
 use mathlib.Core.Bool.{Bool}
 use Prim.Native.Nat.{ℕ, _-_}
@@ -56,7 +56,7 @@ afterBracket half byte =
     else if half .spoilt then ends Refused
     else ends (BracketCommand byte)
 
--- Rules 3 to 6, inside a sequence. The last line is for every other byte below 20, 7F, and 80 to FF: not executed.
+-- Rules 3 to 6, inside a sequence. The last line is for every other byte below 20, 7F, and 80 to FF: refused, and not executed.
 unfoldable pub insideSequence : HalfRead → ℕ → Advanced
 insideSequence half byte =
     if isCancel byte then ends Nothing

@@ -1,3 +1,4 @@
 pub mod Laws
 pub mod Keeping
 pub mod Lines
+pub mod Pens

@@ -34,4 +34,5 @@ pub data Line2 (s : State) (page : Page) : Type 0 where
   pen-bit-7 : 0x80 ≤ s .modes .pen → Line2 s page
   pen-modified : isModified (s .modes .pen) ≡ true → Line2 s page
   message-neither-0-nor-1 : (s .locks .message ≡ 0 → ⊥) → (s .locks .message ≡ 1 → ⊥) → Line2 s page
+  -- (the record's range is told in sequence/specs/Record.antt)
   half-read-out-of-range : validHalfRead (s .half) ≡ false → Line2 s page

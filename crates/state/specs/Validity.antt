@@ -23,7 +23,7 @@ listedColumns columns = eqb columns 80 or eqb columns 132 or eqb columns 160
 unfoldable pub listedSize : Size → Bool
 listedSize size = listedRows (size .rows) and listedColumns (size .columns)
 
--- Line 1 is not given: the size is listed, and both lent slices are R x C long.
+-- True where line 1 is not given: the size is listed, and both lent slices are R x C long.
 unfoldable pub sizeFits : Size → Page → Bool
 sizeFits size page =
     listedSize size

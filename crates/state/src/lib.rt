@@ -21,11 +21,13 @@ pub struct Cursor {
     pub column: usize,
 }
 
+// The pen, and the one mode, erasure.
 pub struct Modes {
     pub pen: u8,
     pub erasure: bool,
 }
 
+// Manual input disabled, the soft lock, and the message: 0 none, 1 INVALID CMD.
 pub struct Locks {
     pub manual: bool,
     pub soft: bool,
@@ -37,6 +39,7 @@ pub struct State {
     pub cursor: Cursor,
     pub modes: Modes,
     pub locks: Locks,
+    // column 1 first
     pub stops: [bool; 160],
     pub half: HalfRead,
 }
@@ -55,7 +58,7 @@ const PLAIN: Modes = Modes {
     erasure: false,
 };
 
-const FREE: Locks = Locks {
+const UNLOCKED: Locks = Locks {
     manual: false,
     soft: false,
     message: 0,
@@ -280,7 +283,7 @@ impl State {
             size,
             cursor: HOME,
             modes: PLAIN,
-            locks: FREE,
+            locks: UNLOCKED,
             stops: [false; 160],
             half: sequence::NOTHING_READ,
         }
@@ -294,7 +297,7 @@ impl State {
             size: NO_SIZE,
             cursor: NOWHERE,
             modes: PLAIN,
-            locks: FREE,
+            locks: UNLOCKED,
             stops: [false; 160],
             half: sequence::NOTHING_READ,
         }
@@ -451,7 +454,7 @@ impl State {
         next
     }
 
-    // A refused command: every refusal of a command comes through here.
+    // The state after a refused command; `steps::refuse` calls this.
     pub fn refuse(self) -> Self
         ensures { λ r. ⌜ r ≡ refused self ⌝ }
     {
@@ -475,7 +478,7 @@ impl State {
     pub fn enable_input(self) -> Self
         ensures { λ r. ⌜ r ≡ inputEnabled self ⌝ }
     {
-        self.with_locks(FREE)
+        self.with_locks(UNLOCKED)
     }
 
     // Key 268.

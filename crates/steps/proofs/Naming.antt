@@ -7,7 +7,7 @@ use Prim.Native.Nat.{ℕ, zero, suc, _+_, _-_, _<_, _≤_}
 use native.Mathlib.Omega.{arith}
 use lib.ListN.{length, getD}
 use lib.Seq.{ext-getD}
-use Rattle.words.specs.Lists.{placesFrom}
+use Rattle.words.specs.Lists.{numbersFrom}
 use Rattle.words.proofs.Choosing.{either-line}
 use Rattle.page.specs.Marks.{isProtected, unprotected}
 use Rattle.page.specs.Page.{Page}
@@ -22,8 +22,8 @@ from-earlier {earlier} l (next cell h k rest) = next {first = earlier} cell (ome
 
 -- The places that pass a test.
 module _ (test : ℕ → Bool) (end : ℕ) where
-  pub places-rise : (i n : ℕ) → i + n ≤ end → Rising end i (placesFrom test i n)
-  unfolding placesFrom
+  pub places-rise : (i n : ℕ) → i + n ≤ end → Rising end i (numbersFrom test i n)
+  unfolding numbersFrom
   places-rise i zero h = none
   places-rise i (suc n) h =
       let later = places-rise (i + 1) n (omega arith) in

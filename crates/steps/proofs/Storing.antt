@@ -8,7 +8,7 @@ use borrow.Author.Tests.{leb-true, ltb-true}
 use lib.ListN.{length, getD, set, replicate, length-replicate}
 use lib.Seq.{getD-set-other}
 use Rattle.words.specs.Choice.{_and_, _or_}
-use Rattle.words.specs.Lists.{within, placesFrom}
+use Rattle.words.specs.Lists.{within, numbersFrom}
 use Rattle.words.proofs.Choosing.{true-is-not-false, else-case, either-line, either-way, both, both-hold, range-is}
 use Rattle.words.proofs.Writing.{each-at, outside-part}
 use Rattle.words.proofs.Passing.{every-replicate}
@@ -90,7 +90,7 @@ module _ (page : Page) (valid : validPage page ≡ true) where
     down-stored columns fits = all-stored (scrolledDown columns page) (scrolled-down-same-size page columns fits same) (scrolled-down-keeps-valid page valid columns)
 
     -- a part, by any change that keeps its length and validity
-    pub part-stored : {change : List ℕ → List ℕ} → KeepsPart change → (from to : ℕ) → from < to → to ≤ length (page .marks) → Stored page (placesFrom (λ _. true) from (to - from)) false (partStored change from to page)
+    pub part-stored : {change : List ℕ → List ℕ} → KeepsPart change → (from to : ℕ) → from < to → to ≤ length (page .marks) → Stored page (numbersFrom (λ _. true) from (to - from)) false (partStored change from to page)
     unfolding markLeft
     part-stored {change} keeps from to some fits = record {
       size = part-same-size page keeps from to some (omega arith);

@@ -12,7 +12,7 @@ use Rattle.words.proofs.Output.{wrote-none}
 use Rattle.page.specs.Page.{Page}
 use Rattle.steps.specs.declared.Step.{Step}
 use Rattle.steps.specs.Steps.{Terminal, Stepped, bytesOf, blockMessage}
-use Rattle.steps.specs.Told.{told, tells, tellsFull, written}
+use Rattle.steps.specs.Told.{told, tells, tellsExceeding, written}
 
 -- The bytes of a block are those that were put in.
 pub block-bytes : (full : Bool) (bytes : List ℕ) → bytesOf (blockMessage full bytes) ≡ bytes
@@ -21,7 +21,7 @@ block-bytes true bytes = refl
 block-bytes false bytes = refl
 
 module _ (at : ℕ) (output : List ℕ) (before : Terminal) (stepped : Stepped) where
-  pub no-room : length output - at < length (bytesOf (stepped .message)) → written at output before stepped ≡ record { told = tellsFull before; output = output }
+  pub no-room : length output - at < length (bytesOf (stepped .message)) → written at output before stepped ≡ record { told = tellsExceeding before; output = output }
   unfolding written
   no-room little = else-case _ _ _ (lt-leb _ _ little)
 

@@ -31,6 +31,11 @@ abbrev pub TouchesOnly : List ℕ → Message → Page → Page → Type 0
 TouchesOnly cells message before after =
     (cell : ℕ) → cell < length (before .marks) → (List·Memᴰ cell cells → ⊥) → Stays message before after cell
 
+-- The cell keeps its character, if the lent characters have it, and its mark.
+pub record ProtectedKept (before after : Page) (cell : ℕ) : Type 0 where
+  pub character : cell < length (before .characters) → getD (after .characters) cell 0 ≡ getD (before .characters) cell 0
+  pub mark : getD (after .marks) cell 0 ≡ getD (before .marks) cell 0
+
 -- Every cell of the page is as protected as it was.
 abbrev pub KeepsProtection : Page → Page → Type 0
 KeepsProtection before after = (cell : ℕ) → cell < length (before .marks) → unprotected (after .marks) cell ≡ unprotected (before .marks) cell
@@ -39,6 +44,10 @@ KeepsProtection before after = (cell : ℕ) → cell < length (before .marks) �
 pub record KeepsText (before after : Page) : Type 0 where
   pub characters : after .characters ≡ before .characters
   pub protection : KeepsProtection before after
+
+-- How many cells a step names.
+abbrev pub counted : Stepped → ℕ
+counted step = length (step .cells)
 
 -- A refused command sets the soft lock and message 1; all else is as it was, but for the half-read record.
 pub record Refusal (t : Terminal) (step : Stepped) : Type 0 where

@@ -64,7 +64,7 @@ sendBlock full t =
 -- After ESC: D E M H V W S c ` b.
 unfoldable pub escStep : ℕ → Terminal → Stepped
 escStep byte t =
-    if eqb byte 0x44 then lineDown t  -- D: IND
+    if eqb byte 0x44 then lineDown t  -- D: IND (fourth edition)
     else if eqb byte 0x45 then nextLine t  -- E: NEL
     else if eqb byte 0x4D then lineUp t  -- M: RI
     else if eqb byte 0x48 then goesTo (stopSet (t .state)) t  -- H: HTS
@@ -93,7 +93,8 @@ toPlace row column t =
     if leb row (t .state .size .rows) and leb column (t .state .size .columns) then goesTo (withCursor (t .state) row column) t
     else refusing t
 
--- HVP's column: 0 with a row above 0 keeps the column.
+-- HVP's column. `row` and `given` are the arguments as read, `column` is `given` with 0 as 1, `present` the cursor's: an omitted
+-- column keeps it, if a row is given.
 unfoldable pub keptColumn : ℕ → ℕ → ℕ → ℕ → ℕ
 keptColumn row given column present =
     if eqb given 0 and ltb 0 row then present
@@ -124,8 +125,8 @@ erasePart what first end t =
 unfoldable pub isVisual : ℕ → Bool
 isVisual value = eqb value 0 or eqb value 1 or eqb value 4 or eqb value 5 or eqb value 7 or eqb value 8
 
-unfoldable pub drawn : ℕ → ℕ → ℕ
-drawn value pen =
+unfoldable pub penAfter : ℕ → ℕ → ℕ
+penAfter value pen =
     if eqb value 0 then penPlain pen
     else if eqb value 1 then penBold pen
     else if eqb value 4 then penUnderlined pen
@@ -133,13 +134,13 @@ drawn value pen =
     else if eqb value 7 then penReversed pen
     else penConcealed pen
 
-unfoldable pub drawnAll : List ℕ → ℕ → ℕ
-drawnAll [] pen = pen
-drawnAll (value ∷ later) pen = drawnAll later (drawn value pen)
+unfoldable pub penAfterAll : List ℕ → ℕ → ℕ
+penAfterAll [] pen = pen
+penAfterAll (value ∷ later) pen = penAfterAll later (penAfter value pen)
 
 unfoldable pub rendition : List ℕ → Terminal → Stepped
 rendition values t =
-    if every isVisual values then goesTo (withPen (t .state) (drawnAll values (t .state .modes .pen))) t
+    if every isVisual values then goesTo (withPen (t .state) (penAfterAll values (t .state .modes .pen))) t
     else refusing t
 
 -- SM and RM: mode 6, erasure.
@@ -164,11 +165,11 @@ statusReport what t =
     else if eqb what 6 then cursorReport t
     else refusing t
 
--- The finals of the commands that only move the cursor: A to I, Z, d and f.
+-- The finals of the commands that only move the cursor: A to I, Z, d and f. (The code goes by this; no rule does.)
 unfoldable pub isMove : ℕ → Bool
 isMove final = (leb 0x41 final and leb final 0x49) or eqb final 0x5A or eqb final 0x64 or eqb final 0x66
 
--- After ESC [: a command that the table allows as many arguments, by its final byte.
+-- After ESC [, by final byte. Only one that is listed, with no more arguments than allowed, comes here (`bracketStep`), so the last line is n.
 unfoldable pub listedStep : ℕ → List ℕ → ℕ → Terminal → Stepped
 listedStep final arguments count t =
     let first = valueOf final arguments 0 in

@@ -5,7 +5,7 @@ use Prim.Native.Nat.{ℕ, _-_}
 use lib.Dec.{eqb}
 use lib.ListN.{length}
 use Rattle.words.specs.Choice.{if_then_else_, _and_, _or_, _is_to_}
-use Rattle.words.specs.Lists.{placesFrom}
+use Rattle.words.specs.Lists.{numbersFrom}
 use Rattle.page.specs.Marks.{unprotected}
 use Rattle.page.specs.Page.{typed, blanked, closedUp, movedRight, partStored}
 use Rattle.places.specs.Places.{placeOf}
@@ -64,8 +64,8 @@ goneTo (At place) s = withCursor s (place .row) (place .column)
 goneTo Nowhere s = s
 
 -- The cells from `from` to before `end`.
-abbrev pub run : ℕ → ℕ → List ℕ
-run from end = placesFrom (λ _. true) from (end - from)
+abbrev pub cellsFrom : ℕ → ℕ → List ℕ
+cellsFrom from end = numbersFrom (λ _. true) from (end - from)
 
 -- The bounds of the cursor's field.
 abbrev pub startHere : Terminal → ℕ
@@ -95,15 +95,15 @@ toNextField t = goesTo (goneTo (nextField (t .state .size .columns) (cursorCell 
 unfoldable pub toPreviousField : Terminal → Stepped
 toPreviousField t = goesTo (goneTo (previousField (t .state .size .columns) (cursorCell (t .state)) (fieldsHere t)) (t .state)) t
 
-unfoldable pub toFirstCell : Terminal → Stepped
-toFirstCell t =
+unfoldable pub toFirstUnprotected : Terminal → Stepped
+toFirstUnprotected t =
     goesTo (goneTo (orElse (firstUnprotected (unprotected (t .page .marks)) (t .state .size .columns) (length (t .page .marks))) (At (placeOf (t .state .size .columns) 0))) (t .state)) t
 
 -- 263: the cursor's field becomes 20s, and the cursor goes to its start.
 unfoldable pub fieldBlanked : Terminal → Stepped
 fieldBlanked t =
     ifFree t
-    (stores (run (startHere t) (endHere t)) false
+    (stores (cellsFrom (startHere t) (endHere t)) false
     (goneTo (At (placeOf (t .state .size .columns) (startHere t))) (t .state))
     (partStored blanked (startHere t) (endHere t) (t .page)))
 
@@ -111,7 +111,7 @@ fieldBlanked t =
 unfoldable pub restShifted : (List ℕ → List ℕ) → Terminal → Stepped
 restShifted change t =
     ifFree t
-    (stores (run (cursorCell (t .state)) (endHere t)) false (t .state)
+    (stores (cellsFrom (cursorCell (t .state)) (endHere t)) false (t .state)
     (partStored change (cursorCell (t .state)) (endHere t) (t .page)))
 
 -- The step of a key. A number that is no key does nothing.
@@ -124,7 +124,7 @@ keyStep key t =
     else if eqb key 259 then goesTo (rightBy 1 (t .state)) t
     else if eqb key 260 then toNextField t
     else if eqb key 261 then toPreviousField t
-    else if eqb key 262 then toFirstCell t
+    else if eqb key 262 then toFirstUnprotected t
     else if eqb key 263 then fieldBlanked t
     else if eqb key 264 then restShifted closedUp t
     else if eqb key 265 then restShifted movedRight t

@@ -4,8 +4,8 @@ use mathlib.Core.List.{List, []}
 use mathlib.Core.Path.{_≡_}
 use Prim.Native.Nat.{ℕ, _-_}
 use lib.ListN.{length}
-use Rattle.words.specs.Lists.{placesFrom}
-use Rattle.page.specs.Page.{Page, validPage}
+use Rattle.words.specs.Lists.{numbersFrom}
+use Rattle.page.specs.Page.{Page, pageOf, validPage}
 use Rattle.places.specs.Places.{cellAt}
 use Rattle.state.specs.declared.State.{State}
 use Rattle.state.specs.State.{refused}
@@ -16,7 +16,10 @@ pub record Terminal : Type 0 where
   pub state : State
   pub page : Page
 
--- What is sent to the host.
+abbrev pub terminalOf : State → List ℕ → List ℕ → Terminal
+terminalOf state characters marks = record { state = state; page = pageOf characters marks }
+
+-- What is sent to the host; document 01's message, to the reader, is `locks .message`.
 pub data Message : Type 0 where
   silent : Message
   report : List ℕ → Message
@@ -29,13 +32,13 @@ bytesOf (report bytes) = bytes
 bytesOf (fullBlock bytes) = bytes
 bytesOf (changedBlock bytes) = bytes
 
--- The message that a block is.
+-- A block as a message.
 unfoldable pub blockMessage : Bool → List ℕ → Message
 blockMessage true bytes = fullBlock bytes
 blockMessage false bytes = changedBlock bytes
 
--- The terminal after a step; the message sent; the cells stored, by their numbers; whether a command was refused;
--- whether protection may have changed.
+-- The terminal after a step; the message sent; the cells stored, by their numbers (the step *names* them); whether a command was
+-- refused; whether protection may have changed (no rule of document 01 asks for it; D-30).
 pub record Stepped : Type 0 where
   pub terminal : Terminal
   pub message : Message
@@ -50,7 +53,7 @@ withState t s = record { state = s; page = t .page }
 abbrev pub goesTo : State → Terminal → Stepped
 goesTo s t = record { terminal = withState t s; message = silent; cells = []; wasRefused = false; protection = false }
 
--- Cells are stored, and the state changes.
+-- Cells are stored, and the state changes; the Bool says whether protection may have changed.
 abbrev pub stores : List ℕ → Bool → State → Page → Stepped
 stores cells protection s page =
     record { terminal = record { state = s; page = page }; message = silent; cells = cells; wasRefused = false; protection = protection }
@@ -72,7 +75,7 @@ abbrev pub rowStart : State → ℕ
 rowStart s = cursorCell s - (s .cursor .column - 1)
 
 abbrev pub allCells : Page → List ℕ
-allCells page = placesFrom (λ _. true) 0 (length (page .marks))
+allCells page = numbersFrom (λ _. true) 0 (length (page .marks))
 
 -- A terminal that lines 1 and 2 of the table let pass.
 pub record Valid (t : Terminal) : Type 0 where

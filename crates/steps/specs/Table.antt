@@ -5,15 +5,14 @@ use lib.ListN.{getD}
 use mathlib.Core.List.{List}
 use Rattle.words.specs.Choice.{if_then_else_, _or_, _is_to_}
 
--- How many arguments at most, and what an argument of 0 stands for.
 pub record Allowed : Type 0 where
   pub most : ℕ
-  pub zero : ℕ
+  pub zeroIs : ℕ
 
 abbrev pub takes : ℕ → ℕ → Allowed
-takes most zeroIs = record { most = most; zero = zeroIs }
+takes most zeroIs = record { most = most; zeroIs = zeroIs }
 
--- A command that isn't listed may have none, and each sequence has one at least.
+-- A command that isn't listed may have none, and each sequence has one at least: so it is refused.
 unfoldable pub allowed : ℕ → Allowed
 allowed final =
     if final is 0x41 to 0x44 then takes 1 1  -- A B C D: CUU, CUD, CUF, CUB
@@ -33,5 +32,5 @@ allowed final =
 -- The value of argument i, counted from 0.
 unfoldable pub valueOf : ℕ → List ℕ → ℕ → ℕ
 valueOf final arguments i =
-    if eqb (getD arguments i 0) 0 then allowed final .zero
+    if eqb (getD arguments i 0) 0 then allowed final .zeroIs
     else getD arguments i 0

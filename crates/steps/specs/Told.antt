@@ -1,4 +1,5 @@
--- What the code tells of a step, with the page it leaves: a definition of `Stepped`, in numbers.
+-- What the code tells of a step: `Stepped`, with the number of its cells and of its bytes in place of these.
+-- `told` is what the code handed back, with the page that it left; `tells` is what it should tell.
 use mathlib.Core.Bool.{Bool, true, false}
 use mathlib.Core.List.{List}
 use Prim.Native.Nat.{ℕ, _-_}
@@ -16,7 +17,7 @@ pub record Told : Type 0 where
   pub sent : ℕ
   pub wasRefused : Bool
   pub protection : Bool
-  pub full : Bool
+  pub exceeds : Bool
 
 -- What the code hands back, with the page that it left.
 abbrev pub told : Step → Page → Told
@@ -27,7 +28,7 @@ told step page =
       sent = step .sent;
       wasRefused = step .refused;
       protection = step .protection;
-      full = step .full;
+      exceeds = step .exceeds;
     }
 
 -- What is to be told of a step that was done.
@@ -39,12 +40,12 @@ tells stepped =
       sent = length (bytesOf (stepped .message));
       wasRefused = stepped .wasRefused;
       protection = stepped .protection;
-      full = false;
+      exceeds = false;
     }
 
 -- And of one whose message did not fit: nothing happened.
-abbrev pub tellsFull : Terminal → Told
-tellsFull t = record { terminal = t; stored = 0; sent = 0; wasRefused = false; protection = false; full = true }
+abbrev pub tellsExceeding : Terminal → Told
+tellsExceeding t = record { terminal = t; stored = 0; sent = 0; wasRefused = false; protection = false; exceeds = true }
 
 -- A step with an output: its message is written from a place on, or nothing happens.
 pub record Written : Type 0 where
@@ -55,4 +56,4 @@ unfoldable pub written : ℕ → List ℕ → Terminal → Stepped → Written
 written at output before stepped =
     if leb (length (bytesOf (stepped .message))) (length output - at) then
     record { told = tells stepped; output = placed at (bytesOf (stepped .message)) output }
-    else record { told = tellsFull before; output = output }
+    else record { told = tellsExceeding before; output = output }

@@ -15,7 +15,7 @@ pub struct Step {
     pub refused: bool,
     pub protection: bool,
     // Its message did not fit, and nothing happened.
-    pub full: bool,
+    pub exceeds: bool,
 }
 
 // The state changes, and nothing is stored, sent or refused.
@@ -28,7 +28,7 @@ pub fn quiet(state: State) -> Step
         sent: 0,
         refused: false,
         protection: false,
-        full: false,
+        exceeds: false,
     }
 }
 
@@ -42,7 +42,7 @@ pub fn refuse(state: State) -> Step
         sent: 0,
         refused: true,
         protection: false,
-        full: false,
+        exceeds: false,
     }
 }
 
@@ -56,6 +56,6 @@ pub fn stored(state: State, count: usize, protection: bool) -> Step
         sent: 0,
         refused: false,
         protection,
-        full: false,
+        exceeds: false,
     }
 }

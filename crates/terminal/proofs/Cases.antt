@@ -1,11 +1,10 @@
 -- Every call is one of a few cases: refused with nothing changed, stopped where room is lacking, or done.
-use mathlib.Core.Path.{_≡_, refl, sym, ap, _∙_}
-use mathlib.Core.Bool.{true, false, not}
-use mathlib.Core.List.{List, [], _∷_, _++_}
-use Prim.Native.Nat.{ℕ, _+_, _-_, _<_, _≤_}
+use mathlib.Core.Path.{_≡_, refl, ap, _∙_}
+use mathlib.Core.Bool.{true, false}
+use mathlib.Core.List.{List, [], _∷_}
+use Prim.Native.Nat.{ℕ, _-_, _≤_}
 use native.Mathlib.Omega.{arith}
-use borrow.Author.Tests.{ltb-true, ltb-false, lt-ltb, le-ltb}
-use lib.Dec.{ltb}
+use borrow.Author.Tests.{ltb-false, le-ltb}
 use lib.ListN.{length, length-append}
 use Rattle.words.proofs.Choosing.{either-way, less-or-not}
 use Rattle.page.specs.Page.{Page}
@@ -17,7 +16,7 @@ use Rattle.terminal.specs.declared.Answer.{Answer}
 use Rattle.terminal.specs.declared.Answer.the-variants.{Done, WrongSize, WrongState, NoRoom, UnknownKey, Locked, TooLong, NoCell}
 use Rattle.terminal.specs.Runs.{stepsOf, fitting, sentBy}
 use Rattle.terminal.specs.Answers.{numberOf, unchanged, did}
-use Rattle.terminal.specs.Lines.{exceedsRoom, isValid}
+use Rattle.terminal.specs.Lines.{exceedsRoom, passesLine2}
 use Rattle.terminal.specs.Calls.{unstarted, startStep, startCall, hostCall, keyCall}
 use Rattle.terminal.specs.Table.{Line3}
 use Rattle.terminal.proofs.Deciding
@@ -54,7 +53,7 @@ module _ (t : Terminal) (bytes output : List ℕ) where
     stopped : Valid t → (line : Line3 (length output) (stepsOf t bytes)) → hostCall t bytes output ≡ did NoRoom (length (line .before)) t output (line .before) → HostCase
     done : Valid t → length (sentBy (stepsOf t bytes)) ≤ length output → hostCall t bytes output ≡ did Done (length bytes) t output (stepsOf t bytes) → HostCase
 
-  ran : sizeFits (t .state .size) (t .page) ≡ true → isValid t ≡ true → length bytes ≤ 65536 → HostCase
+  ran : sizeFits (t .state .size) (t .page) ≡ true → passesLine2 t ≡ true → length bytes ≤ 65536 → HostCase
   unfolding exceedsRoom
   ran size valid short =
       either-way (exceedsRoom (length output) (stepsOf t bytes))
@@ -84,7 +83,7 @@ module _ (t : Terminal) (bytes output : List ℕ) where
   host-case =
       either-way (sizeFits (t .state .size) (t .page))
       (λ size.
-      either-way (isValid t)
+      either-way (passesLine2 t)
       (λ valid.
       less-or-not 65536 (length bytes)
       (λ long. refused TooLong (λ e. omega arith) (λ e. omega arith) (Deciding.host-too-long t bytes output size valid long))
@@ -97,7 +96,7 @@ module _ (t : Terminal) (key : ℕ) (output : List ℕ) where
     refused : (answer : Answer) → (numberOf answer ≡ 0 → ⊥) → keyCall t key output ≡ unchanged answer t output → KeyCase
     pressed : Valid t → isKnown key ≡ true → isLockedOut key (t .state) ≡ false → lacksCell key t ≡ false → length (bytesOf (keyStep key t .message)) ≤ length output → keyCall t key output ≡ did Done 0 t output (keyStep key t ∷ []) → KeyCase
 
-  let-pass : sizeFits (t .state .size) (t .page) ≡ true → isValid t ≡ true → isKnown key ≡ true → isLockedOut key (t .state) ≡ false → lacksCell key t ≡ false → KeyCase
+  let-pass : sizeFits (t .state .size) (t .page) ≡ true → passesLine2 t ≡ true → isKnown key ≡ true → isLockedOut key (t .state) ≡ false → lacksCell key t ≡ false → KeyCase
   unfolding numberOf
   let-pass size valid known free has =
       less-or-not (length output) (length (bytesOf (keyStep key t .message)))
@@ -109,7 +108,7 @@ module _ (t : Terminal) (key : ℕ) (output : List ℕ) where
   key-case =
       either-way (sizeFits (t .state .size) (t .page))
       (λ size.
-      either-way (isValid t)
+      either-way (passesLine2 t)
       (λ valid.
       either-way (isKnown key)
       (λ known.

@@ -21,16 +21,16 @@ use Rattle.terminal.specs.declared.Answer.{Answer}
 use Rattle.terminal.specs.declared.Answer.the-variants.{Done, WrongSize, WrongState, NoRoom, UnknownKey, Locked, TooLong, NoCell}
 use Rattle.terminal.specs.Runs.{stepsOf, fitting, after, sentBy, storedBy}
 use Rattle.terminal.specs.Answers.{numberOf, unchanged, did, gives}
-use Rattle.terminal.specs.Lines.{firstOf, exceedsRoom, isValid, startLines, hostLines, keyLines}
+use Rattle.terminal.specs.Lines.{firstOf, exceedsRoom, passesLine2, startLines, hostLines, keyLines}
 use Rattle.terminal.specs.Calls.{unstarted, startStep, startCall, hostCall, keyCall}
 
 -- What the tests of the first two lines tell.
-pub is-valid : (t : Terminal) → sizeFits (t .state .size) (t .page) ≡ true → isValid t ≡ true → Valid t
-unfolding isValid
+pub is-valid : (t : Terminal) → sizeFits (t .state .size) (t .page) ≡ true → passesLine2 t ≡ true → Valid t
+unfolding passesLine2
 is-valid t size valid = record { size = size; state = both valid .0; page = both valid .1 }
 
-pub valid-holds : (t : Terminal) → Valid t → isValid t ≡ true
-unfolding isValid
+pub valid-holds : (t : Terminal) → Valid t → passesLine2 t ≡ true
+unfolding passesLine2
 valid-holds t valid = both-hold _ _ (valid .state) (valid .page)
 
 -- A step that fits, and one that doesn't.
@@ -52,11 +52,11 @@ module _ (t : Terminal) (bytes output : List ℕ) where
   host-wrong-size wrong = host-gives WrongSize (rw (then-case _ _ _ (ap not wrong)))
 
   module _ (size : sizeFits (t .state .size) (t .page) ≡ true) where
-    pub host-wrong-state : isValid t ≡ false → hostCall t bytes output ≡ unchanged WrongState t output
+    pub host-wrong-state : passesLine2 t ≡ false → hostCall t bytes output ≡ unchanged WrongState t output
     unfolding gives hostLines firstOf
     host-wrong-state wrong = host-gives WrongState (rw (else-case _ _ _ (ap not size), then-case _ _ _ (ap not wrong)))
 
-    module _ (valid : isValid t ≡ true) where
+    module _ (valid : passesLine2 t ≡ true) where
       pub host-too-long : 65536 < length bytes → hostCall t bytes output ≡ unchanged TooLong t output
       unfolding gives hostLines firstOf
       host-too-long long = host-gives TooLong (rw (else-case _ _ _ (ap not size), else-case _ _ _ (ap not valid), then-case _ _ _ (lt-ltb _ _ long)))
@@ -82,11 +82,11 @@ module _ (t : Terminal) (key : ℕ) (output : List ℕ) where
   key-wrong-size wrong = key-gives WrongSize (rw (then-case _ _ _ (ap not wrong)))
 
   module _ (size : sizeFits (t .state .size) (t .page) ≡ true) where
-    pub key-wrong-state : isValid t ≡ false → keyCall t key output ≡ unchanged WrongState t output
+    pub key-wrong-state : passesLine2 t ≡ false → keyCall t key output ≡ unchanged WrongState t output
     unfolding gives keyLines firstOf
     key-wrong-state wrong = key-gives WrongState (rw (else-case _ _ _ (ap not size), then-case _ _ _ (ap not wrong)))
 
-    module _ (valid : isValid t ≡ true) where
+    module _ (valid : passesLine2 t ≡ true) where
       pub key-unknown : isKnown key ≡ false → keyCall t key output ≡ unchanged UnknownKey t output
       unfolding gives keyLines firstOf
       key-unknown unknown = key-gives UnknownKey (rw (else-case _ _ _ (ap not size), else-case _ _ _ (ap not valid), then-case _ _ _ (ap not unknown)))

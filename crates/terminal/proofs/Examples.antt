@@ -2,11 +2,11 @@
 -- each on a fresh 24 by 80 terminal brought there by calls.
 use mathlib.Core.Path.{_≡_, refl}
 use mathlib.Core.List.{List, [], _∷_, map}
-use mathlib.Core.Bool.{Bool, true, false, not}
-use Prim.Native.Nat.{ℕ, suc}
+use mathlib.Core.Bool.{Bool, true, false}
+use Prim.Native.Nat.{ℕ}
 use lib.ListN.{take, replicate}
 use Rattle.words.specs.Choice.{if_then_else_, _and_, _or_, _is_to_}
-use Rattle.words.specs.Lists.{within, every, eachFrom, placesFrom, selected}
+use Rattle.words.specs.Lists.{within, every, eachFrom, numbersFrom, selected}
 use Rattle.words.specs.Output.{placed}
 use Rattle.sequence.specs.Record.{argumentsFit, largestArgument, validHalfRead, withDigit, withNextArgument}
 use Rattle.sequence.specs.Reading.{isControl, isCancel, outsideSequence, afterEsc, afterIntermediate, afterBracket, insideSequence, advanceOf}
@@ -26,7 +26,7 @@ use Rattle.steps.specs.Host.{eventStep, hostStep}
 use Rattle.steps.specs.Keys.{isTyping, isEditing, isFieldMove, isKnown, isLocked, isLockedOut, lacksCell, keyStep}
 use Rattle.terminal.specs.Runs.{stepsOf, fitting, after, sentBy, storedBy}
 use Rattle.terminal.specs.Answers.{numberOf, Outcome, unchanged, did, gives}
-use Rattle.terminal.specs.Lines.{firstOf, exceedsRoom, isValid, startLines, hostLines, keyLines}
+use Rattle.terminal.specs.Lines.{firstOf, exceedsRoom, passesLine2, startLines, hostLines, keyLines}
 use Rattle.terminal.specs.Calls.{startStep, startCall, hostCall, keyCall}
 
 -- A call of host bytes or of a key, with so much room in the output.
@@ -124,5 +124,5 @@ examples =
 
 -- Each leaves what document 01 says.
 as-document-01 : map (λ (e : Example). seen (last started (e .calls))) examples ≡ map (λ (e : Example). e .gives) examples
-unfolding outcome last started seen goes refuses keyed _leave_ sequence at4x20 at24x80 examples if_then_else_ _and_ _or_ _is_to_ within every eachFrom placesFrom selected placed argumentsFit largestArgument validHalfRead withDigit withNextArgument isControl isCancel outsideSequence afterEsc afterIntermediate afterBracket insideSequence advanceOf unprotected validPage textStored sentMark modifiedCleared placeOf opensStretch joined startsField endFrom fieldEnd fieldsFrom fieldsOf entryBytes encode entryOf someModified isSent entriesSent block refused onBy rightBy validPen listedRows listedColumns listedSize sizeFits cursorFits stopsFit validState bytesOf blockMessage allowed valueOf toNextCell textStep freshStep sendBlock toColumn toRow toPlace keptColumn listedStep bracketStep eventStep hostStep isTyping isEditing isFieldMove isKnown isLocked isLockedOut lacksCell keyStep stepsOf fitting after sentBy storedBy numberOf unchanged did gives firstOf exceedsRoom isValid startLines hostLines keyLines startStep startCall hostCall keyCall
+unfolding outcome last started seen goes refuses keyed _leave_ sequence at4x20 at24x80 examples if_then_else_ _and_ _or_ _is_to_ within every eachFrom numbersFrom selected placed argumentsFit largestArgument validHalfRead withDigit withNextArgument isControl isCancel outsideSequence afterEsc afterIntermediate afterBracket insideSequence advanceOf unprotected validPage textStored sentMark modifiedCleared placeOf opensStretch joined startsField endFrom fieldEnd fieldsFrom fieldsOf entryBytes encode entryOf someModified isSent entriesSent block refused onBy rightBy validPen listedRows listedColumns listedSize sizeFits cursorFits stopsFit validState bytesOf blockMessage allowed valueOf toNextCell textStep freshStep sendBlock toColumn toRow toPlace keptColumn listedStep bracketStep eventStep hostStep isTyping isEditing isFieldMove isKnown isLocked isLockedOut lacksCell keyStep stepsOf fitting after sentBy storedBy numberOf unchanged did gives firstOf exceedsRoom passesLine2 startLines hostLines keyLines startStep startCall hostCall keyCall
 as-document-01 = refl

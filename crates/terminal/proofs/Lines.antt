@@ -1,13 +1,12 @@
 -- Lines 4, 5 and 7, clause by clause: the tests that run hold exactly when the lines do.
 use mathlib.Core.Path.{_≡_, refl, sym, ap, _∙_}
-use mathlib.Core.Bool.{Bool, true, false, not}
+use mathlib.Core.Bool.{true, false, not}
 use mathlib.Core.List.{List, [], _∷_}
 use mathlib.Core.Logic.{_↔_, ⊎-elim}
 use Prim.Native.Nat.{ℕ, _≤_}
 use native.Mathlib.Omega.{arith}
-use borrow.Author.Tests.{eqb-true, eqb-false, not-true, not-false, ne-eqb}
-use lib.Dec.{eqb}
-use Rattle.words.specs.Choice.{if_then_else_, _and_, _or_, _is_to_}
+use borrow.Author.Tests.{eqb-false, not-true, ne-eqb}
+use Rattle.words.specs.Choice.{_or_, _is_to_}
 use Rattle.words.proofs.Choosing.{true-is-not-false, not-both, either-way, then-case, else-case, both, both-hold, neither, one-holds, first-holds, second-decides, range-holds, range-is}
 use Rattle.page.specs.Marks.{unprotected}
 use Rattle.fields.specs.Fields.{Field}

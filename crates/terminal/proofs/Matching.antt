@@ -6,17 +6,17 @@ use mathlib.Core.Logic.{_↔_}
 use Prim.Native.Nat.{ℕ}
 use Rattle.words.proofs.Choosing.{not-both, then-case, else-case}
 use Rattle.terminal.specs.Answers.{numberOf}
-use Rattle.terminal.specs.Lines.{Line, firstOf}
-use Rattle.terminal.specs.Table.{Row, Decides, none-holds, this-holds, not-this}
+use Rattle.terminal.specs.Lines.{LineTest, firstOf}
+use Rattle.terminal.specs.Table.{TableLine, Decides, none-holds, this-holds, not-this}
 
-pub data Matches : List Line → List Row → Type 1 where
+pub data Matches : List LineTest → List TableLine → Type 1 where
   ends : Matches [] []
-  next : {lines : List Line} {rows : List Row} (line : Line) (row : Row) → (line .holds ≡ true) ↔ row .Holds → numberOf (line .answer) ≡ row .number → Matches lines rows → Matches (line ∷ lines) (row ∷ rows)
+  next : {lines : List LineTest} {rows : List TableLine} (line : LineTest) (row : TableLine) → (line .holds ≡ true) ↔ row .Holds → numberOf (line .answer) ≡ row .number → Matches lines rows → Matches (line ∷ lines) (row ∷ rows)
 
-renumbered : {rows : List Row} {m n : ℕ} → m ≡ n → Decides rows m → Decides rows n
+renumbered : {rows : List TableLine} {m n : ℕ} → m ≡ n → Decides rows m → Decides rows n
 renumbered {rows} e decides = subst (Decides rows) e decides
 
-pub first-decides-row : {lines : List Line} {rows : List Row} → Matches lines rows → Decides rows (numberOf (firstOf lines))
+pub first-decides-row : {lines : List LineTest} {rows : List TableLine} → Matches lines rows → Decides rows (numberOf (firstOf lines))
 unfolding firstOf numberOf
 first-decides-row ends = none-holds
 first-decides-row (next {lines} {rows} line row test number later) = go (line .holds) refl (first-decides-row later)
@@ -26,7 +26,7 @@ first-decides-row (next {lines} {rows} line row test number later) = go (line .h
     go false fails rest = renumbered (sym (ap numberOf (else-case _ _ _ fails))) (not-this row rows _ (λ holds. not-both (test .1 holds) fails) rest)
 
 -- No two numbers are decided.
-pub decides-one : {rows : List Row} {m n : ℕ} → Decides rows m → Decides rows n → m ≡ n
+pub decides-one : {rows : List TableLine} {m n : ℕ} → Decides rows m → Decides rows n → m ≡ n
 decides-one none-holds none-holds = refl
 decides-one (this-holds row later a) (this-holds _ _ b) = refl
 decides-one (this-holds row later a) (not-this _ _ n b rest) = absurd (b a)

@@ -5,17 +5,17 @@ use mathlib.Core.List.{List, [], _∷_, _++_, append-assoc, append-nil}
 use Prim.Native.Nat.{ℕ, _+_, _-_, _*_, _<_, _≤_}
 use native.Mathlib.Numerals.{add-one}
 use native.Mathlib.Omega.{arith}
-use borrow.Author.Tests.{le-leb, lt-leb, leb-true, leb-false, lt-ltb, le-ltb}
+use borrow.Author.Tests.{leb-true, leb-false, lt-ltb, le-ltb}
 use lib.Dec.{leb}
 use lib.ListN.{length, drop, getD, length-append, drop-of-length-le}
 use lib.Seq.{drop-cons}
 use Rattle.words.specs.Output.{placed, Wrote}
-use Rattle.words.proofs.Choosing.{true-is-not-false, then-case, else-case, either-way}
+use Rattle.words.proofs.Choosing.{true-is-not-false, either-way}
 use Rattle.words.proofs.Output.{placed-length, wrote-none, wrote-then}
 use Rattle.page.specs.Page.{Page}
 use Rattle.steps.specs.declared.Step.{Step}
 use Rattle.steps.specs.Steps.{Terminal, Stepped, bytesOf, Valid}
-use Rattle.steps.specs.Told.{Written, told, tells, tellsFull, written}
+use Rattle.steps.specs.Told.{Written, told, written}
 use Rattle.steps.specs.Host.{hostStep}
 use Rattle.steps.proofs.Naming.{named-count}
 use Rattle.steps.proofs.Measuring.{measured}
@@ -71,13 +71,13 @@ pub record WasDone (at : ℕ) (output : List ℕ) (stepped : Stepped) (step : St
   pub sent : step .sent ≡ length (bytesOf (stepped .message))
   pub writes : written-to ≡ placed at (bytesOf (stepped .message)) output
 
-pub record WasFull (at : ℕ) (output : List ℕ) (before : Terminal) (stepped : Stepped) (page : Page) (written-to : List ℕ) : Type 0 where
+pub record Exceeded (at : ℕ) (output : List ℕ) (before : Terminal) (stepped : Stepped) (page : Page) (written-to : List ℕ) : Type 0 where
   pub exceeds : length output - at < length (bytesOf (stepped .message))
   pub same-page : page ≡ before .page
   pub same-output : written-to ≡ output
 
 module _ (at : ℕ) (output : List ℕ) (before : Terminal) (stepped : Stepped) (step : Step) (page : Page) (written-to : List ℕ) (is : record { told = told step page; output = written-to } ≡ written at output before stepped) where
-  pub was-done : step .full ≡ false → WasDone at output stepped step page written-to
+  pub was-done : step .exceeds ≡ false → WasDone at output stepped step page written-to
   was-done done =
       either-way (leb (length (bytesOf (stepped .message))) (length output - at))
       (λ fits.
@@ -89,12 +89,12 @@ module _ (at : ℕ) (output : List ℕ) (before : Terminal) (stepped : Stepped) 
         sent = ap (λ (w : Written). w .told .sent) did;
         writes = ap (λ (w : Written). w .output) did;
       })
-      (λ exceeds. absurd (true-is-not-false (sym (ap (λ (w : Written). w .told .full) (is ∙ no-room at output before stepped (leb-false _ _ exceeds))) ∙ done)))
+      (λ exceeds. absurd (true-is-not-false (sym (ap (λ (w : Written). w .told .exceeds) (is ∙ no-room at output before stepped (leb-false _ _ exceeds))) ∙ done)))
 
-  pub was-full : step .full ≡ true → WasFull at output before stepped page written-to
-  was-full full =
+  pub exceeded : step .exceeds ≡ true → Exceeded at output before stepped page written-to
+  exceeded told =
       either-way (leb (length (bytesOf (stepped .message))) (length output - at))
-      (λ fits. absurd (true-is-not-false (sym full ∙ ap (λ (w : Written). w .told .full) (is ∙ with-room at output before stepped (leb-true _ _ fits)))))
+      (λ fits. absurd (true-is-not-false (sym told ∙ ap (λ (w : Written). w .told .exceeds) (is ∙ with-room at output before stepped (leb-true _ _ fits)))))
       (λ exceeds.
       let did = is ∙ no-room at output before stepped (leb-false _ _ exceeds) in
       record {
@@ -168,7 +168,7 @@ module _ {start : Terminal} {bytes before : List ℕ} {here : Terminal} {taken s
         }
 
     module _ (step : Step) (page : Page) (written-to : List ℕ) (is : record { told = told step page; output = written-to } ≡ written sent output here onward) where
-      pub goes-on : step .full ≡ false → Going start bytes before (record { state = step .state; page = page }) (taken + 1) (sent + step .sent) (stored + step .stored) written-to
+      pub goes-on : step .exceeds ≡ false → Going start bytes before (record { state = step .state; page = page }) (taken + 1) (sent + step .sent) (stored + step .stored) written-to
       goes-on done =
           let was = was-done sent output here onward step page written-to is done in
           subst (λ (t : Terminal). Going start bytes before t (taken + 1) (sent + step .sent) (stored + step .stored) written-to) (sym (was .terminal))

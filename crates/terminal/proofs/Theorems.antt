@@ -1,21 +1,18 @@
 -- What is proved of start, host and key: demand 1, and that a valid terminal stays valid.
 use mathlib.Core.Path.{_≡_, refl, sym, ap, _∙_, subst}
 use mathlib.Core.Bool.{Bool, true, false, not}
-use mathlib.Core.List.{List, [], _∷_, append-nil}
+use mathlib.Core.List.{List, [], _∷_}
 use mathlib.Core.Logic.{_↔_}
 use Prim.Native.Nat.{ℕ, _-_}
 use native.Mathlib.Omega.{arith}
 use borrow.Author.Tests.{lt-ltb, ltb-true, not-true}
-use lib.Dec.{ltb, eqb}
+use lib.Dec.{eqb}
 use lib.ListN.{length, take, drop, replicate, length-replicate}
 use Rattle.words.specs.Choice.{if_then_else_}
-use Rattle.words.specs.Output.{placed}
 use Rattle.words.proofs.Output.{placed-before, placed-past}
 use Rattle.words.proofs.Choosing.{either-line}
 use Rattle.page.specs.Page.{Page, pageOf}
 use Rattle.state.specs.declared.Size.{Size}
-use Rattle.state.specs.declared.State.{State}
-use Rattle.state.specs.State.{freshState}
 use Rattle.state.proofs.Lines.{line-1, line-2}
 use Rattle.state.proofs.Keeping.{fresh-valid}
 use Rattle.steps.specs.Steps.{Terminal, Stepped, bytesOf, Valid}
@@ -24,18 +21,17 @@ use Rattle.steps.specs.Host.{hostStep}
 use Rattle.steps.specs.Keys.{keyStep}
 use Rattle.steps.proofs.Soundness.{sized, still-fits}
 use Rattle.steps.proofs.Storing.{blank-page-valid}
-use Rattle.commands.proofs.Theorems.{step-keeps-valid, fresh-count}
+use Rattle.commands.proofs.Theorems.{step-keeps-valid}
 use Rattle.keys.proofs.Theorems as Keys
 use Rattle.terminal.specs.declared.Answer.{Answer}
 use Rattle.terminal.specs.declared.Answer.the-variants.{Done, WrongSize, WrongState, NoRoom, UnknownKey, Locked, TooLong, NoCell}
 use Rattle.terminal.specs.declared.Reply.{Reply}
-use Rattle.terminal.specs.Runs.{stepsOf, fitting, after, sentBy, storedBy}
+use Rattle.terminal.specs.Runs.{stepsOf, fitting, after, sentBy}
 use Rattle.terminal.specs.Answers.{numberOf, Outcome, given, unchanged, did, gives}
-use Rattle.terminal.specs.Lines.{isValid, firstOf, startLines, hostLines, keyLines}
+use Rattle.terminal.specs.Lines.{passesLine2, firstOf, startLines, hostLines, keyLines}
 use Rattle.terminal.specs.Calls.{unstarted, startStep, startCall, hostCall, keyCall}
 use Rattle.terminal.specs.Claims.{Leaves, Did, SameResult}
-use Rattle.terminal.specs.Table.{Line3, Line6, Decides, startTable, hostTable, keyTable}
-use Rattle.terminal.proofs.Deciding.{fits-on, stops-there}
+use Rattle.terminal.specs.Table.{Line3, Decides, startTable, hostTable, keyTable}
 use Rattle.terminal.proofs.Matching.{ends, next, first-decides-row, decides-one}
 use Rattle.terminal.proofs.Exceeding.{line-3}
 use Rattle.terminal.proofs.Lines.{line-4, line-5, line-7}
@@ -71,7 +67,7 @@ module _ (size : Size) (page : Page) where
 
 module _ (t : Terminal) (bytes output : List ℕ) where
   host-decides : Decides (hostTable t bytes (length output)) (hostCall t bytes output .number)
-  unfolding hostCall hostLines isValid numberOf
+  unfolding hostCall hostLines passesLine2 numberOf
   host-decides =
       subst (Decides (hostTable t bytes (length output))) (number-is (firstOf (hostLines t bytes output)) _ _ _ _)
       (first-decides-row
@@ -85,7 +81,7 @@ module _ (t : Terminal) (bytes output : List ℕ) where
 
 module _ (t : Terminal) (key : ℕ) (output : List ℕ) where
   key-decides : Decides (keyTable t key (length output)) (keyCall t key output .number)
-  unfolding keyCall keyLines isValid numberOf
+  unfolding keyCall keyLines passesLine2 numberOf
   key-decides =
       subst (Decides (keyTable t key (length output))) (number-is (firstOf (keyLines t key output)) _ _ _ _)
       (first-decides-row
@@ -256,13 +252,13 @@ gives-valid Locked taken t output steps before later = before
 gives-valid TooLong taken t output steps before later = before
 gives-valid NoCell taken t output steps before later = before
 
-pub host-keeps-valid : (t : Terminal) (bytes output : List ℕ) → Valid t → Valid (hostCall t bytes output .terminal)
+pub host-call-keeps-valid : (t : Terminal) (bytes output : List ℕ) → Valid t → Valid (hostCall t bytes output .terminal)
 unfolding hostCall
-host-keeps-valid t bytes output valid = gives-valid _ _ t output _ valid (steps-keep-valid (length output) t bytes valid)
+host-call-keeps-valid t bytes output valid = gives-valid _ _ t output _ valid (steps-keep-valid (length output) t bytes valid)
 
-pub key-keeps-valid : (t : Terminal) (key : ℕ) (output : List ℕ) → Valid t → Valid (keyCall t key output .terminal)
+pub key-call-keeps-valid : (t : Terminal) (key : ℕ) (output : List ℕ) → Valid t → Valid (keyCall t key output .terminal)
 unfolding keyCall after fitting
-key-keeps-valid t key output valid =
+key-call-keeps-valid t key output valid =
     gives-valid _ _ t output _ valid
     (either-line (λ (steps : List Stepped). Valid (after t steps)) _ _ _ (λ _. Keys.key-keeps-valid key t valid) (λ _. valid))
 

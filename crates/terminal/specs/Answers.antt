@@ -1,7 +1,7 @@
 -- Document 01, "Numbers a call gives back": for each answer its number, and what its line gives and leaves.
 use mathlib.Core.List.{List}
 use Prim.Native.Nat.{ℕ}
-use lib.ListN.{length}
+use lib.ListN.{length, take}
 use Rattle.words.specs.Output.{placed}
 use Rattle.page.specs.Page.{Page}
 use Rattle.steps.specs.Steps.{Terminal, Stepped}
@@ -28,6 +28,9 @@ pub record Outcome : Type 0 where
   pub stored : ℕ
   pub terminal : Terminal
   pub output : List ℕ
+
+abbrev pub bytesSent : Outcome → List ℕ
+bytesSent outcome = take (outcome .sent) (outcome .output)
 
 -- What the code handed back, with the page and the output that it left.
 abbrev pub given : Reply → Page → List ℕ → Outcome

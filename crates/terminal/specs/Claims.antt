@@ -18,7 +18,7 @@ pub record Leaves (t : Terminal) (lent : List ℕ) (outcome : Outcome) : Type 0 
   pub terminal : outcome .terminal ≡ t
   pub output : outcome .output ≡ lent
 
--- What a call that did steps gives and leaves: their number, bytes, cells, and where they led.
+-- What a call that did steps gives and leaves: the bytes taken, the steps' bytes and cells, and where they led.
 pub record Did (taken : ℕ) (t : Terminal) (lent : List ℕ) (steps : List Stepped) (outcome : Outcome) : Type 0 where
   pub bytes-taken : outcome .taken ≡ taken
   pub sent : outcome .sent ≡ length (sentBy steps)
@@ -27,7 +27,7 @@ pub record Did (taken : ℕ) (t : Terminal) (lent : List ℕ) (steps : List Step
   pub output : outcome .output ≡ placed 0 (sentBy steps) lent
 
 -- Two results with what they left are the same.
-pub record SameResult (one other : Reply) (page there : Page) (output lent : List ℕ) : Type 0 where
+pub record SameResult (one other : Reply) (page otherPage : Page) (output otherOutput : List ℕ) : Type 0 where
   pub replies : one ≡ other
-  pub pages : page ≡ there
-  pub outputs : output ≡ lent
+  pub pages : page ≡ otherPage
+  pub outputs : output ≡ otherOutput

@@ -14,15 +14,16 @@ use Rattle.terminal.specs.declared.Answer.{Answer}
 use Rattle.terminal.specs.declared.Answer.the-variants.{Done, WrongSize, WrongState, NoRoom, UnknownKey, Locked, TooLong, NoCell}
 use Rattle.terminal.specs.Runs.{stepsOf, fitting}
 
-pub record Line : Type 0 where
+-- A line's test, and the answer that it gives.
+pub record LineTest : Type 0 where
   pub holds : Bool
   pub answer : Answer
 
 infix 68 _answers_
-abbrev pub _answers_ : Bool → Answer → Line
+abbrev pub _answers_ : Bool → Answer → LineTest
 test answers answer = record { holds = test; answer = answer }
 
-unfoldable pub firstOf : List Line → Answer
+unfoldable pub firstOf : List LineTest → Answer
 firstOf [] = Done
 firstOf (line ∷ later) =
     let further = firstOf later in
@@ -33,24 +34,25 @@ firstOf (line ∷ later) =
 unfoldable pub exceedsRoom : ℕ → List Stepped → Bool
 exceedsRoom room steps = ltb (length (fitting room steps)) (length steps)
 
-unfoldable pub isValid : Terminal → Bool
-isValid t = validState (t .state) and validPage (t .page)
+-- Line 2 is not given; line 1 is tested before.
+unfoldable pub passesLine2 : Terminal → Bool
+passesLine2 t = validState (t .state) and validPage (t .page)
 
-unfoldable pub startLines : Size → Page → List Line
+unfoldable pub startLines : Size → Page → List LineTest
 startLines size page = not (sizeFits size page) answers WrongSize ∷ []
 
-unfoldable pub hostLines : Terminal → List ℕ → List ℕ → List Line
+unfoldable pub hostLines : Terminal → List ℕ → List ℕ → List LineTest
 hostLines t bytes output =
     not (sizeFits (t .state .size) (t .page)) answers WrongSize
-    ∷ not (isValid t) answers WrongState
+    ∷ not (passesLine2 t) answers WrongState
     ∷ ltb 65536 (length bytes) answers TooLong
     ∷ exceedsRoom (length output) (stepsOf t bytes) answers NoRoom
     ∷ []
 
-unfoldable pub keyLines : Terminal → ℕ → List ℕ → List Line
+unfoldable pub keyLines : Terminal → ℕ → List ℕ → List LineTest
 keyLines t key output =
     not (sizeFits (t .state .size) (t .page)) answers WrongSize
-    ∷ not (isValid t) answers WrongState
+    ∷ not (passesLine2 t) answers WrongState
     ∷ not (isKnown key) answers UnknownKey
     ∷ isLockedOut key (t .state) answers Locked
     ∷ lacksCell key t answers NoCell

@@ -43,24 +43,24 @@ pub data Line7 (key : ℕ) (t : Terminal) : Type 0 where
   no-field : 260 ≤ key → key ≤ 261 → fieldsHere t ≡ [] → Line7 key t
 
 -- A line of the table: its number, and when it holds.
-pub record Row : Type 1 where
+pub record TableLine : Type 1 where
   pub number : ℕ
   pub Holds : Type 0
 
 infix 68 _when_
-abbrev pub _when_ : ℕ → Type 0 → Row
+abbrev pub _when_ : ℕ → Type 0 → TableLine
 number when Holds = record { number = number; Holds = Holds }
 
 -- The number is that of the first line that holds, and 0 where none does: each is given exactly when its line holds and none before it.
-pub data Decides : List Row → ℕ → Type 1 where
+pub data Decides : List TableLine → ℕ → Type 1 where
   none-holds : Decides [] 0
-  this-holds : (row : Row) (later : List Row) → row .Holds → Decides (row ∷ later) (row .number)
-  not-this : (row : Row) (later : List Row) (number : ℕ) → (row .Holds → ⊥) → Decides later number → Decides (row ∷ later) number
+  this-holds : (row : TableLine) (later : List TableLine) → row .Holds → Decides (row ∷ later) (row .number)
+  not-this : (row : TableLine) (later : List TableLine) (number : ℕ) → (row .Holds → ⊥) → Decides later number → Decides (row ∷ later) number
 
-abbrev pub startTable : Size → Page → List Row
+abbrev pub startTable : Size → Page → List TableLine
 startTable size page = 1 when Line1 size page ∷ []
 
-abbrev pub hostTable : Terminal → List ℕ → ℕ → List Row
+abbrev pub hostTable : Terminal → List ℕ → ℕ → List TableLine
 hostTable t bytes room =
     1 when Line1 (t .state .size) (t .page)
     ∷ 2 when Line2 (t .state) (t .page)
@@ -68,7 +68,7 @@ hostTable t bytes room =
     ∷ 3 when Line3 room (stepsOf t bytes)
     ∷ []
 
-abbrev pub keyTable : Terminal → ℕ → ℕ → List Row
+abbrev pub keyTable : Terminal → ℕ → ℕ → List TableLine
 keyTable t key room =
     1 when Line1 (t .state .size) (t .page)
     ∷ 2 when Line2 (t .state) (t .page)

@@ -8,10 +8,10 @@ ghost use mathlib.Core.List.{List, []};
 ghost use Prim.Native.Nat.{ℕ, _≤_};
 ghost use lib.ListN.{length};
 ghost use Rattle.page.specs.Page.{Page, pageOf};
-ghost use Rattle.steps.specs.Steps.{Valid};
+ghost use Rattle.steps.specs.Steps.{Valid, terminalOf};
 ghost use Rattle.steps.specs.Keys.{isKnown, isLockedOut, lacksCell};
 ghost use Rattle.terminal.specs.Answers.{numberOf, given, unchanged};
-ghost use Rattle.terminal.specs.Lines.{isValid};
+ghost use Rattle.terminal.specs.Lines.{passesLine2};
 ghost use Rattle.terminal.specs.Calls.{startCall, hostCall, keyCall};
 
 // Each has a number, and a line of document 01's table: `numberOf` and `gives` of specs/Answers.antt.
@@ -52,7 +52,7 @@ pub fn number_of(answer: Answer) -> u8
 }
 
 // A call that changes nothing.
-fn refuse(answer: Answer, state: State) -> Reply
+fn refuse_call(answer: Answer, state: State) -> Reply
     ensures { λ r. ⌜ ((page : Page) (output : List ℕ) → given r page output ≡ unchanged answer (record { state = state; page = page }) output) ⌝ }
 {
     Reply {
@@ -65,7 +65,7 @@ fn refuse(answer: Answer, state: State) -> Reply
 }
 
 fn is_valid(state: State, characters: &[u8], marks: &[u8]) -> bool
-    ensures { λ r. ⌜ r ≡ isValid (record { state = state; page = pageOf (now (characters .entry)) (now (marks .entry)) }) ⌝ }
+    ensures { λ r. ⌜ r ≡ passesLine2 (terminalOf state (now (characters .entry)) (now (marks .entry))) ⌝ }
 {
     if state.is_valid() {
         return page::is_valid_page(characters, marks);
@@ -75,9 +75,9 @@ fn is_valid(state: State, characters: &[u8], marks: &[u8]) -> bool
 
 // The steps of host bytes, stopping where a message exceeds the room left.
 fn run(state: State, characters: &mut [u8], marks: &mut [u8], bytes: &[u8], out: &mut [u8]) -> Reply
-    requires { ⌜ Valid (record { state = state; page = pageOf (now characters) (now marks) }) ⌝ }
+    requires { ⌜ Valid (terminalOf state (now characters) (now marks)) ⌝ }
     requires { ⌜ length (now bytes) ≤ 65536 ⌝ }
-    ensures { λ r. ⌜ given r (pageOf (now (characters .exit)) (now (marks .exit))) (now (out .exit)) ≡ hostCall (record { state = state; page = pageOf (now (characters .entry)) (now (marks .entry)) }) (now (bytes .entry)) (now (out .entry)) ⌝ }
+    ensures { λ r. ⌜ given r (pageOf (now (characters .exit)) (now (marks .exit))) (now (out .exit)) ≡ hostCall (terminalOf state (now (characters .entry)) (now (marks .entry))) (now (bytes .entry)) (now (out .entry)) ⌝ }
 {
     let mut here = state;
     let mut taken = 0;
@@ -85,7 +85,7 @@ fn run(state: State, characters: &mut [u8], marks: &mut [u8], bytes: &[u8], out:
     let mut stored = 0;
     while taken < bytes.len() {
         let step = commands::step(here, characters, marks, out, sent, bytes[taken]);
-        if step.full {
+        if step.exceeds {
             return Reply {
                 answer: Answer::NoRoom,
                 state: here,
@@ -110,13 +110,13 @@ fn run(state: State, characters: &mut [u8], marks: &mut [u8], bytes: &[u8], out:
 
 // The step of a key that lines 1, 2, 4, 5 and 7 let pass.
 fn press(state: State, characters: &mut [u8], marks: &mut [u8], key: usize, out: &mut [u8]) -> Reply
-    requires { ⌜ Valid (record { state = state; page = pageOf (now characters) (now marks) }) ⌝ }
-    requires { ⌜ (isKnown key ≡ true) × (isLockedOut key state ≡ false) × (lacksCell key (record { state = state; page = pageOf (now characters) (now marks) }) ≡ false) ⌝ }
-    ensures { λ r. ⌜ given r (pageOf (now (characters .exit)) (now (marks .exit))) (now (out .exit)) ≡ keyCall (record { state = state; page = pageOf (now (characters .entry)) (now (marks .entry)) }) key (now (out .entry)) ⌝ }
+    requires { ⌜ Valid (terminalOf state (now characters) (now marks)) ⌝ }
+    requires { ⌜ (isKnown key ≡ true) × (isLockedOut key state ≡ false) × (lacksCell key (terminalOf state (now characters) (now marks)) ≡ false) ⌝ }
+    ensures { λ r. ⌜ given r (pageOf (now (characters .exit)) (now (marks .exit))) (now (out .exit)) ≡ keyCall (terminalOf state (now (characters .entry)) (now (marks .entry))) key (now (out .entry)) ⌝ }
 {
     let step = keys::step(state, characters, marks, out, key);
-    if step.full {
-        return refuse(Answer::NoRoom, state);
+    if step.exceeds {
+        return refuse_call(Answer::NoRoom, state);
     }
     let after = step.state;
     Reply {
@@ -134,7 +134,7 @@ pub fn start(rows: usize, columns: usize, characters: &mut [u8], marks: &mut [u8
 {
     let size = Size { rows, columns };
     if !size.fits(characters, marks) {
-        return refuse(Answer::WrongSize, State::zero());
+        return refuse_call(Answer::WrongSize, State::zero());
     }
     let cells = marks.len();
     page::erase(characters, marks, 0, cells, true);
@@ -155,16 +155,16 @@ pub fn host(
     bytes: &[u8],
     out: &mut [u8],
 ) -> Reply
-    ensures { λ r. ⌜ given r (pageOf (now (characters .exit)) (now (marks .exit))) (now (out .exit)) ≡ hostCall (record { state = state; page = pageOf (now (characters .entry)) (now (marks .entry)) }) (now (bytes .entry)) (now (out .entry)) ⌝ }
+    ensures { λ r. ⌜ given r (pageOf (now (characters .exit)) (now (marks .exit))) (now (out .exit)) ≡ hostCall (terminalOf state (now (characters .entry)) (now (marks .entry))) (now (bytes .entry)) (now (out .entry)) ⌝ }
 {
     if !state.size.fits(characters, marks) {
-        return refuse(Answer::WrongSize, state);
+        return refuse_call(Answer::WrongSize, state);
     }
     if !is_valid(state, characters, marks) {
-        return refuse(Answer::WrongState, state);
+        return refuse_call(Answer::WrongState, state);
     }
     if 65536 < bytes.len() {
-        return refuse(Answer::TooLong, state);
+        return refuse_call(Answer::TooLong, state);
     }
     run(state, characters, marks, bytes, out)
 }
@@ -177,22 +177,22 @@ pub fn key(
     key: usize,
     out: &mut [u8],
 ) -> Reply
-    ensures { λ r. ⌜ given r (pageOf (now (characters .exit)) (now (marks .exit))) (now (out .exit)) ≡ keyCall (record { state = state; page = pageOf (now (characters .entry)) (now (marks .entry)) }) key (now (out .entry)) ⌝ }
+    ensures { λ r. ⌜ given r (pageOf (now (characters .exit)) (now (marks .exit))) (now (out .exit)) ≡ keyCall (terminalOf state (now (characters .entry)) (now (marks .entry))) key (now (out .entry)) ⌝ }
 {
     if !state.size.fits(characters, marks) {
-        return refuse(Answer::WrongSize, state);
+        return refuse_call(Answer::WrongSize, state);
     }
     if !is_valid(state, characters, marks) {
-        return refuse(Answer::WrongState, state);
+        return refuse_call(Answer::WrongState, state);
     }
     if !keys::is_known(key) {
-        return refuse(Answer::UnknownKey, state);
+        return refuse_call(Answer::UnknownKey, state);
     }
     if keys::is_locked_out(key, state) {
-        return refuse(Answer::Locked, state);
+        return refuse_call(Answer::Locked, state);
     }
     if keys::lacks_cell(key, state, characters, marks) {
-        return refuse(Answer::NoCell, state);
+        return refuse_call(Answer::NoCell, state);
     }
     press(state, characters, marks, key, out)
 }

@@ -7,7 +7,9 @@ use state::State;
 ghost use mathlib.Core.Path.{_≡_};
 ghost use Prim.Native.Nat.{_≤_};
 ghost use lib.ListN.{length};
-ghost use Rattle.frames.specs.Held.{lent, Enough};
+ghost use Rattle.frames.specs.Sessions.{lineDone};
+ghost use Rattle.frames.specs.Transcript.{SoFar, afterByte, afterBytes};
+ghost use Rattle.frames.specs.Held.{lineIn, sessionIn, lent, Enough, Holds};
 
 const STDIN: i32 = 0;
 
@@ -44,7 +46,7 @@ fn show(held: Held, characters: &[u8], marks: &[u8], text: &mut [u8])
     io::write_all(STDOUT_FILENO, &text[..end]);
 }
 
-// A finished line: its frame's calls, and what each prints.
+// A finished line: its frame's calls, and what each prints. The session is then the definition's.
 fn do_calls(
     held: Held,
     line: &mut [u8],
@@ -55,6 +57,7 @@ fn do_calls(
     text: &mut [u8],
 ) -> Held
     requires { ⌜ (length (now line) ≡ 512) × Enough (lent (now characters) (now marks) (now out) (now text)) ⌝ }
+    ensures { λ r. ⌜ sessionIn r (now (characters .exit)) (now (marks .exit)) ≡ lineDone (lineIn (now (line .entry)) digits) (sessionIn held (now (characters .entry)) (now (marks .entry))) .after ⌝ }
 {
     let kind = frames::frame(line, digits);
     let mut here = held;
@@ -86,6 +89,7 @@ fn do_line(
     dumping: bool,
 ) -> Held
     requires { ⌜ (length (now line) ≡ 512) × Enough (lent (now characters) (now marks) (now out) (now text)) ⌝ }
+    ensures { λ r. ⌜ sessionIn r (now (characters .exit)) (now (marks .exit)) ≡ lineDone (lineIn (now (line .entry)) digits) (sessionIn held (now (characters .entry)) (now (marks .entry))) .after ⌝ }
 {
     let after = do_calls(held, line, digits, characters, marks, out, text);
     if dumping {
@@ -94,6 +98,7 @@ fn do_line(
     after
 }
 
+// Where the line so far and the session are held, they are held after the byte too.
 fn take_byte(
     reading: Reading,
     byte: u8,
@@ -105,6 +110,7 @@ fn take_byte(
     dumping: bool,
 ) -> Reading
     requires { ⌜ (length (now line) ≡ 512) × Enough (lent (now characters) (now marks) (now out) (now text)) ⌝ }
+    ensures { λ r. ⌜ ((read : SoFar) → Holds read (reading .held) (reading .digits) (now (line .entry)) (now (characters .entry)) (now (marks .entry)) → Holds (afterByte byte read) (r .held) (r .digits) (now (line .exit)) (now (characters .exit)) (now (marks .exit))) ⌝ }
 {
     let held = reading.held;
     let digits = reading.digits;
@@ -131,6 +137,7 @@ fn take_bytes(
     dumping: bool,
 ) -> Reading
     requires { ⌜ (length (now line) ≡ 512) × Enough (lent (now characters) (now marks) (now out) (now text)) ⌝ }
+    ensures { λ r. ⌜ ((read : SoFar) → Holds read (reading .held) (reading .digits) (now (line .entry)) (now (characters .entry)) (now (marks .entry)) → Holds (afterBytes (now (bytes .entry)) read) (r .held) (r .digits) (now (line .exit)) (now (characters .exit)) (now (marks .exit))) ⌝ }
 {
     let mut here = reading;
     let mut i = 0;

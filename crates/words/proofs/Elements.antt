@@ -6,7 +6,7 @@ use mathlib.Core.Logic.{⊎-elim}
 use Prim.Native.Nat.{ℕ, zero, suc, _+_, _<_, _≤_}
 use native.Mathlib.Omega.{arith}
 use lib.ListN.{length}
-use Rattle.words.specs.Lists.{every, selected, placesFrom}
+use Rattle.words.specs.Lists.{every, selected, numbersFrom}
 use Rattle.words.proofs.Choosing.{not-both, both, both-hold, then-case, else-case, either-line, less-or-not}
 
 module _ {A : Type 0} (test : A → Bool) where
@@ -71,8 +71,8 @@ module _ {A B : Type 0} where
 
 -- The places that pass a test are those that are listed.
 module _ (test : ℕ → Bool) where
-  pub place-passes : (k i n : ℕ) → List·Memᴰ k (placesFrom test i n) → test k ≡ true
-  unfolding placesFrom
+  pub place-passes : (k i n : ℕ) → List·Memᴰ k (numbersFrom test i n) → test k ≡ true
+  unfolding numbersFrom
   place-passes k i zero m = absurd (List·Memᴰ·not-nil m)
   place-passes k i (suc n) m =
       either-line (λ (l : List ℕ). List·Memᴰ k l → test k ≡ true) (test i) _ _
@@ -80,8 +80,8 @@ module _ (test : ℕ → Bool) where
       (λ _ later. place-passes k (i + 1) n later)
       m
 
-  pub place-listed : (k i n : ℕ) → i ≤ k → k < i + n → test k ≡ true → List·Memᴰ k (placesFrom test i n)
-  unfolding placesFrom
+  pub place-listed : (k i n : ℕ) → i ≤ k → k < i + n → test k ≡ true → List·Memᴰ k (numbersFrom test i n)
+  unfolding numbersFrom
   place-listed k i zero l h t = absurd (omega arith)
   place-listed k i (suc n) l h t =
       less-or-not i k
@@ -93,7 +93,7 @@ module _ (test : ℕ → Bool) where
       subst (λ (list : List ℕ). List·Memᴰ k list) (sym (then-case _ _ _ (rw same at t))) (List·Memᴰ·head same))
 
 -- A run of n places has n of them.
-pub run-length : (i n : ℕ) → length (placesFrom (λ _. true) i n) ≡ n
-unfolding placesFrom
+pub run-length : (i n : ℕ) → length (numbersFrom (λ _. true) i n) ≡ n
+unfolding numbersFrom
 run-length i zero = refl
 run-length i (suc n) = ap length (then-case true _ _ refl) ∙ ap suc (run-length (i + 1) n)

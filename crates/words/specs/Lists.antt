@@ -24,10 +24,10 @@ abbrev pub each : (ℕ → ℕ → ℕ) → List ℕ → List ℕ
 each f list = eachFrom f 0 list
 
 -- Of the n places from i on, those that pass the test, in order.
-unfoldable pub placesFrom : (ℕ → Bool) → ℕ → ℕ → List ℕ
-placesFrom test i zero = []
-placesFrom test i (suc n) =
-    let rest = placesFrom test (i + 1) n in
+unfoldable pub numbersFrom : (ℕ → Bool) → ℕ → ℕ → List ℕ
+numbersFrom test i zero = []
+numbersFrom test i (suc n) =
+    let rest = numbersFrom test (i + 1) n in
     if test i then i ∷ rest
     else rest
 

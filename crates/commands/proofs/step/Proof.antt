@@ -27,15 +27,15 @@ control-requires c κs =
     let t : Terminal = record { state = start .args .state; page = pageOf (start .args .characters .now) (start .args .marks .now) } in
     next-valid t (start .args .byte) _ _ (c .before .before .before .before .before .before .advance .ensures) (c .before .before .before .before .before .with-half .ensures) (start .pre .0)
 
-after-esc-requires : tie.Need-after-esc-requires
-after-esc-requires c κs =
+esc-step-requires : tie.Need-esc-step-requires
+esc-step-requires c κs =
     let start = c .before .before .before .before .before .before .before .before .before .before .before .before in
     let t : Terminal = record { state = start .args .state; page = pageOf (start .args .characters .now) (start .args .marks .now) } in
     (next-valid t (start .args .byte) _ _ (c .before .before .before .before .before .before .before .advance .ensures) (c .before .before .before .before .before .before .with-half .ensures) (start .pre .0), start .pre .1)
 
-after-bracket-requires : tie.Need-after-bracket-requires
+bracket-step-requires : tie.Need-bracket-step-requires
 unfolding Tells
-after-bracket-requires c κs =
+bracket-step-requires c κs =
     let start = c .before .before .before .before .before .before .before .before .before .before .before .before in
     let t : Terminal = record { state = start .args .state; page = pageOf (start .args .characters .now) (start .args .marks .now) } in
     let final = tells-of t (start .args .byte) _ _ (c .before .before .before .before .before .before .before .advance .ensures) (c .before .before .before .before .before .before .with-half .ensures) _ (c .before .before .before .before .event4 .given .1) in
@@ -67,14 +67,14 @@ unfolding eventStep
 returns-4 c =
     let start = c .before .before .before .before .before .before .before .before .before .before .before .before .before .before .before .before .before .before .before in
     let t : Terminal = record { state = start .args .state; page = pageOf (start .args .characters .now) (start .args .marks .now) } in
-    rw (host-is t (start .args .byte) _ _ (c .before .before .before .before .before .before .before .before .before .before .before .before .before .before .advance .ensures) (c .before .before .before .before .before .before .before .before .before .before .before .before .before .with-half .ensures) _ (c .before .before .before .before .before .before .before .before .before .before .before .event3 .given .1)) (c .before .before .before .before .before .before .after-esc .ensures)
+    rw (host-is t (start .args .byte) _ _ (c .before .before .before .before .before .before .before .before .before .before .before .before .before .before .advance .ensures) (c .before .before .before .before .before .before .before .before .before .before .before .before .before .with-half .ensures) _ (c .before .before .before .before .before .before .before .before .before .before .before .event3 .given .1)) (c .before .before .before .before .before .before .esc-step .ensures)
 
 returns-5 : tie.Need-returns-5
 unfolding eventStep
 returns-5 c =
     let start = c .before .before .before .before .before .before .before .before .before .before .before .before .before .before .before .before .before .before .before in
     let t : Terminal = record { state = start .args .state; page = pageOf (start .args .characters .now) (start .args .marks .now) } in
-    rw (host-is t (start .args .byte) _ _ (c .before .before .before .before .before .before .before .before .before .before .before .before .before .before .advance .ensures) (c .before .before .before .before .before .before .before .before .before .before .before .before .before .with-half .ensures) _ (c .before .before .before .before .before .before .before .before .before .before .before .event4 .given .1)) (c .before .before .before .before .before .before .after-bracket .ensures)
+    rw (host-is t (start .args .byte) _ _ (c .before .before .before .before .before .before .before .before .before .before .before .before .before .before .advance .ensures) (c .before .before .before .before .before .before .before .before .before .before .before .before .before .with-half .ensures) _ (c .before .before .before .before .before .before .before .before .before .before .before .event4 .given .1)) (c .before .before .before .before .before .before .bracket-step .ensures)
 
 returns-6 : tie.Need-returns-6
 unfolding eventStep bytesOf
@@ -96,9 +96,9 @@ step-spec =
     (λ c. search needs)
     control-requires
     (λ c. search needs)
-    after-esc-requires
+    esc-step-requires
     (λ c. search needs)
-    after-bracket-requires
+    bracket-step-requires
     (λ c. search needs)
     (λ c κs. search needs)
     returns

@@ -8,7 +8,7 @@ use lib.Seq.{length-take-le}
 use Rattle.words.specs.Output.{Wrote}
 use Rattle.words.proofs.Output.{wrote-none, wrote-one, wrote-then}
 use Rattle.words.proofs.Passing.{passes}
-use Rattle.figures.specs.Hexadecimal.{isDigit, valueOf, pairsOf}
+use Rattle.figures.specs.Hexadecimal.{isDigit, digitValue, pairsOf}
 use Rattle.figures.proofs.Digits.{pairs-next, pairs-end}
 use Rattle.figures.proofs.Digits.{read-later}
 use Rattle.figures.proofs.decode.Statement.{statement}
@@ -72,8 +72,8 @@ loop-again c =
     let here : turn .loop .i + 1 < length digits = omega (arith, length-take-le (start .args .digits) (start .args .text .now) (start .pre .0)) in
     let first : turn .loop .i < start .args .digits = omega arith in
     let past : turn .loop .count ≤ turn .loop .i + 1 = omega arith in
-    let high = c .before .before .value-of .ensures .0 ∙ ap valueOf (read-later (turn .loop .inv .4) _ _ (turn .loop .inv .0) first) in
-    let low = c .value-of2 .ensures .0 ∙ ap valueOf (read-later (turn .loop .inv .4) _ _ past (c .before .before .before .before .loop-test .taken)) in
+    let high = c .before .before .value-of .ensures .0 ∙ ap digitValue (read-later (turn .loop .inv .4) _ _ (turn .loop .inv .0) first) in
+    let low = c .value-of2 .ensures .0 ∙ ap digitValue (read-later (turn .loop .inv .4) _ _ past (c .before .before .before .before .loop-test .taken)) in
     let byte : List ℕ = (c .before .before .value-of .result * 16 + c .value-of2 .result) ∷ [] in (
       omega arith,
       omega (arith, here),

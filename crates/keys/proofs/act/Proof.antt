@@ -63,7 +63,7 @@ act-spec =
     (λ c. rw (c .to-previous-field .ensures, c .before .before .before .match .keys6))
     (λ c. search needs)
     (λ c. search needs)
-    (λ c. rw (c .to-first-cell .ensures, c .before .before .before .match .keys7))
+    (λ c. rw (c .to-first-unprotected .ensures, c .before .before .before .match .keys7))
     (λ c. search needs)
     (λ c. search needs)
     (λ c. rw (c .before .before .before .before .blank-field .ensures, c .before .before .before .before .before .before .before .match .keys8))

@@ -5,7 +5,7 @@ use Rattle.page.specs.Page.{pageOf}
 use Rattle.places.specs.Places.{placeOf}
 use Rattle.places.proofs.Counting.{cell-is}
 use Rattle.steps.specs.Steps.{Terminal}
-use Rattle.steps.specs.Keys.{goneTo, run, startHere, endHere, fieldBlanked}
+use Rattle.steps.specs.Keys.{goneTo, cellsFrom, startHere, endHere, fieldBlanked}
 use Rattle.steps.proofs.Measuring.{measured}
 use Rattle.keys.proofs.Laws.{found, is-free, stays, run-counted, starts-before, start-is, rest-on-page, end-is}
 use Rattle.keys.proofs.blank_field.Statement.{statement}
@@ -58,7 +58,7 @@ returns-2 c =
     let starts = start-is here (started .field-start .ensures) in
     let ends = end-is here (ended .field-end .ensures) in
     let t : Terminal = record { state = start .args .state; page = pageOf (start .args .characters .now) (start .args .marks .now) } in
-    rw (free, c .stored .ensures (run (startHere t) (endHere t)) _ (run-counted _ _ (cell-is _ _ starts) ends), c .before .before .moved-to .ensures, blanked .blank-cells .ensures, ends, starts)
+    rw (free, c .stored .ensures (cellsFrom (startHere t) (endHere t)) _ (run-counted _ _ (cell-is _ _ starts) ends), c .before .before .moved-to .ensures, blanked .blank-cells .ensures, ends, starts)
 
 pub blank-field-spec : {M : Type 1} → statement M
 blank-field-spec =

@@ -1,7 +1,6 @@
 use mathlib.Core.Path.{_≡_, sym}
 use Prim.Native.Nat.{_+_, _-_}
 use native.Mathlib.Omega.{arith}
-use borrow.Author.Needs.{needs}
 use lib.ListN.{length, drop}
 use Rattle.blocks.specs.Lay.{lay}
 use Rattle.laying.specs.Laying.{IsBlock}

@@ -76,9 +76,6 @@ halfs = LL.vals T.the-type T′.the-laws
 abbrev events : Event → List Val
 events = EL.vals E.the-type E′.the-laws
 
-abbrev alls : Advanced → List Val
-alls = LL.vals S.the-type S′.the-laws
-
 module _ {M : Type 1} (𝓤 : URA M) (H : Heap 𝓤) (A : Atoms 𝓤) (W : Given 𝓤 H A) (at-mem : Memory → SProp 𝓤) (run : Routine → Fun 𝓤) (κ : Lft) (q : Share) (b o : ℕ) (γ : GName) (h : HalfRead) (n : ℕ) (ok : validHalfRead h ≡ true) where
   abbrev x : Arg
   x = (record { ptr = (b, o); name = γ; now = h }, (n, tt))

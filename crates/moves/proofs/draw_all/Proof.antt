@@ -3,18 +3,18 @@ use Prim.Native.Nat.{_≤_, _-_}
 use native.Mathlib.Omega.{arith}
 use borrow.Author.Needs.{needs}
 use lib.ListN.{length, take, drop}
-use Rattle.steps.specs.Commands.{drawnAll}
+use Rattle.steps.specs.Commands.{penAfterAll}
 use Rattle.moves.proofs.Walking.{next-drawn, all-drawn}
 use Rattle.moves.proofs.draw_all.Statement.{statement}
 use Rattle.moves.proofs.draw_all.Tie as tie
 
 -- what all values make of the pen is what those from i on make of it now
 abbrev Inv-loop : tie.InvT-loop
-Inv-loop count pen values drawn₀ i₀ drawn i =
-    (i ≤ count) × (length values ≡ 8) × (drawnAll (take count values) pen ≡ drawnAll (drop i (take count values)) drawn)
+Inv-loop count pen values drawn₀ i₀ penAfter i =
+    (i ≤ count) × (length values ≡ 8) × (penAfterAll (take count values) pen ≡ penAfterAll (drop i (take count values)) penAfter)
 
 abbrev μ-loop : tie.MeasureT-loop
-μ-loop count pen values drawn₀ i₀ drawn i = count - i
+μ-loop count pen values drawn₀ i₀ penAfter i = count - i
 
 loop-again : tie.Need-loop-again Inv-loop μ-loop
 loop-again c =

@@ -10,13 +10,13 @@ use Rattle.moves.proofs.is_move.Tie as tie
 returns : tie.Need-returns
 unfolding isMove
 returns c =
-    let letter = c .before .args .letter in
+    let final = c .before .args .letter in
     let low = c .if1 .taken in
     sym
     (second-decides _ _ (first-fails _ _ (lt-leb _ _ low))
-    ∙ second-decides _ _ (ne-eqb letter 0x5A (λ e. omega arith))
-    ∙ second-decides _ _ (ne-eqb letter 0x64 (λ e. omega arith))
-    ∙ ne-eqb letter 0x66 (λ e. omega arith))
+    ∙ second-decides _ _ (ne-eqb final 0x5A (λ e. omega arith))
+    ∙ second-decides _ _ (ne-eqb final 0x64 (λ e. omega arith))
+    ∙ ne-eqb final 0x66 (λ e. omega arith))
 
 returns-2 : tie.Need-returns-2
 unfolding isMove

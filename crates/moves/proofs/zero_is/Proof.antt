@@ -14,4 +14,4 @@ zero-is-spec =
     (λ c. search needs)
     (λ c. search needs)
     (λ c. search needs)
-    (λ c. entry (λ (final : ℕ). allowed final .zero) 0x40 63 (c .args .letter) (search needs) (search needs)))
+    (λ c. entry (λ (final : ℕ). allowed final .zeroIs) 0x40 63 (c .args .letter) (search needs) (search needs)))

@@ -4,7 +4,7 @@ use Prim.Native.Nat.{_≤_, _<_, _+_, _-_}
 use native.Mathlib.Omega.{arith}
 use borrow.Author.Needs.{needs}
 use lib.ListN.{length}
-use Rattle.words.specs.Lists.{placesFrom}
+use Rattle.words.specs.Lists.{numbersFrom}
 use Rattle.words.proofs.Writing.{upTo, none-changed, not-yet, next-changed, next-same, all-changed}
 use Rattle.words.proofs.Passing.{place-counted, place-passed-by, all-counted}
 use Rattle.page.specs.Page.{pageOf, erasable, erased, cellsErased}
@@ -22,7 +22,7 @@ Inv-loop characters₀ marks₀ from to mode count₀ cell₀ characters marks c
     (length marks ≡ length marks₀) ×
     (characters ≡ upTo cell (erased mode from to (pageOf characters₀ marks₀) .characters) characters₀) ×
     (marks ≡ upTo cell (erased mode from to (pageOf characters₀ marks₀) .marks) marks₀) ×
-    (count + length (placesFrom (erasable mode marks₀) cell (to - cell)) ≡ length (cellsErased mode from to (pageOf characters₀ marks₀)))
+    (count + length (numbersFrom (erasable mode marks₀) cell (to - cell)) ≡ length (cellsErased mode from to (pageOf characters₀ marks₀)))
 
 abbrev μ-loop : tie.MeasureT-loop
 μ-loop characters₀ marks₀ from to mode count₀ cell₀ characters marks count cell = to - cell

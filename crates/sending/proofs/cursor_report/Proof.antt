@@ -43,7 +43,7 @@ returns-2 c =
     let size : c .before .before .before .before .before .before .place-length .result ≡ length (placeBytes (cursor .row) (cursor .column) 0x52) = omega (arith, c .before .before .before .before .before .before .place-length .ensures .0) in
     let enough : length (placeBytes (cursor .row) (cursor .column) 0x52) ≤ length (c .before .before .before .before .before .before .before .before .args .out .now) - c .before .before .before .before .before .before .before .before .args .at = omega arith in
     (λ i. record { told = told (c .sent .ensures i) page; output = c .before .before .before .put-place .ensures .left i })
-    ∙ (λ i. record { told = told (record { state = c .before .before .before .before .before .before .before .before .args .state; stored = 0; sent = size i; refused = false; protection = false; full = false }) page; output = placed (c .before .before .before .before .before .before .before .before .args .at) (placeBytes (cursor .row) (cursor .column) 0x52) (c .before .before .before .before .before .before .before .before .args .out .now) })
+    ∙ (λ i. record { told = told (record { state = c .before .before .before .before .before .before .before .before .args .state; stored = 0; sent = size i; refused = false; protection = false; exceeds = false }) page; output = placed (c .before .before .before .before .before .before .before .before .args .at) (placeBytes (cursor .row) (cursor .column) 0x52) (c .before .before .before .before .before .before .before .before .args .out .now) })
     ∙ sym (with-room _ _ _ _ enough)
 
 pub cursor-report-spec : {M : Type 1} → statement M

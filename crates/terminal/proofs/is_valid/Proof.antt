@@ -1,12 +1,12 @@
 use mathlib.Core.Path.{sym, _∙_}
 use borrow.Author.Needs.{needs}
 use Rattle.words.proofs.Choosing.{first-decides, first-fails}
-use Rattle.terminal.specs.Lines.{isValid}
+use Rattle.terminal.specs.Lines.{passesLine2}
 use Rattle.terminal.proofs.is_valid.Statement.{statement}
 use Rattle.terminal.proofs.is_valid.Tie as tie
 
 pub is-valid-spec : {M : Type 1} → statement M
-unfolding isValid
+unfolding passesLine2
 is-valid-spec =
     tie.close
     (tie.spec

@@ -9,7 +9,7 @@ use Rattle.steps.specs.Keys.{keyStep}
 use Rattle.terminal.specs.declared.Answer.the-variants.{Done, NoRoom}
 use Rattle.terminal.specs.Answers.{numberOf, unchanged}
 use Rattle.terminal.proofs.Deciding.{valid-holds, key-no-room, key-done}
-use Rattle.terminal.proofs.Running.{was-done, was-full}
+use Rattle.terminal.proofs.Running.{was-done, exceeded}
 use Rattle.terminal.proofs.press.Statement.{statement}
 use Rattle.terminal.proofs.press.Tie as tie
 
@@ -19,9 +19,9 @@ returns c =
     let start = did .before .before .before .before .before .before .before in
     let t : Terminal = record { state = start .args .state; page = pageOf (start .args .characters .now) (start .args .marks .now) } in
     let passed = start .pre .1 in
-    let full = was-full 0 (start .args .out .now) t _ (did .step .result) _ _ (did .step .ensures) (c .before .if1 .taken) in
+    let full = exceeded 0 (start .args .out .now) t _ (did .step .result) _ _ (did .step .ensures) (c .before .if1 .taken) in
     let exceeds : length (start .args .out .now) < length (bytesOf (keyStep (start .args .key) t .message)) = omega (arith, full .exceeds) in
-    c .refuse .ensures _ _
+    c .refuse-call .ensures _ _
     ∙ (λ i. unchanged NoRoom (record { state = start .args .state; page = full .same-page i }) (full .same-output i))
     ∙ sym (key-no-room t (start .args .key) (start .args .out .now) (start .pre .0 .size) (valid-holds t (start .pre .0)) (passed .0) (passed .1) (passed .2) exceeds)
 

@@ -1,14 +1,15 @@
 use mathlib.Core.Path.{_≡_, refl, sym, _∙_}
-use Prim.Native.Nat.{_+_, _-_, _*_, _≤_}
+use Prim.Native.Nat.{_-_}
 use native.Mathlib.Omega.{arith}
 use borrow.Author.Needs.{needs}
 use lib.ListN.{length}
 use Rattle.page.specs.Page.{pageOf}
 use Rattle.terminal.specs.Answers.{numberOf}
-use Rattle.terminal.proofs.Running.{Going, sets-out, was-full, goes-on, ends-full, ends-done}
+use Rattle.terminal.proofs.Running.{Going, sets-out, exceeded, goes-on, ends-full, ends-done}
 use Rattle.terminal.proofs.run.Statement.{statement}
 use Rattle.terminal.proofs.run.Tie as tie
 
+-- after `taken` bytes all is as their steps left it (`Going`); no length changes
 abbrev Inv-loop : tie.InvT-loop
 Inv-loop characters₀ marks₀ bytes out₀ here₀ taken₀ sent₀ stored₀ characters marks out here taken sent stored =
     Going (record { state = here₀; page = pageOf characters₀ marks₀ }) bytes out₀ (record { state = here; page = pageOf characters marks }) taken sent stored out ×
@@ -34,7 +35,7 @@ returns c =
     let turn = did .before .before .before .before .before .before in
     let start = turn .before .before .before .before .before in
     let going = turn .loop .inv .0 in
-    let full = was-full _ _ _ _ (did .step .result) _ _ (did .step .ensures) (c .if1 .taken) in
+    let full = exceeded _ _ _ _ (did .step .result) _ _ (did .step .ensures) (c .if1 .taken) in
     (λ i. record {
       number = 3;
       taken = turn .loop .taken;

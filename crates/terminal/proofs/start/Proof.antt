@@ -17,7 +17,7 @@ returns c =
     let start = c .before .before .before .before .before .before .before .before in
     let page = pageOf (start .args .characters .now) (start .args .marks .now) in
     let wrong = sym (c .before .before .before .fits2 .ensures) ∙ not-true _ (c .before .before .if1 .taken) in
-    c .refuse .ensures page []
+    c .refuse-call .ensures page []
     ∙ (λ i. unchanged WrongSize (record { state = c .before .zero .ensures i; page = page }) [])
     ∙ sym (start-wrong-size _ page wrong)
 

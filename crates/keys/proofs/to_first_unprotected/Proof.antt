@@ -4,22 +4,22 @@ use native.Mathlib.Omega.{arith}
 use borrow.Author.Needs.{needs}
 use Rattle.places.proofs.Counting.{place-is}
 use Rattle.fields.specs.Searches.{orElse}
-use Rattle.steps.specs.Keys.{goneTo, toFirstCell}
+use Rattle.steps.specs.Keys.{goneTo, toFirstUnprotected}
 use Rattle.steps.proofs.Measuring.{measured}
-use Rattle.keys.proofs.to_first_cell.Statement.{statement}
-use Rattle.keys.proofs.to_first_cell.Tie as tie
+use Rattle.keys.proofs.to_first_unprotected.Statement.{statement}
+use Rattle.keys.proofs.to_first_unprotected.Tie as tie
 
 returns-2 : tie.Need-returns-2
-unfolding toFirstCell goneTo orElse
+unfolding toFirstUnprotected goneTo orElse
 returns-2 c =
     let start = c .before .before .before .before .before .before .before in
     let columns = start .args .state .size .columns in
     let first = place-is columns 0 1 1 0 0 (measured (start .pre) .some-columns) (omega (arith, zero-mul columns)) (omega arith) (omega arith) in
     rw (c .quiet2 .ensures _, c .before .moved-to2 .ensures, sym (c .before .before .before .before .first-unprotected .ensures) ∙ c .before .before .enum-told .given .1, ← first)
 
-pub to-first-cell-spec : {M : Type 1} → statement M
-unfolding toFirstCell goneTo orElse
-to-first-cell-spec =
+pub to-first-unprotected-spec : {M : Type 1} → statement M
+unfolding toFirstUnprotected goneTo orElse
+to-first-unprotected-spec =
     tie.close
     (tie.spec
     (λ c κs. let known = measured (c .before .before .pre) in (known .some-columns, known .most))

@@ -4,18 +4,18 @@ use Rattle.words.specs.Choice.{if_then_else_}
 use Rattle.steps.specs.Commands.{escStep}
 use Rattle.steps.proofs.Writing.{told-silent}
 use Rattle.commands.proofs.Silent.{esc-silent}
-use Rattle.commands.proofs.after_esc.Statement.{statement}
-use Rattle.commands.proofs.after_esc.Tie as tie
+use Rattle.commands.proofs.esc_step.Statement.{statement}
+use Rattle.commands.proofs.esc_step.Tie as tie
 
 returns : tie.Need-returns
 unfolding escStep if_then_else_
 returns c = rw (c .before .before .before .before .before .before .before .before .if1 .taken) (c .before .before .before .before .send-block .ensures)
 
 returns-2 : tie.Need-returns-2
-returns-2 c = told-silent _ _ _ _ _ _ (c .before .before .before .before .esc-command .ensures) (esc-silent _ _ (ne-eqb _ _ (c .before .before .before .before .before .before .before .if1 .left)))
+returns-2 c = told-silent _ _ _ _ _ _ (c .before .before .before .before .silent-esc-step .ensures) (esc-silent _ _ (ne-eqb _ _ (c .before .before .before .before .before .before .before .if1 .left)))
 
-pub after-esc-spec : {M : Type 1} → statement M
-after-esc-spec =
+pub esc-step-spec : {M : Type 1} → statement M
+esc-step-spec =
     tie.close
     (tie.spec
     (λ c κs. search needs)

@@ -7,8 +7,8 @@ use Rattle.steps.proofs.Measuring.{measured}
 use Rattle.steps.proofs.Writing.{told-silent}
 use Rattle.commands.proofs.Silent.{move-silent, tab-silent, erase-silent, rendition-silent, mode-silent}
 use Rattle.commands.proofs.Finals.{too-many, not-too-many, final-W, final-J, final-K, final-m, final-h, final-l, final-n}
-use Rattle.commands.proofs.after_bracket.Statement.{statement}
-use Rattle.commands.proofs.after_bracket.Tie as tie
+use Rattle.commands.proofs.bracket_step.Statement.{statement}
+use Rattle.commands.proofs.bracket_step.Tie as tie
 
 returns : tie.Need-returns
 unfolding bytesOf
@@ -96,8 +96,8 @@ returns-9 c =
     (passed ∙ final-n _ _ _ _ t (c .before .before .before .before .before .value .ensures) other (rest .0 .0 .0 .0 .0 .1) (rest .0 .0 .0 .0 .1) (rest .0 .0 .0 .1) (rest .0 .0 .1) (rest .0 .1) (rest .1))
     (c .before .before .status-report .ensures (t .page))
 
-pub after-bracket-spec : {M : Type 1} → statement M
-after-bracket-spec =
+pub bracket-step-spec : {M : Type 1} → statement M
+bracket-step-spec =
     tie.close
     (tie.spec
     (λ c κs. search needs)

@@ -4,8 +4,8 @@ use Rattle.words.specs.Choice.{if_then_else_}
 use Rattle.steps.specs.Commands.{escStep, nextLine}
 use Rattle.steps.proofs.Measuring.{measured}
 use Rattle.commands.proofs.Laws.{margin-valid}
-use Rattle.commands.proofs.esc_command.Statement.{statement}
-use Rattle.commands.proofs.esc_command.Tie as tie
+use Rattle.commands.proofs.silent_esc_step.Statement.{statement}
+use Rattle.commands.proofs.silent_esc_step.Tie as tie
 
 line-down-requires-2 : tie.Need-line-down-requires-2
 line-down-requires-2 c κs = margin-valid (c .before .before .before .before .before .before .pre .0) (c .before .before .to-margin .ensures)
@@ -35,9 +35,9 @@ returns-10 c =
       ne-eqb _ _ (none .1),
     ))
 
-pub esc-command-spec : {M : Type 1} → statement M
+pub silent-esc-step-spec : {M : Type 1} → statement M
 unfolding escStep if_then_else_
-esc-command-spec =
+silent-esc-step-spec =
     tie.close
     (tie.spec
     (λ c κs. search needs)

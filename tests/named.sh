@@ -1,0 +1,18 @@
+#!/usr/bin/env bash
+# Every name that docs/ and the README put in backticks is there: a file, or a word of the code, of a definition or of a test.
+set -u
+words=$(mktemp) || exit 2
+trap 'rm -f "$words"' EXIT
+git ls-files | grep -vE '^(docs/|README)' | xargs cat | tr -s '][ (){};,.`"|/:&=\n' '\n' | sort -u >"$words"
+bad=0
+while IFS=: read -r file name; do
+    # of a path its last name, without its ending
+    last=${name##*::}
+    last=${last##*/}
+    last=${last%%.*}
+    [ -e "$name" ] || [ -z "$last" ] || grep -qxF -- "$last" "$words" || git ls-files | grep -qE "(^|/)$last(\.|$)" || {
+        printf '%s: `%s` is nowhere in the repository\n' "$file" "$name"
+        bad=1
+    }
+done < <(grep -oE '`[A-Za-z][A-Za-z0-9_:/.*-]*`' docs/*.md README.md | tr -d '`' | sort -u)
+exit $bad
