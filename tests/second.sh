@@ -18,3 +18,10 @@ for mode in transcript dump; do
     $second compare $mode ./run $mode -- 1 200 300
     $second compare $mode ./run $mode -- "$new" 50 300
 done
+
+# what transcripts can't reach: any lent lengths, room, damaged state and up to 65,537 bytes; damage everywhere in turn;
+# every room up to a message's length
+$second compare calls ./run calls -- 1 60 100
+$second compare calls ./run calls -- "$new" 50 100
+$second sweep ./run calls
+$second rooms ./run calls
