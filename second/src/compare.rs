@@ -103,6 +103,14 @@ impl Comparison<'_> {
         let kept = self.shrink(kept, |lines| lines.concat())?;
         Ok(kept.concat())
     }
+
+    /// What differs, on a short input.
+    fn show(&self, input: &[u8]) -> Result<(), String> {
+        let short = self.shortest(input)?;
+        println!("short input:\n{}", String::from_utf8_lossy(&short));
+        report(&self.mode.run(&short), &run(self.program, &short)?);
+        Ok(())
+    }
 }
 
 fn show(name: &str, line: Option<&[u8]>, around: usize) {
@@ -132,19 +140,6 @@ fn report(mine: &[u8], theirs: &[u8]) {
     }
 }
 
-impl Comparison<'_> {
-    /// Whether both print the same; if not, what differs, on a short input.
-    fn agrees(&self, input: &[u8]) -> Result<bool, String> {
-        if !self.differs(input)? {
-            return Ok(true);
-        }
-        let short = self.shortest(input)?;
-        println!("short input:\n{}", String::from_utf8_lossy(&short));
-        report(&self.mode.run(&short), &run(self.program, &short)?);
-        Ok(false)
-    }
-}
-
 /// True if all seeds agree.
 pub fn compare(
     mode: Mode,
@@ -155,25 +150,27 @@ pub fn compare(
 ) -> Result<bool, String> {
     let comparison = Comparison { mode, program };
     for seed in from..from + count {
-        if !comparison.agrees(&generated(mode, seed, frames))? {
-            println!(
-                "seed {seed} ({}) differs; {} seeds before it agreed",
-                mode.name(),
-                seed - from
-            );
-            return Ok(false);
+        let input = generated(mode, seed, frames);
+        if !comparison.differs(&input)? {
+            continue;
         }
+        println!("seed {seed} ({}) differs; {} seeds before it agreed", mode.name(), seed - from);
+        comparison.show(&input)?;
+        return Ok(false);
     }
     println!("{count} seeds agreed ({}, {frames} frames each)", mode.name());
     Ok(true)
 }
 
-/// True if damage of every cell and every part of the state is answered the same.
+/// True if damage everywhere is answered the same.
 pub fn sweep(program: &[String]) -> Result<bool, String> {
     let input = generate_calls::sweep();
-    let agrees = Comparison { mode: Mode::Calls, program }.agrees(&input)?;
-    if agrees {
-        println!("the sweep agreed ({} frames)", lines(&input).count());
+    let comparison = Comparison { mode: Mode::Calls, program };
+    if comparison.differs(&input)? {
+        println!("the sweep differs");
+        comparison.show(&input)?;
+        return Ok(false);
     }
-    Ok(agrees)
+    println!("the sweep agreed ({} frames)", lines(&input).count());
+    Ok(true)
 }

@@ -227,6 +227,7 @@ fn lacking(message: &Message, known: &Known, told: &[Told]) -> Result<(), String
 fn every_room(program: &[String], page: &Page, message: &Message) -> Result<usize, String> {
     let known = learn(program, page, message)?;
     let length = known.whole.sent;
+    ensure(known.whole.number == "00" && length > 0, "no message")?;
     let back = back(&known.painted, &known.whole);
     let mut groups = vec![page.frames.clone()];
     for bytes in 0..=length {

@@ -9,9 +9,6 @@ use lib.ListN.{getD, set}
 use Rattle.words.specs.Choice.{if_then_else_, _is_to_}
 use Rattle.state.specs.declared.State.{State}
 
-abbrev pub partCount : ℕ
-partCount = 180
-
 -- A flag is 0 or 1; it is set by 0, off, or by any other value, on.
 unfoldable pub flagOf : Bool → ℕ
 flagOf flag =
