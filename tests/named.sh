@@ -1,5 +1,6 @@
 #!/usr/bin/env bash
-# Every name that docs/ and the README put in backticks is there: a file, or a word of the code, of a definition or of a test.
+# Every name that docs/ and the README put in backticks is there: a file, a function of the crate that it names, or else a word of
+# the code, of a definition or of a test.
 set -u
 words=$(mktemp) || exit 2
 trap 'rm -f "$words"' EXIT
@@ -10,7 +11,12 @@ while IFS=: read -r file name; do
     last=${name##*::}
     last=${last##*/}
     last=${last%%.*}
-    [ -e "$name" ] || [ -z "$last" ] || grep -qxF -- "$last" "$words" || git ls-files | grep -qE "(^|/)$last(\.|$)" || {
+    crate=${name%%::*}
+    if [[ $name == *::* ]] && [ -d "crates/$crate" ]; then
+        grep -qE "fn $last\b" crates/"$crate"/src/*.rt
+    else
+        [ -e "$name" ] || [ -z "$last" ] || grep -qxF -- "$last" "$words" || git ls-files | grep -qE "(^|/)$last(\.|$)"
+    fi || {
         printf '%s: `%s` is nowhere in the repository\n' "$file" "$name"
         bad=1
     }

@@ -48,7 +48,7 @@ unfoldable pub someModified : List ℕ → ℕ → ℕ → Bool
 someModified marks zero cell = false
 someModified marks (suc n) cell = isModified (getD marks cell 0) or someModified marks n (cell + 1)
 
--- A full block has all fields; a changed block has those with a modified cell.
+-- Which fields are sent: all, or those in which something is modified.
 unfoldable pub isSent : Bool → List ℕ → Field → Bool
 isSent full marks field = full or someModified marks (field .length) (field .start)
 

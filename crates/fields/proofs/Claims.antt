@@ -18,7 +18,7 @@ infix 20 _has_
 abbrev pub _has_ : Field → ℕ → Type 0
 field has cell = (field .start ≤ cell) × (cell < endOf field)
 
--- "A field is a longest run of unprotected cells within one row": no cell can be added before it, nor after it.
+-- A field can't be made longer: no cell can be added before it, nor after it.
 -- Cell / columns is the row, counted from 0. A stretch opens at the left margin, so a cell there does not follow on the one before.
 pub record IsField (free : ℕ → Bool) (columns cells : ℕ) (field : Field) : Type 0 where
   pub some-cells : 1 ≤ field .length

@@ -1,4 +1,4 @@
--- Document 01, "Fields, keys and blocks": a field is a longest run of unprotected cells within one row.
+-- Document 01, "Fields, keys and blocks", its first rule: what a field is.
 -- `free` tells which cells are unprotected, by their numbers; `cells` is how many the page has.
 use mathlib.Core.Bool.{Bool, not}
 use mathlib.Core.List.{List, [], _∷_}

@@ -17,7 +17,8 @@ use Rattle.frames.specs.Frames.{Frame, start, host, key, noFrame}
 use Rattle.frames.specs.Sessions.{Session, noSession, session, Call}
 use Rattle.frames.specs.Transcript.{SoFar}
 
--- A line stands in 512 bytes; of one that is longer, 513 is all that is known, and it counts as an empty one: neither is a frame.
+-- The room for a line is 512 bytes. Of a longer line only that it is longer is kept (the length 513), and it is read as an empty one:
+-- neither is a frame.
 unfoldable pub longer : ℕ → ℕ
 longer length =
     if ltb length 512 then length + 1
@@ -34,7 +35,7 @@ pub record Collected (line buffer : List ℕ) (digits : ℕ) : Type 0 where
   pub counted : digits ≡ min (length line) 513
   pub stands : length line ≤ 512 → take digits buffer ≡ line
 
--- A frame's kind, and back: the host bytes stand in the line from place 1 to before the place named; those before `from` are taken.
+-- A frame's kind, and back. Host bytes stand in the line from place 1 to before `to`; those before `from` have been taken.
 unfoldable pub kindOf : Frame → Kind
 kindOf (start rows columns) = Start rows columns
 kindOf (host bytes) = Host (length bytes + 1)

@@ -1,4 +1,4 @@
--- The line printed for a call: number, row, column, stored count in four bytes, bytes sent.
+-- The line that is printed for a call.
 use mathlib.Core.List.{List, [], _∷_, _++_}
 use Prim.Native.Nat.{ℕ, zero, suc, _/_, _%_}
 use Rattle.terminal.specs.Answers.{Outcome, bytesSent}
@@ -21,6 +21,6 @@ printed outcome =
     ++ (highFirst 4 (outcome .stored)
     ++ bytesSent outcome))))
 
--- Another line, or one before a good start.
+-- FF, where there was no call.
 abbrev pub refusal : List ℕ
 refusal = lineOf (0xFF ∷ [])

@@ -148,7 +148,7 @@ fn print(text: &mut [u8], reply: Reply, out: &[u8]) -> usize
     put_line(text, &head, &out[..sent])
 }
 
-// FF, for another line or one before a good start.
+// FF, where there is no call.
 fn print_refusal(text: &mut [u8]) -> usize
     requires { ⌜ 131087 ≤ length (now text) ⌝ }
     ensures { λ r. ⌜ Wrote 0 refusal (now (text .entry)) r (now (text .exit)) ⌝ }

@@ -44,7 +44,7 @@ found valid is =
       as-many = known .as-many;
     }
 
--- The cells of a cellsFrom are as many as the code counts.
+-- `cellsFrom` has as many cells as the code counts.
 pub run-counted : (from end : ℕ) {here after : ℕ} → here ≡ from → after ≡ end → length (cellsFrom from end) ≡ after - here
 run-counted from end starts ends = run-length from (end - from) ∙ sym (λ i. ends i - starts i)
 

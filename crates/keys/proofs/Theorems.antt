@@ -100,7 +100,7 @@ module _ (t : Terminal) where
     unfolding keyStep typedStep
     typed-count key typing = ap counted (then-case _ _ _ typing ∙ then-case _ _ _ here)
 
-    -- The cellsFrom for 263.
+    -- The whole field for 263.
     pub blanked-count : counted (keyStep 263 t) ≡ endHere t - startHere t
     unfolding keyStep isTyping _is_to_ _and_ if_then_else_ fieldBlanked
     blanked-count = ap counted (then-case _ _ _ here) ∙ run-length (startHere t) (endHere t - startHere t)

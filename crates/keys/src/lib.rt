@@ -68,6 +68,7 @@ pub fn is_locked_out(key: usize, state: State) -> bool
     false
 }
 
+// `characters` is lent for the contract, which speaks of the whole terminal.
 fn has_no_field(state: State, characters: &[u8], marks: &[u8]) -> bool
     requires { ⌜ Valid (terminalOf state (now characters) (now marks)) ⌝ }
     ensures { λ r. ⌜ r ≡ noField (fieldsHere (terminalOf state (now (characters .entry)) (now (marks .entry)))) ⌝ }
@@ -79,7 +80,7 @@ fn has_no_field(state: State, characters: &[u8], marks: &[u8]) -> bool
     }
 }
 
-// Document 01's number 7: the key needs an unprotected cell or a field, and there is none.
+// Whether line 7 holds.
 pub fn lacks_cell(key: usize, state: State, characters: &[u8], marks: &[u8]) -> bool
     requires { ⌜ Valid (terminalOf state (now characters) (now marks)) ⌝ }
     ensures { λ r. ⌜ r ≡ lacksCell key (terminalOf state (now (characters .entry)) (now (marks .entry))) ⌝ }

@@ -30,11 +30,11 @@ module _ (values : List ℕ) (count i : ℕ) (counted : count ≤ length values)
     all-values-pass h = all-pass test 0 (take count values) i (behind h)
 
   -- A pen that each of them changes.
-  pub next-drawn : (pen : ℕ) → i < count → penAfterAll (drop i (take count values)) pen ≡ penAfterAll (drop (i + 1) (take count values)) (penAfter (getD values i 0) pen)
+  pub next-value : (pen : ℕ) → i < count → penAfterAll (drop i (take count values)) pen ≡ penAfterAll (drop (i + 1) (take count values)) (penAfter (getD values i 0) pen)
   unfolding penAfterAll
-  next-drawn pen h =
+  next-value pen h =
       ap (λ (later : List ℕ). penAfterAll later pen) (next-element (take count values) i 0 (among h)) ∙ rw (getD-take count values i 0 h)
 
-  pub all-drawn : (pen : ℕ) → count ≤ i → penAfterAll (drop i (take count values)) pen ≡ pen
+  pub all-values : (pen : ℕ) → count ≤ i → penAfterAll (drop i (take count values)) pen ≡ pen
   unfolding penAfterAll
-  all-drawn pen h = rw (drop-of-length-le (take count values) (behind h))
+  all-values pen h = rw (drop-of-length-le (take count values) (behind h))

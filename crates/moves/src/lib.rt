@@ -280,7 +280,7 @@ fn all_six(values: [u16; 8], count: usize) -> bool
 }
 
 // What one value of SGR does to the pen.
-fn draw(value: u16, pen: u8) -> u8
+fn pen_after(value: u16, pen: u8) -> u8
     ensures { λ r. ⌜ r ≡ penAfter value pen ⌝ }
 {
     match value {
@@ -293,17 +293,17 @@ fn draw(value: u16, pen: u8) -> u8
     }
 }
 
-fn draw_all(values: [u16; 8], count: usize, pen: u8) -> u8
+fn pen_after_all(values: [u16; 8], count: usize, pen: u8) -> u8
     requires { ⌜ count ≤ 8 ⌝ }
     ensures { λ r. ⌜ r ≡ penAfterAll (take count values) pen ⌝ }
 {
-    let mut penAfter = pen;
+    let mut here = pen;
     let mut i = 0;
     while i < count {
-        penAfter = draw(values[i], penAfter);
+        here = pen_after(values[i], here);
         i += 1;
     }
-    penAfter
+    here
 }
 
 // SGR: all values are tested before any acts.
@@ -312,7 +312,7 @@ pub fn rendition(state: State, values: [u16; 8], count: usize) -> Step
     ensures { λ r. ⌜ ((page : Page) → told r page ≡ tells (rendition (take count values) (record { state = state; page = page }))) ⌝ }
 {
     if all_visual(values, count) {
-        let pen = draw_all(values, count, state.modes.pen);
+        let pen = pen_after_all(values, count, state.modes.pen);
         return steps::quiet(state.with_pen(pen));
     }
     steps::refuse(state)

@@ -6,7 +6,7 @@ use lib.Dec.{ltb, eqb}
 use lib.ListN.{getD}
 use Rattle.words.specs.Choice.{_is_to_}
 
--- `mark` is a cell's whole byte of marks. Bit 0 protected, 1 modified, 2 bold, 3 underline, 4 blink, 5 reverse, 6 concealed.
+-- `mark` is a cell's whole byte of marks; each question asks for one of its bits, from the lowest up.
 abbrev pub isProtected : ℕ → Bool
 isProtected mark = eqb (mark % 2) 1
 

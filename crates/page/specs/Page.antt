@@ -8,7 +8,7 @@ use Rattle.words.specs.Choice.{if_then_else_, _and_, _or_}
 use Rattle.words.specs.Lists.{within, every, each, numbersFrom, onPart}
 use Rattle.page.specs.Marks.{isProtected, withModified, withoutModified, validCharacter, validMark, unprotected}
 
--- The two lent slices, in page order: row 1 from the left, then row 2. A cell's number is its place in them.
+-- The two lent slices. A cell's number is its place in them, counted from 0.
 pub record Page : Type 0 where
   pub characters : List ℕ
   pub marks : List ℕ
@@ -32,7 +32,7 @@ typed cell character page =
       marks = set (page .marks) cell (withModified (getD (page .marks) cell 0));
     }
 
--- "Commands", erasing the cells from `from` to before `to`: with erasure mode reset it passes protected cells by.
+-- "Commands", erasing the cells from `from` to before `to`: only erasure mode lets it at protected ones.
 unfoldable pub erasable : Bool → List ℕ → ℕ → Bool
 erasable mode marks cell = mode or unprotected marks cell
 
@@ -101,7 +101,7 @@ movedRight part = 0x20 ∷ take (length part - 1) part
 abbrev pub partStored : (List ℕ → List ℕ) → ℕ → ℕ → Page → Page
 partStored change from to page = record { characters = onPart from to change (page .characters); marks = tagged from to (page .marks) }
 
--- Sending clears modified on all unprotected cells.
+-- What a block that was sent leaves of the marks.
 unfoldable pub sentMark : ℕ → ℕ
 sentMark mark =
     if isProtected mark then mark

@@ -103,14 +103,14 @@ losesSequenceOn3-breaks-refusals kept =
     eqb-false 0 3 refl (ap (λ (t : Terminal). t .state .half .kind) left)
 
 -- What calls leave of a valid terminal is valid.
-pub leavesRow0-breaks-validity : StaysValid leavesRow0 → ⊥
+pub leavesRow0-breaks-stays-valid : StaysValid leavesRow0 → ⊥
 unfolding calls streams
-leavesRow0-breaks-validity kept =
+leavesRow0-breaks-stays-valid kept =
     let off-page : false ≡ true = kept .through-calls oneField one-field-valid (read [] [] ∷ []) .state in
     true-is-not-false (sym off-page)
 
-pub setsMessage2-breaks-validity : StaysValid setsMessage2 → ⊥
+pub setsMessage2-breaks-stays-valid : StaysValid setsMessage2 → ⊥
 unfolding calls keySteps streams
-setsMessage2-breaks-validity kept =
+setsMessage2-breaks-stays-valid kept =
     let out-of-range : false ≡ true = kept .through-calls oneField one-field-valid (keyPress 259 [] ∷ []) .state in
     true-is-not-false (sym out-of-range)

@@ -1,4 +1,5 @@
--- The three demands: each promise is a predicate over a terminal's functions, and OneResult over what contracts allow.
+-- The three demands: each promise is a predicate over a terminal's functions, and OneResult over what contracts allow. (The table's
+-- line 3 speaks of document 01's own steps, `stepsOf` and `keyStep`, whatever the terminal is.)
 -- `ours` (Streams) is the terminal that the entries' contracts speak of. The theorems are in proofs/Theorems.antt; Wrong.antt has
 -- terminals with one fault each, and loose contracts, for which a promise is refuted (proofs/Wrong*.antt).
 use mathlib.Core.Path.{_≡_}
@@ -65,7 +66,7 @@ Continuing m =
     (t : Terminal) (stream : List ℕ) (one other : List Read) → Carries m t stream one → Carries m t stream other →
     readAll m t one ≡ readAll m t other
 
--- Demand 2, feeding back: the block that 267 or ESC S wrote, from any terminal that these calls find valid.
+-- Demand 2, feeding back: the block that a key call 267, or a host call of the two bytes ESC S, wrote and was given 0 for.
 pub data WroteFullBlock (m : Machine) (sender : Terminal) : List ℕ → Type 0 where
   by-key : (output : List ℕ) → m .key sender 267 output .number ≡ 0 → WroteFullBlock m sender (bytesSent (m .key sender 267 output))
   by-host : (output : List ℕ) → m .host sender (0x1B ∷ 0x53 ∷ []) output .number ≡ 0 → WroteFullBlock m sender (bytesSent (m .host sender (0x1B ∷ 0x53 ∷ []) output))

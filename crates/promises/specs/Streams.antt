@@ -47,7 +47,7 @@ unfoldable pub outcomeOf : Machine → Call → Terminal → Outcome
 outcomeOf m (read bytes output) t = m .host t bytes output
 outcomeOf m (keyPress key output) t = m .key t key output
 
--- In a sequence of calls each gets the page and state that the one before left.
+-- Calls one after another, each on what was left.
 unfoldable pub outcomes : Machine → Terminal → List Call → List Outcome
 outcomes m t [] = []
 outcomes m t (call ∷ later) = let outcome = outcomeOf m call t in outcome ∷ outcomes m (outcome .terminal) later

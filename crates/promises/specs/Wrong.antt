@@ -1,5 +1,5 @@
--- Wrong terminals, each ours with one thing changed, and contracts that leave something open: a promise that one of these kept would say nothing.
--- That each breaks its promise is proved in proofs/Wrong*.antt.
+-- Wrong terminals, each ours with one thing changed, and contracts that leave something open: each breaks the promise under which it
+-- stands (proofs/Wrong*.antt).
 use mathlib.Core.Path.{_≡_}
 use mathlib.Core.Bool.{Bool, true, false}
 use mathlib.Core.List.{List, [], _∷_, _++_, map, reverse}
@@ -95,18 +95,18 @@ alwaysRefuses = withHost (λ t bytes output. unchanged TooLong t output)
 -- Under a lock it gives 5 before 4.
 abbrev pub lockedBeforeUnknown : Machine
 lockedBeforeUnknown = withKey (λ t key output.
-    let given = keyCall t key output in
-    if eqb (given .number) 4 and isLocked (t .state) then unchanged Locked t output
-    else given)
+    let outcome = keyCall t key output in
+    if eqb (outcome .number) 4 and isLocked (t .state) then unchanged Locked t output
+    else outcome)
 
 -- Refusals. A start given 1 blanks the page that it was lent.
 abbrev pub blanksRefusedStart : Machine
 blanksRefusedStart = withStart (λ size page.
-    let given = startCall size page in
-    if eqb (given .number) 0 then given
-    else leaving (withPage (pageOf (replicate (length (page .characters)) 0x20) (page .marks)) (given .terminal)) given)
+    let outcome = startCall size page in
+    if eqb (outcome .number) 0 then outcome
+    else leaving (withPage (pageOf (replicate (length (page .characters)) 0x20) (page .marks)) (outcome .terminal)) outcome)
 
--- A tag cleared though the block was refused for room.
+-- 266 or 267 given 3 clears modified all the same.
 abbrev pub clearsTagsRefused : Machine
 clearsTagsRefused = withKey (λ t key output. on3 (leaving (withTagsCleared t)) (keyCall t key output))
 
@@ -141,10 +141,10 @@ leavesRow0 = changingHost (λ o. leaving (withState (o .terminal) (withCursor (o
 -- A key sets message 2.
 abbrev pub setsMessage2 : Machine
 setsMessage2 = withKey (λ t key output.
-    let given = keyCall t key output in
-    leaving (withState (given .terminal) (withLocks (given .terminal .state) (given .terminal .state .locks .manual) (given .terminal .state .locks .soft) 2)) given)
+    let outcome = keyCall t key output in
+    leaving (withState (outcome .terminal) (withLocks (outcome .terminal .state) (outcome .terminal .state .locks .manual) (outcome .terminal .state .locks .soft) 2)) outcome)
 
--- Cutting. Part of a sequence dropped at a read's end.
+-- Cutting. What is half read is lost when a call ends.
 abbrev pub dropsHalfRead : Machine
 dropsHalfRead = changingHost withoutHalfRead
 
@@ -152,7 +152,7 @@ dropsHalfRead = changingHost withoutHalfRead
 abbrev pub actsOnFirstByte : Machine
 actsOnFirstByte = withHost (λ t bytes output. taking (length bytes) (hostCall t (take 1 bytes) output))
 
--- Continuing. A call given 3 gives counts of 0, though commands before it were done.
+-- Continuing. A call given 3 tells of no cells stored, though commands before it were done.
 abbrev pub forgetsCountOn3 : Machine
 forgetsCountOn3 = changingHost (on3 (counting 0))
 
@@ -162,7 +162,7 @@ takesLastByteOn3 = changingHost (on3 (λ o. taking (o .taken + 1) o))
 
 -- Feeding back. It stores nothing that the host sends.
 abbrev pub storesNoText : Machine
-storesNoText = withHost (λ t bytes output. let given = hostCall t bytes output in leaving (withPage (t .page) (given .terminal)) given)
+storesNoText = withHost (λ t bytes output. let outcome = hostCall t bytes output in leaving (withPage (t .page) (outcome .terminal)) outcome)
 
 -- It has a fixed answer: all input is taken, and nothing is done.
 abbrev pub fixedAnswer : Machine
@@ -181,17 +181,17 @@ rowBlanked t =
 
 abbrev pub blanksRow : Machine
 blanksRow = withKey (λ t key output.
-    let given = keyCall t key output in
-    if eqb key 263 and eqb (given .number) 0 then did Done 0 t output (rowBlanked t ∷ [])
-    else given)
+    let outcome = keyCall t key output in
+    if eqb key 263 and eqb (outcome .number) 0 then did Done 0 t output (rowBlanked t ∷ [])
+    else outcome)
 
 -- A typed character is stored on a protected cell too.
 abbrev pub typesOnProtected : Machine
 typesOnProtected = withKey (λ t key output.
-    let given = keyCall t key output in
-    if isTyping key and eqb (given .number) 7 then
+    let outcome = keyCall t key output in
+    if isTyping key and eqb (outcome .number) 7 then
     did Done 0 t output (stores (cursorCell (t .state) ∷ []) false (t .state) (typed (cursorCell (t .state)) key (t .page)) ∷ [])
-    else given)
+    else outcome)
 
 -- Blocks. What a step that sends a block leaves of the page, changed.
 unfoldable pub isBlock : Message → Bool
@@ -230,7 +230,7 @@ looksAtFirstCells = sendingOn 266 (λ t. changedBlock (firstCellBlock t))
 abbrev pub feignsChangedBlocks : Machine
 feignsChangedBlocks = sendingOn 266 (λ t. changedBlock (0x03 ∷ []))
 
--- A key that stores leaves the tag clear, always,
+-- A typed character leaves the tag clear, always,
 abbrev untagged : Terminal → Stepped → Stepped
 untagged t step = stores (step .cells) (step .protection) (step .terminal .state) (pageOf (step .terminal .page .characters) (t .page .marks))
 
@@ -254,8 +254,8 @@ inventsCount = changingHost (λ o. counting (o .stored + 1) o)
 -- The messages of a host call, the last one first.
 abbrev pub sendsBackwards : Machine
 sendsBackwards = withHost (λ t bytes output.
-    let given = hostCall t bytes output in
-    showing (placed 0 (sentBy (reverse (stepsOf t (take (given .taken) bytes)))) output) given)
+    let outcome = hostCall t bytes output in
+    showing (placed 0 (sentBy (reverse (stepsOf t (take (outcome .taken) bytes)))) output) outcome)
 
 -- Blocks asked for, and the bound. A full block ends with 03 twice,
 abbrev pub endsTwice : Machine

@@ -10,7 +10,7 @@ use Rattle.state.specs.declared.Size.{Size}
 use Rattle.state.specs.declared.State.{State}
 use Rattle.state.specs.Tabs.{stopAt}
 
--- R or C not listed, or a lent page slice not R x C long.
+-- The size is none of the nine, or a slice has another length than the size says.
 pub data Line1 (size : Size) (page : Page) : Type 0 where
   rows-not-listed : (size .rows ≡ 24 → ⊥) → (size .rows ≡ 27 → ⊥) → (size .rows ≡ 48 → ⊥) → Line1 size page
   columns-not-listed : (size .columns ≡ 80 → ⊥) → (size .columns ≡ 132 → ⊥) → (size .columns ≡ 160 → ⊥) → Line1 size page
@@ -24,13 +24,13 @@ pub data Line2 (s : State) (page : Page) : Type 0 where
   below-last-row : s .size .rows < s .cursor .row → Line2 s page
   before-first-column : s .cursor .column < 1 → Line2 s page
   past-last-column : s .size .columns < s .cursor .column → Line2 s page
-  -- a cell or marks byte not as above
+  -- what a cell has
   cell-too-low : (cell : ℕ) → cell < length (page .characters) → getD (page .characters) cell 0 < 0x20 → Line2 s page
   cell-too-high : (cell : ℕ) → cell < length (page .characters) → 0x7E < getD (page .characters) cell 0 → Line2 s page
   marks-bit-7 : (cell : ℕ) → cell < length (page .marks) → 0x80 ≤ getD (page .marks) cell 0 → Line2 s page
-  -- a tab stop past C
+  -- a tab stop off the page
   stop-past-last-column : (column : ℕ) → s .size .columns < column → stopAt (s .stops) column ≡ true → Line2 s page
-  -- pen, message or half-read record out of range
+  -- the other ranges
   pen-bit-7 : 0x80 ≤ s .modes .pen → Line2 s page
   pen-modified : isModified (s .modes .pen) ≡ true → Line2 s page
   message-neither-0-nor-1 : (s .locks .message ≡ 0 → ⊥) → (s .locks .message ≡ 1 → ⊥) → Line2 s page

@@ -13,7 +13,7 @@ use Rattle.state.specs.declared.Cursor.{Cursor}
 use Rattle.state.specs.declared.State.{State}
 use Rattle.state.specs.Pen.{validPen}
 
--- R is one of 24, 27, 48 and C one of 80, 132, 160.
+-- The rows and columns that a page may have; any with any.
 unfoldable pub listedRows : ℕ → Bool
 listedRows rows = eqb rows 24 or eqb rows 27 or eqb rows 48
 

@@ -18,7 +18,7 @@ use Rattle.state.specs.Pen.{penProtected, penUnprotected, penPlain, penBold, pe
 use Rattle.steps.specs.Steps.{Terminal, report, blockMessage, Stepped, withState, goesTo, stores, sends, refusing, cursorCell, rowStart, allCells}
 use Rattle.steps.specs.Table.{allowed, valueOf}
 
--- Text: stored at the cursor with the pen's marks; the cursor goes to the next cell in page order, and from the last to 1;1.
+-- Text: the cursor's cell takes the character and the pen's marks, and the cursor goes on, round the page.
 unfoldable pub toNextCell : State → State
 toNextCell s =
     if ltb (s .cursor .column) (s .size .columns) then withCursor s (s .cursor .row) (s .cursor .column + 1)
@@ -113,7 +113,7 @@ unfoldable pub erasing : ℕ → ℕ → Terminal → Stepped
 erasing from end t =
     stores (cellsErased (t .state .modes .erasure) from end (t .page)) (t .state .modes .erasure) (t .state) (erased (t .state .modes .erasure) from end (t .page))
 
--- ED and EL: in a range of cells, 0 from the cursor, 1 up to it, both with its cell, 2 all.
+-- ED and EL, in a range of cells: what comes after the cursor, what comes before it, each with its cell, or everything.
 unfoldable pub erasePart : ℕ → ℕ → ℕ → Terminal → Stepped
 erasePart what first end t =
     if eqb what 0 then erasing (cursorCell (t .state)) end t

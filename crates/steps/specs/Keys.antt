@@ -80,7 +80,7 @@ ifFree t stepped =
     if free t (cursorCell (t .state)) then stepped
     else goesTo (t .state) t
 
--- 32 to 126: stored at the cursor; the cursor goes to the next unprotected cell, going round the page.
+-- A typed character goes into the cursor's cell, and the cursor on to where the next one can go.
 unfoldable pub typedStep : ℕ → Terminal → Stepped
 typedStep character t =
     ifFree t

@@ -145,7 +145,7 @@ module _ (t : Terminal) (bytes output : List ℕ) where
       go (Cases.stopped valid line is) = absurd (not-full (did-number _ _ _ _ _ is))
       go (Cases.done valid fits is) = absurd (not-done (did-number _ _ _ _ _ is))
 
-  -- Host, 3: the commands before it are done; its last byte isn't taken, and it has no effect.
+  -- Host, 3: what came before is done, and the command that lacks room is left for the next call.
   pub host-stopped : hostCall t bytes output .number ≡ 3 → (line : Line3 (length output) (stepsOf t bytes)) × Did (length (line .before)) t output (line .before) (hostCall t bytes output)
   unfolding numberOf
   host-stopped full = go (host-case t bytes output)

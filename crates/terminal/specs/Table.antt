@@ -13,7 +13,7 @@ use Rattle.steps.specs.Steps.{Terminal, Stepped, bytesOf, cursorCell}
 use Rattle.steps.specs.Keys.{fieldsHere, keyStep}
 use Rattle.terminal.specs.Runs.{stepsOf, sentBy}
 
--- 3: the next command's bytes exceed the output room left by the messages before it.
+-- 3: a message is longer than the room that those before it left.
 pub record Line3 (room : ℕ) (steps : List Stepped) : Type 0 where
   pub before : List Stepped
   pub next : Stepped
@@ -36,7 +36,7 @@ pub data Line5 (key : ℕ) (s : State) : Type 0 where
 abbrev pub Line6 : List ℕ → Type 0
 Line6 bytes = 65536 < length bytes
 
--- 7: the key needs an unprotected cell or a field and there is none.
+-- 7: nothing to write in, nowhere to go.
 pub data Line7 (key : ℕ) (t : Terminal) : Type 0 where
   typed-on-protected : 32 ≤ key → key ≤ 126 → unprotected (t .page .marks) (cursorCell (t .state)) ≡ false → Line7 key t
   edited-on-protected : 263 ≤ key → key ≤ 265 → unprotected (t .page .marks) (cursorCell (t .state)) ≡ false → Line7 key t
@@ -51,7 +51,7 @@ infix 68 _when_
 abbrev pub _when_ : ℕ → Type 0 → TableLine
 number when Holds = record { number = number; Holds = Holds }
 
--- The number is that of the first line that holds, and 0 where none does: each is given exactly when its line holds and none before it.
+-- The number is that of the first line that holds, and 0 where none does.
 pub data Decides : List TableLine → ℕ → Type 1 where
   none-holds : Decides [] 0
   this-holds : (row : TableLine) (later : List TableLine) → row .Holds → Decides (row ∷ later) (row .number)

@@ -1,6 +1,6 @@
 // The transcript program of document 01: frames in, one a line; a line out for each call. With an argument, whatever it is,
-// the terminal is drawn after each line (a dump). What is read means, and what is
-// printed, is defined and proved in crates/frames; here only reading and writing are left.
+// the terminal is drawn after each line (a dump). What a line means and prints is defined and proved in crates/frames;
+// here bytes are read, and the text of each call is written.
 use frames::Held;
 use libc::STDOUT_FILENO;
 use state::State;
@@ -27,7 +27,8 @@ struct Reading {
     digits: usize,
 }
 
-// The session's terminal, drawn as text.
+// The session's terminal, drawn as text; nothing without a session. The two tests give what `draw` asks for, and the state of
+// every session passes them.
 fn show(held: Held, characters: &[u8], marks: &[u8], text: &mut [u8])
     requires { ⌜ (length (now characters) ≡ 7680) × (length (now marks) ≡ 7680) × (131087 ≤ length (now text)) ⌝ }
 {
@@ -215,6 +216,7 @@ fn main() {
     let mut out = [0u8; 65536];
     let mut text = [0u8; 131087];
     let mut word = io::buffer();
+    // errno is 0 where there is a first argument
     os::arg(1, &mut word);
     let dumping = os::errno() == 0;
     read_all(

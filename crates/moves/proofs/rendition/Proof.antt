@@ -16,6 +16,6 @@ rendition-spec =
     (λ c κs. search needs)
     (λ c. λ page.
     let asked = c .before .before .before in
-    rw (c .quiet .ensures page, c .before .with-pen .ensures, c .before .before .draw-all .ensures, sym (asked .before .all-visual .ensures) ∙ asked .if1 .taken))
+    rw (c .quiet .ensures page, c .before .with-pen .ensures, c .before .before .pen-after-all .ensures, sym (asked .before .all-visual .ensures) ∙ asked .if1 .taken))
     (λ c κs. search needs)
     (λ c. λ page. rw (c .refuse .ensures page, sym (c .before .before .all-visual .ensures) ∙ c .before .if1 .left)))

@@ -2,8 +2,8 @@ use borrow.Author.Needs.{needs}
 use borrow.Author.Tests.{ne-eqb}
 use Rattle.words.specs.Choice.{if_then_else_}
 use Rattle.steps.specs.Commands.{penAfter}
-use Rattle.moves.proofs.draw.Statement.{statement}
-use Rattle.moves.proofs.draw.Tie as tie
+use Rattle.moves.proofs.pen_after.Statement.{statement}
+use Rattle.moves.proofs.pen_after.Tie as tie
 
 returns-6 : tie.Need-returns-6
 unfolding penAfter if_then_else_
@@ -11,9 +11,9 @@ returns-6 c =
     let other = c .before .match .rest in
     rw (c .pen-concealed .ensures) (simp (ne-eqb _ _ (other .1), ne-eqb _ _ (other .0 .1), ne-eqb _ _ (other .0 .0 .1), ne-eqb _ _ (other .0 .0 .0 .1), ne-eqb _ _ (other .0 .0 .0 .0 .1)))
 
-pub draw-spec : {M : Type 1} → statement M
+pub pen-after-spec : {M : Type 1} → statement M
 unfolding penAfter if_then_else_
-draw-spec =
+pen-after-spec =
     tie.close
     (tie.spec
     (λ c κs. search needs)
