@@ -9,7 +9,8 @@ use Rattle.page.specs.Marks.{isModified, unprotected}
 use Rattle.page.specs.Page.{Page}
 use Rattle.steps.specs.Steps.{Terminal, fullBlock, changedBlock, Stepped, cursorCell}
 use Rattle.steps.specs.Claims.{SendsBlock, Sound, ProtectedKept}
-use Rattle.steps.specs.Keys.{isTyping, free, cellsFrom, startHere, endHere}
+use Rattle.steps.specs.Seen.{free}
+use Rattle.steps.specs.Keys.{isTyping, cellsFrom, startHere, endHere}
 
 -- The cells that a key may store: none; and where the cursor's cell is unprotected, that cell, for a typed character;
 -- its field, for 263; from the cursor to its field's end, for 264 and 265.

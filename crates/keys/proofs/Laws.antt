@@ -21,7 +21,8 @@ use Rattle.fields.proofs.Bounds.{start-of, end-of}
 use Rattle.steps.specs.declared.Step.{Step}
 use Rattle.steps.specs.Steps.{Terminal, Stepped, Valid, goesTo, stores, cursorCell}
 use Rattle.steps.specs.Told.{told, tells}
-use Rattle.steps.specs.Keys.{noField, free, cellsFrom, startHere, endHere, ifFree, restShifted}
+use Rattle.steps.specs.Seen.{free}
+use Rattle.steps.specs.Keys.{noField, cellsFrom, startHere, endHere, ifFree, restShifted}
 use Rattle.steps.proofs.Measuring.{measured}
 
 -- The cursor's place, as the code finds it on a valid terminal.

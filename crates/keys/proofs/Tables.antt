@@ -22,7 +22,8 @@ use Rattle.state.proofs.Keeping.{KeepsValid, up-keeps-valid, down-keeps-valid, 
 use Rattle.steps.specs.Steps.{Terminal, blockMessage, Stepped, goesTo, stores, cursorCell, Valid}
 use Rattle.steps.specs.Claims.{markLeft, Sound}
 use Rattle.steps.specs.Commands.{sendBlock}
-use Rattle.steps.specs.Keys.{isTyping, free, cellsFrom, startHere, endHere, goneTo, typedStep, toNextField, toPreviousField, toFirstUnprotected, fieldBlanked, restShifted, keyStep}
+use Rattle.steps.specs.Seen.{free}
+use Rattle.steps.specs.Keys.{isTyping, cellsFrom, startHere, endHere, goneTo, typedStep, toNextField, toPreviousField, toFirstUnprotected, fieldBlanked, restShifted, keyStep}
 use Rattle.steps.proofs.Naming.{named-between, places-rise}
 use Rattle.steps.proofs.Storing.{typed-stored, part-stored}
 use Rattle.steps.proofs.Soundness.{cursor-on-page, goes-soundly, stores-soundly, clears-soundly}

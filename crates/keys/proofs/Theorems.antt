@@ -12,7 +12,8 @@ use Rattle.page.specs.Marks.{isModified, unprotected}
 use Rattle.state.specs.State.{withLocks, unlocked}
 use Rattle.steps.specs.Steps.{Terminal, fullBlock, changedBlock, goesTo, cursorCell, Valid}
 use Rattle.steps.specs.Claims.{Rising, TouchesOnly, KeepsProtection, KeepsText, SendsBlock, ProtectedKept, counted}
-use Rattle.steps.specs.Keys.{isTyping, isEditing, free, startHere, endHere, typedStep, fieldBlanked, restShifted, keyStep}
+use Rattle.steps.specs.Seen.{free}
+use Rattle.steps.specs.Keys.{isTyping, isEditing, startHere, endHere, typedStep, fieldBlanked, restShifted, keyStep}
 use Rattle.steps.proofs.Naming.{named-between}
 use Rattle.steps.proofs.Soundness.{names-none}
 use Rattle.keys.proofs.Claims.{KeyStores, no-cell, typed-cell, whole-field, rest-of-field}

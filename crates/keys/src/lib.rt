@@ -7,7 +7,8 @@ ghost use mathlib.Core.Bool.{false};
 ghost use Rattle.page.specs.Page.{pageOf, closedUp, movedRight};
 ghost use Rattle.steps.specs.Steps.{Valid, terminalOf};
 ghost use Rattle.steps.specs.Told.{told, tells, written};
-ghost use Rattle.steps.specs.Keys.{isTyping, isEditing, isFieldMove, isKnown, isLocked, isLockedOut, noField, fieldsHere, lacksCell, goneTo, typedStep, toNextField, toPreviousField, toFirstUnprotected, fieldBlanked, restShifted, keyStep};
+ghost use Rattle.steps.specs.Seen.{fieldsHere};
+ghost use Rattle.steps.specs.Keys.{isTyping, isEditing, isFieldMove, isKnown, isLocked, isLockedOut, noField, lacksCell, goneTo, typedStep, toNextField, toPreviousField, toFirstUnprotected, fieldBlanked, restShifted, keyStep};
 
 fn is_typing(key: usize) -> bool
     ensures { λ r. ⌜ r ≡ isTyping key ⌝ }

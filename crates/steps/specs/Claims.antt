@@ -6,8 +6,8 @@ use Prim.Native.Nat.{ℕ, _+_, _<_, _≤_}
 use lib.ListN.{length, getD}
 use Rattle.page.specs.Marks.{unprotected}
 use Rattle.page.specs.Page.{Page, sentMark}
-use Rattle.blocks.specs.Blocks.{block}
 use Rattle.steps.specs.Steps.{Terminal, Message, silent, report, fullBlock, changedBlock, Stepped, Valid}
+use Rattle.steps.specs.Seen.{blockHere}
 
 -- Cells in page order, each named once: none is before `first`, none is as far as `end`.
 pub data Rising (end : ℕ) : ℕ → List ℕ → Type 0 where
@@ -65,7 +65,7 @@ pub record Refusal (t : Terminal) (step : Stepped) : Type 0 where
 -- A block, full or changed, is sent because it was asked for; it is that of the page as it was, and no cell is named.
 pub record SendsBlock (full : Bool) (Asked : Type 0) (t : Terminal) (step : Stepped) (bytes : List ℕ) : Type 0 where
   pub asked : Asked
-  pub of-page : bytes ≡ block full (t .state .size .columns) (t .page)
+  pub of-page : bytes ≡ blockHere full t
   pub no-cell : step .cells ≡ []
 
 -- All of it, for a step from a terminal.

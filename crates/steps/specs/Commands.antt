@@ -9,13 +9,13 @@ use Rattle.words.specs.Lists.{every}
 use Rattle.sequence.specs.declared.HalfRead.{HalfRead}
 use Rattle.page.specs.Page.{pageOf, textStored, erased, cellsErased, scrolledUp, scrolledDown, modifiedCleared}
 use Rattle.output.specs.Decimal.{placeBytes}
-use Rattle.blocks.specs.Blocks.{block}
 use Rattle.state.specs.declared.State.{State}
 use Rattle.state.specs.State.{withCursor, freshState, inputDisabled, inputEnabled}
 use Rattle.state.specs.Moves.{upBy, downBy, rightBy, leftBy, toMargin}
 use Rattle.state.specs.Tabs.{stopSet, stopCleared, stopsCleared, tabbedOn, tabbedBack}
 use Rattle.state.specs.Pen.{penProtected, penUnprotected, penPlain, penBold, penUnderlined, penBlinking, penReversed, penConcealed, withPen, withErasure}
 use Rattle.steps.specs.Steps.{Terminal, report, blockMessage, Stepped, withState, goesTo, stores, sends, refusing, cursorCell, rowStart, allCells}
+use Rattle.steps.specs.Seen.{blockHere}
 use Rattle.steps.specs.Table.{allowed, valueOf}
 
 -- Text: the cursor's cell takes the character and the pen's marks, and the cursor goes on, round the page.
@@ -59,7 +59,7 @@ freshStep t =
 -- A block is sent, full or changed; sending clears modified. ESC S sends a full one.
 unfoldable pub sendBlock : Bool → Terminal → Stepped
 sendBlock full t =
-    sends (blockMessage full (block full (t .state .size .columns) (t .page))) (t .state) (pageOf (t .page .characters) (modifiedCleared (t .page .marks)))
+    sends (blockMessage full (blockHere full t)) (t .state) (pageOf (t .page .characters) (modifiedCleared (t .page .marks)))
 
 -- After ESC: D E M H V W S c ` b.
 unfoldable pub escStep : ℕ → Terminal → Stepped

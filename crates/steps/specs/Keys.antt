@@ -6,17 +6,17 @@ use lib.Dec.{eqb}
 use lib.ListN.{length}
 use Rattle.words.specs.Choice.{if_then_else_, _and_, _or_, _is_to_}
 use Rattle.words.specs.Lists.{numbersFrom}
-use Rattle.page.specs.Marks.{unprotected}
 use Rattle.page.specs.Page.{typed, blanked, closedUp, movedRight, partStored}
 use Rattle.places.specs.Places.{placeOf}
 use Rattle.fields.specs.declared.Sought.{Sought}
 use Rattle.fields.specs.declared.Sought.the-variants.{At, Nowhere}
-use Rattle.fields.specs.Fields.{Field, fieldStart, fieldEnd, fieldsOf}
+use Rattle.fields.specs.Fields.{Field, fieldStart, fieldEnd}
 use Rattle.fields.specs.Searches.{orElse, nextField, previousField, firstUnprotected, nextUnprotected}
 use Rattle.state.specs.declared.State.{State}
 use Rattle.state.specs.State.{withCursor, unlocked}
 use Rattle.state.specs.Moves.{upBy, downBy, rightBy, leftBy}
 use Rattle.steps.specs.Steps.{Terminal, Stepped, goesTo, stores, cursorCell}
+use Rattle.steps.specs.Seen.{free, fieldsHere}
 use Rattle.steps.specs.Commands.{sendBlock}
 
 -- The keys that type a character, those that store in the cursor's field, and those that look for a field.
@@ -40,13 +40,6 @@ isLocked s = s .locks .manual or s .locks .soft
 unfoldable pub isLockedOut : ℕ → State → Bool
 isLockedOut key s = isLocked s and not (eqb key 268)
 
--- Which cells are unprotected, and the fields of the page.
-abbrev pub free : Terminal → ℕ → Bool
-free t cell = unprotected (t .page .marks) cell
-
-abbrev pub fieldsHere : Terminal → List Field
-fieldsHere t = fieldsOf (unprotected (t .page .marks)) (t .state .size .columns) (length (t .page .marks))
-
 unfoldable pub noField : List Field → Bool
 noField [] = true
 noField (field ∷ later) = false
@@ -69,10 +62,10 @@ cellsFrom from end = numbersFrom (λ _. true) from (end - from)
 
 -- The bounds of the cursor's field.
 abbrev pub startHere : Terminal → ℕ
-startHere t = fieldStart (unprotected (t .page .marks)) (t .state .size .columns) (cursorCell (t .state))
+startHere t = fieldStart (free t) (t .state .size .columns) (cursorCell (t .state))
 
 abbrev pub endHere : Terminal → ℕ
-endHere t = fieldEnd (unprotected (t .page .marks)) (t .state .size .columns) (length (t .page .marks)) (cursorCell (t .state))
+endHere t = fieldEnd (free t) (t .state .size .columns) (length (t .page .marks)) (cursorCell (t .state))
 
 -- A key that stores does so on an unprotected cell only.
 abbrev pub ifFree : Terminal → Stepped → Stepped
@@ -85,7 +78,7 @@ unfoldable pub typedStep : ℕ → Terminal → Stepped
 typedStep character t =
     ifFree t
     (stores (cursorCell (t .state) ∷ []) false
-    (goneTo (nextUnprotected (unprotected (t .page .marks)) (t .state .size .columns) (length (t .page .marks)) (cursorCell (t .state))) (t .state))
+    (goneTo (nextUnprotected (free t) (t .state .size .columns) (length (t .page .marks)) (cursorCell (t .state))) (t .state))
     (typed (cursorCell (t .state)) character (t .page)))
 
 -- 260 and 261; 262: the first unprotected cell, else 1;1.
@@ -97,7 +90,7 @@ toPreviousField t = goesTo (goneTo (previousField (t .state .size .columns) (cur
 
 unfoldable pub toFirstUnprotected : Terminal → Stepped
 toFirstUnprotected t =
-    goesTo (goneTo (orElse (firstUnprotected (unprotected (t .page .marks)) (t .state .size .columns) (length (t .page .marks))) (At (placeOf (t .state .size .columns) 0))) (t .state)) t
+    goesTo (goneTo (orElse (firstUnprotected (free t) (t .state .size .columns) (length (t .page .marks))) (At (placeOf (t .state .size .columns) 0))) (t .state)) t
 
 -- 263: the cursor's field becomes 20s, and the cursor goes to its start.
 unfoldable pub fieldBlanked : Terminal → Stepped

@@ -1,7 +1,7 @@
 -- What is proved of start, host and key: demand 1, and that a valid terminal stays valid.
 use mathlib.Core.Path.{_≡_, refl, sym, ap, _∙_, subst}
 use mathlib.Core.Bool.{Bool, true, false, not}
-use mathlib.Core.List.{List, [], _∷_}
+use mathlib.Core.List.{List, [], _∷_, append-nil}
 use mathlib.Core.Logic.{_↔_}
 use Prim.Native.Nat.{ℕ, _-_}
 use native.Mathlib.Omega.{arith}
@@ -9,13 +9,15 @@ use borrow.Author.Tests.{lt-ltb, ltb-true, not-true}
 use lib.Dec.{eqb}
 use lib.ListN.{length, take, drop, replicate, length-replicate}
 use Rattle.words.specs.Choice.{if_then_else_}
+use Rattle.words.specs.Output.{placed}
 use Rattle.words.proofs.Output.{placed-before, placed-past}
+use Rattle.words.proofs.Elements.{run-length}
 use Rattle.words.proofs.Choosing.{either-line}
 use Rattle.page.specs.Page.{Page, pageOf}
 use Rattle.state.specs.declared.Size.{Size}
 use Rattle.state.proofs.Lines.{line-1, line-2}
 use Rattle.state.proofs.Keeping.{fresh-valid}
-use Rattle.steps.specs.Steps.{Terminal, Stepped, bytesOf, Valid}
+use Rattle.steps.specs.Steps.{Terminal, Stepped, bytesOf, allCells, Valid}
 use Rattle.steps.specs.Commands.{freshStep}
 use Rattle.steps.specs.Host.{hostStep}
 use Rattle.steps.specs.Keys.{keyStep}
@@ -26,11 +28,11 @@ use Rattle.keys.proofs.Theorems as Keys
 use Rattle.terminal.specs.declared.Answer.{Answer}
 use Rattle.terminal.specs.declared.Answer.the-variants.{Done, WrongSize, WrongState, NoRoom, UnknownKey, Locked, TooLong, NoCell}
 use Rattle.terminal.specs.declared.Reply.{Reply}
-use Rattle.terminal.specs.Runs.{stepsOf, fitting, after, sentBy}
+use Rattle.terminal.specs.Runs.{stepsOf, fitting, after, sentBy, storedBy}
 use Rattle.terminal.specs.Answers.{numberOf, Outcome, given, unchanged, did, gives}
 use Rattle.terminal.specs.Lines.{passesLine2, firstOf, startLines, hostLines, keyLines}
 use Rattle.terminal.specs.Calls.{unstarted, startStep, startCall, hostCall, keyCall}
-use Rattle.terminal.specs.Claims.{Leaves, Did, SameResult}
+use Rattle.terminal.specs.Claims.{NumberedBy, Leaves, Did, Started, SameResult}
 use Rattle.terminal.specs.Table.{Line3, Decides, startTable, hostTable, keyTable}
 use Rattle.terminal.proofs.Matching.{ends, next, first-decides-row, decides-one}
 use Rattle.terminal.proofs.Exceeding.{line-3}
@@ -62,28 +64,28 @@ module _ (size : Size) (page : Page) where
       subst (Decides (startTable size page)) (number-is (firstOf (startLines size page)) _ _ _ _)
       (first-decides-row (next _ _ (turned (line-1 size page)) refl ends))
 
-  pub start-exactly : (n : ℕ) → (startCall size page .number ≡ n) ↔ Decides (startTable size page) n
+  pub start-exactly : NumberedBy (startTable size page) (startCall size page)
   start-exactly n = (λ is. subst (Decides (startTable size page)) is start-decides, λ decides. decides-one start-decides decides)
 
 module _ (t : Terminal) (bytes output : List ℕ) where
-  host-decides : Decides (hostTable t bytes (length output)) (hostCall t bytes output .number)
+  host-decides : Decides (hostTable t bytes (length output) (stepsOf t bytes)) (hostCall t bytes output .number)
   unfolding hostCall hostLines passesLine2 numberOf
   host-decides =
-      subst (Decides (hostTable t bytes (length output))) (number-is (firstOf (hostLines t bytes output)) _ _ _ _)
+      subst (Decides (hostTable t bytes (length output) (stepsOf t bytes))) (number-is (firstOf (hostLines t bytes output)) _ _ _ _)
       (first-decides-row
       (next _ _ (turned (line-1 (t .state .size) (t .page))) refl
       (next _ _ (turned (line-2 (t .state) (t .page))) refl
       (next _ _ (λ holds. ltb-true _ _ holds, λ line. lt-ltb _ _ line) refl
       (next _ _ (line-3 (length output) (stepsOf t bytes)) refl ends)))))
 
-  pub host-exactly : (n : ℕ) → (hostCall t bytes output .number ≡ n) ↔ Decides (hostTable t bytes (length output)) n
-  host-exactly n = (λ is. subst (Decides (hostTable t bytes (length output))) is host-decides, λ decides. decides-one host-decides decides)
+  pub host-exactly : NumberedBy (hostTable t bytes (length output) (stepsOf t bytes)) (hostCall t bytes output)
+  host-exactly n = (λ is. subst (Decides (hostTable t bytes (length output) (stepsOf t bytes))) is host-decides, λ decides. decides-one host-decides decides)
 
 module _ (t : Terminal) (key : ℕ) (output : List ℕ) where
-  key-decides : Decides (keyTable t key (length output)) (keyCall t key output .number)
+  key-decides : Decides (keyTable t key (length output) (keyStep key t)) (keyCall t key output .number)
   unfolding keyCall keyLines passesLine2 numberOf
   key-decides =
-      subst (Decides (keyTable t key (length output))) (number-is (firstOf (keyLines t key output)) _ _ _ _)
+      subst (Decides (keyTable t key (length output) (keyStep key t))) (number-is (firstOf (keyLines t key output)) _ _ _ _)
       (first-decides-row
       (next _ _ (turned (line-1 (t .state .size) (t .page))) refl
       (next _ _ (turned (line-2 (t .state) (t .page))) refl
@@ -92,8 +94,8 @@ module _ (t : Terminal) (key : ℕ) (output : List ℕ) where
       (next _ _ (line-7 key t) refl
       (next _ _ (line-3 (length output) (keyStep key t ∷ [])) refl ends)))))))
 
-  pub key-exactly : (n : ℕ) → (keyCall t key output .number ≡ n) ↔ Decides (keyTable t key (length output)) n
-  key-exactly n = (λ is. subst (Decides (keyTable t key (length output))) is key-decides, λ decides. decides-one key-decides decides)
+  pub key-exactly : NumberedBy (keyTable t key (length output) (keyStep key t)) (keyCall t key output)
+  key-exactly n = (λ is. subst (Decides (keyTable t key (length output) (keyStep key t))) is key-decides, λ decides. decides-one key-decides decides)
 
 pub leaves : (answer : Answer) (t : Terminal) (lent : List ℕ) {outcome : Outcome} → outcome ≡ unchanged answer t lent → Leaves t lent outcome
 unfolding unchanged
@@ -133,6 +135,26 @@ start-refused size page not-done = go (start-case size page)
     go : StartCase size page → Leaves (unstarted page) [] (startCall size page)
     go (Cases.refused wrong is) = leaves _ _ _ is
     go (Cases.started fits is) = absurd (not-done (did-number _ _ _ _ _ is))
+
+-- Start, 0: a fresh page and state of the size asked for.
+pub start-done : (size : Size) (page : Page) → startCall size page .number ≡ 0 → Started size (startCall size page)
+unfolding numberOf after sentBy storedBy startStep freshStep bytesOf placed
+start-done size page is-done = go (start-case size page)
+  where
+    go : StartCase size page → Started size (startCall size page)
+    go (Cases.refused wrong is) = absurd (omega (arith, sym (numbered _ _ _ is) ∙ is-done))
+    go (Cases.started fits is) =
+        let did = did-so _ _ _ _ _ is in
+        let lengths = sized size page fits in
+        record {
+          taken = did .bytes-taken;
+          sent = did .sent;
+          stored = did .stored ∙ ap length (append-nil (allCells page)) ∙ run-length 0 (length (page .marks)) ∙ lengths .marks;
+          state = ap (λ (t : Terminal). t .state) (did .terminal);
+          characters = ap (λ (t : Terminal). t .page .characters) (did .terminal) ∙ ap (λ (n : ℕ). replicate n 0x20) (lengths .characters);
+          marks = ap (λ (t : Terminal). t .page .marks) (did .terminal) ∙ ap (λ (n : ℕ). replicate n 0) (lengths .marks);
+          output = did .output;
+        }
 
 module _ (t : Terminal) (bytes output : List ℕ) where
   -- Host: 1, 2 and 6 change nothing.

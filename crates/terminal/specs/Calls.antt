@@ -1,4 +1,5 @@
 -- The three public entries: what each gives and leaves, from all that came in.
+use mathlib.Core.Path.{_≡_}
 use mathlib.Core.List.{List, [], _∷_}
 use Prim.Native.Nat.{ℕ}
 use lib.ListN.{length}
@@ -9,7 +10,8 @@ use Rattle.steps.specs.Steps.{Terminal, Stepped}
 use Rattle.steps.specs.Commands.{freshStep}
 use Rattle.steps.specs.Keys.{keyStep}
 use Rattle.terminal.specs.Runs.{stepsOf, fitting}
-use Rattle.terminal.specs.Answers.{Outcome, gives}
+use Rattle.terminal.specs.declared.Reply.{Reply}
+use Rattle.terminal.specs.Answers.{Outcome, given, gives}
 use Rattle.terminal.specs.Lines.{firstOf, startLines, hostLines, keyLines}
 
 -- A start call makes a fresh page, as ESC c does; it is given no state, and one that is refused hands back all zeros.
@@ -31,3 +33,14 @@ hostCall t bytes output =
 -- A key call is one step, or none.
 unfoldable pub keyCall : Terminal → ℕ → List ℕ → Outcome
 keyCall t key output = gives (firstOf (keyLines t key output)) 0 t output (fitting (length output) (keyStep key t ∷ []))
+
+-- What the contract of an entry allows, from all that came in: what is handed back, with the page and the output that are left.
+-- (A start is lent no output: what it leaves there is [].)
+abbrev pub StartAllows : Size → Page → Reply → Page → List ℕ → Type 0
+StartAllows size page reply left output = given reply left output ≡ startCall size page
+
+abbrev pub HostAllows : Terminal → List ℕ → List ℕ → Reply → Page → List ℕ → Type 0
+HostAllows t bytes lent reply left output = given reply left output ≡ hostCall t bytes lent
+
+abbrev pub KeyAllows : Terminal → ℕ → List ℕ → Reply → Page → List ℕ → Type 0
+KeyAllows t key lent reply left output = given reply left output ≡ keyCall t key lent

@@ -1,14 +1,22 @@
--- What is claimed of a call: that it changed nothing, that it did some steps, that two results are the same.
-use mathlib.Core.List.{List}
+-- What is claimed of a call: its number, that it changed nothing, that it did some steps, that two results are the same.
+use mathlib.Core.List.{List, []}
+use mathlib.Core.Logic.{_↔_}
 use mathlib.Core.Path.{_≡_}
-use Prim.Native.Nat.{ℕ}
-use lib.ListN.{length}
+use Prim.Native.Nat.{ℕ, _*_}
+use lib.ListN.{length, replicate}
 use Rattle.words.specs.Output.{placed}
 use Rattle.page.specs.Page.{Page}
+use Rattle.state.specs.declared.Size.{Size}
+use Rattle.state.specs.State.{freshState}
 use Rattle.steps.specs.Steps.{Terminal, Stepped}
 use Rattle.terminal.specs.declared.Reply.{Reply}
 use Rattle.terminal.specs.Runs.{after, sentBy, storedBy}
 use Rattle.terminal.specs.Answers.{Outcome}
+use Rattle.terminal.specs.Table.{TableLine, Decides}
+
+-- It is given n exactly when n's line holds and none before it does.
+abbrev pub NumberedBy : List TableLine → Outcome → Type 1
+NumberedBy table outcome = (n : ℕ) → (outcome .number ≡ n) ↔ Decides table n
 
 -- What a refusal leaves: nothing changed, counts 0.
 pub record Leaves (t : Terminal) (lent : List ℕ) (outcome : Outcome) : Type 0 where
@@ -25,6 +33,16 @@ pub record Did (taken : ℕ) (t : Terminal) (lent : List ℕ) (steps : List Step
   pub stored : outcome .stored ≡ length (storedBy steps)
   pub terminal : outcome .terminal ≡ after t steps
   pub output : outcome .output ≡ placed 0 (sentBy steps) lent
+
+-- What a start that is done leaves: a fresh page and a fresh state, of the size asked for. Every cell counts as stored.
+pub record Started (size : Size) (outcome : Outcome) : Type 0 where
+  pub taken : outcome .taken ≡ 0
+  pub sent : outcome .sent ≡ 0
+  pub stored : outcome .stored ≡ size .rows * size .columns
+  pub state : outcome .terminal .state ≡ freshState size
+  pub characters : outcome .terminal .page .characters ≡ replicate (size .rows * size .columns) 0x20
+  pub marks : outcome .terminal .page .marks ≡ replicate (size .rows * size .columns) 0
+  pub output : outcome .output ≡ []
 
 -- Two results with what they left are the same.
 pub record SameResult (one other : Reply) (page otherPage : Page) (output otherOutput : List ℕ) : Type 0 where

@@ -1,17 +1,17 @@
 -- Document 01, "Numbers a call gives back": each line as a proposition in the table's words, and the order of each call.
+-- Line 3 is about the steps of the call's bytes, or of its key: they are handed in.
 use mathlib.Core.Path.{_≡_}
 use mathlib.Core.Bool.{true, false}
 use mathlib.Core.List.{List, [], _∷_, _++_}
 use Prim.Native.Nat.{ℕ, _-_, _<_, _≤_}
 use lib.ListN.{length}
 use Rattle.page.specs.Page.{Page}
-use Rattle.page.specs.Marks.{unprotected}
 use Rattle.state.specs.declared.Size.{Size}
 use Rattle.state.specs.declared.State.{State}
 use Rattle.state.specs.Lines.{Line1, Line2}
 use Rattle.steps.specs.Steps.{Terminal, Stepped, bytesOf, cursorCell}
-use Rattle.steps.specs.Keys.{fieldsHere, keyStep}
-use Rattle.terminal.specs.Runs.{stepsOf, sentBy}
+use Rattle.steps.specs.Seen.{free, fieldsHere}
+use Rattle.terminal.specs.Runs.{sentBy}
 
 -- 3: a message is longer than the room that those before it left.
 pub record Line3 (room : ℕ) (steps : List Stepped) : Type 0 where
@@ -38,8 +38,8 @@ Line6 bytes = 65536 < length bytes
 
 -- 7: nothing to write in, nowhere to go.
 pub data Line7 (key : ℕ) (t : Terminal) : Type 0 where
-  typed-on-protected : 32 ≤ key → key ≤ 126 → unprotected (t .page .marks) (cursorCell (t .state)) ≡ false → Line7 key t
-  edited-on-protected : 263 ≤ key → key ≤ 265 → unprotected (t .page .marks) (cursorCell (t .state)) ≡ false → Line7 key t
+  typed-on-protected : 32 ≤ key → key ≤ 126 → free t (cursorCell (t .state)) ≡ false → Line7 key t
+  edited-on-protected : 263 ≤ key → key ≤ 265 → free t (cursorCell (t .state)) ≡ false → Line7 key t
   no-field : 260 ≤ key → key ≤ 261 → fieldsHere t ≡ [] → Line7 key t
 
 -- A line of the table: its number, and when it holds.
@@ -60,20 +60,20 @@ pub data Decides : List TableLine → ℕ → Type 1 where
 abbrev pub startTable : Size → Page → List TableLine
 startTable size page = 1 when Line1 size page ∷ []
 
-abbrev pub hostTable : Terminal → List ℕ → ℕ → List TableLine
-hostTable t bytes room =
+abbrev pub hostTable : Terminal → List ℕ → ℕ → List Stepped → List TableLine
+hostTable t bytes room steps =
     1 when Line1 (t .state .size) (t .page)
     ∷ 2 when Line2 (t .state) (t .page)
     ∷ 6 when Line6 bytes
-    ∷ 3 when Line3 room (stepsOf t bytes)
+    ∷ 3 when Line3 room steps
     ∷ []
 
-abbrev pub keyTable : Terminal → ℕ → ℕ → List TableLine
-keyTable t key room =
+abbrev pub keyTable : Terminal → ℕ → ℕ → Stepped → List TableLine
+keyTable t key room step =
     1 when Line1 (t .state .size) (t .page)
     ∷ 2 when Line2 (t .state) (t .page)
     ∷ 4 when Line4 key
     ∷ 5 when Line5 key (t .state)
     ∷ 7 when Line7 key t
-    ∷ 3 when Line3 room (keyStep key t ∷ [])
+    ∷ 3 when Line3 room (step ∷ [])
     ∷ []

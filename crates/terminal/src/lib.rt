@@ -12,7 +12,7 @@ ghost use Rattle.steps.specs.Steps.{Valid, terminalOf};
 ghost use Rattle.steps.specs.Keys.{isKnown, isLockedOut, lacksCell};
 ghost use Rattle.terminal.specs.Answers.{numberOf, given, unchanged};
 ghost use Rattle.terminal.specs.Lines.{passesLine2};
-ghost use Rattle.terminal.specs.Calls.{startCall, hostCall, keyCall};
+ghost use Rattle.terminal.specs.Calls.{StartAllows, HostAllows, KeyAllows};
 
 // Each has a number, and a line of document 01's table: `numberOf` and `gives` of specs/Answers.antt.
 pub enum Answer {
@@ -77,7 +77,7 @@ fn is_valid(state: State, characters: &[u8], marks: &[u8]) -> bool
 fn run(state: State, characters: &mut [u8], marks: &mut [u8], bytes: &[u8], out: &mut [u8]) -> Reply
     requires { ⌜ Valid (terminalOf state (now characters) (now marks)) ⌝ }
     requires { ⌜ length (now bytes) ≤ 65536 ⌝ }
-    ensures { λ r. ⌜ given r (pageOf (now (characters .exit)) (now (marks .exit))) (now (out .exit)) ≡ hostCall (terminalOf state (now (characters .entry)) (now (marks .entry))) (now (bytes .entry)) (now (out .entry)) ⌝ }
+    ensures { λ r. ⌜ HostAllows (terminalOf state (now (characters .entry)) (now (marks .entry))) (now (bytes .entry)) (now (out .entry)) r (pageOf (now (characters .exit)) (now (marks .exit))) (now (out .exit)) ⌝ }
 {
     let mut here = state;
     let mut taken = 0;
@@ -112,7 +112,7 @@ fn run(state: State, characters: &mut [u8], marks: &mut [u8], bytes: &[u8], out:
 fn press(state: State, characters: &mut [u8], marks: &mut [u8], key: usize, out: &mut [u8]) -> Reply
     requires { ⌜ Valid (terminalOf state (now characters) (now marks)) ⌝ }
     requires { ⌜ (isKnown key ≡ true) × (isLockedOut key state ≡ false) × (lacksCell key (terminalOf state (now characters) (now marks)) ≡ false) ⌝ }
-    ensures { λ r. ⌜ given r (pageOf (now (characters .exit)) (now (marks .exit))) (now (out .exit)) ≡ keyCall (terminalOf state (now (characters .entry)) (now (marks .entry))) key (now (out .entry)) ⌝ }
+    ensures { λ r. ⌜ KeyAllows (terminalOf state (now (characters .entry)) (now (marks .entry))) key (now (out .entry)) r (pageOf (now (characters .exit)) (now (marks .exit))) (now (out .exit)) ⌝ }
 {
     let step = keys::step(state, characters, marks, out, key);
     if step.exceeds {
@@ -130,7 +130,7 @@ fn press(state: State, characters: &mut [u8], marks: &mut [u8], key: usize, out:
 
 // A fresh page of so many rows and columns.
 pub fn start(rows: usize, columns: usize, characters: &mut [u8], marks: &mut [u8]) -> Reply
-    ensures { λ r. ⌜ given r (pageOf (now (characters .exit)) (now (marks .exit))) [] ≡ startCall (record { rows = rows; columns = columns }) (pageOf (now (characters .entry)) (now (marks .entry))) ⌝ }
+    ensures { λ r. ⌜ StartAllows (record { rows = rows; columns = columns }) (pageOf (now (characters .entry)) (now (marks .entry))) r (pageOf (now (characters .exit)) (now (marks .exit))) [] ⌝ }
 {
     let size = Size { rows, columns };
     if !size.fits(characters, marks) {
@@ -155,7 +155,7 @@ pub fn host(
     bytes: &[u8],
     out: &mut [u8],
 ) -> Reply
-    ensures { λ r. ⌜ given r (pageOf (now (characters .exit)) (now (marks .exit))) (now (out .exit)) ≡ hostCall (terminalOf state (now (characters .entry)) (now (marks .entry))) (now (bytes .entry)) (now (out .entry)) ⌝ }
+    ensures { λ r. ⌜ HostAllows (terminalOf state (now (characters .entry)) (now (marks .entry))) (now (bytes .entry)) (now (out .entry)) r (pageOf (now (characters .exit)) (now (marks .exit))) (now (out .exit)) ⌝ }
 {
     if !state.size.fits(characters, marks) {
         return refuse_call(Answer::WrongSize, state);
@@ -177,7 +177,7 @@ pub fn key(
     key: usize,
     out: &mut [u8],
 ) -> Reply
-    ensures { λ r. ⌜ given r (pageOf (now (characters .exit)) (now (marks .exit))) (now (out .exit)) ≡ keyCall (terminalOf state (now (characters .entry)) (now (marks .entry))) key (now (out .entry)) ⌝ }
+    ensures { λ r. ⌜ KeyAllows (terminalOf state (now (characters .entry)) (now (marks .entry))) key (now (out .entry)) r (pageOf (now (characters .exit)) (now (marks .exit))) (now (out .exit)) ⌝ }
 {
     if !state.size.fits(characters, marks) {
         return refuse_call(Answer::WrongSize, state);

@@ -1,0 +1,29 @@
+-- The page as it counts: fields, keys, blocks and promises go by what is seen of a terminal, and by nothing else of its page.
+use mathlib.Core.Bool.{Bool}
+use mathlib.Core.List.{List}
+use Prim.Native.Nat.{ℕ}
+use lib.ListN.{length}
+use Rattle.page.specs.Marks.{unprotected}
+use Rattle.page.specs.Page.{Page}
+use Rattle.fields.specs.Fields.{Field, fieldsOf}
+use Rattle.blocks.specs.Blocks.{Entry, entryOf, block}
+use Rattle.steps.specs.Steps.{Terminal}
+
+-- It is the page itself.
+abbrev pub seen : Terminal → Page
+seen t = t .page
+
+-- Whether a cell is unprotected: the one test for it.
+abbrev pub free : Terminal → ℕ → Bool
+free t cell = unprotected (seen t .marks) cell
+
+-- The fields, in page order, and what a block says of one.
+abbrev pub fieldsHere : Terminal → List Field
+fieldsHere t = fieldsOf (free t) (t .state .size .columns) (length (seen t .marks))
+
+abbrev pub entryHere : Terminal → Field → Entry
+entryHere t field = entryOf (t .state .size .columns) (seen t .characters) field
+
+-- The block of the page as it stands, full or changed.
+abbrev pub blockHere : Bool → Terminal → List ℕ
+blockHere full t = block full (t .state .size .columns) (seen t)
