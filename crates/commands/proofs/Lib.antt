@@ -4,6 +4,7 @@ pub mod Values
 pub mod Tables
 pub mod Theorems
 pub mod Silent
+pub mod Lengths
 pub mod Finals
 pub mod Stepping
 pub mod Examples

@@ -1,23 +1,18 @@
--- Calls are steps, however a stream is cut: demand 2, cutting, by the laws alone.
+-- Calls are steps, however a stream is cut: demand 2, cutting, from demand 1 and Follows alone.
 use mathlib.Core.Path.{_≡_, refl, sym, ap, _∙_, subst}
 use mathlib.Core.List.{List, [], _∷_, _++_, map, map-append, append-assoc}
 use Prim.Native.Nat.{ℕ, _+_}
 use lib.ListN.{length, take, drop, length-append, take-append-drop}
-use lib.Seq.{take-length}
 use Rattle.steps.specs.Steps.{Terminal, Stepped, Valid}
 use Rattle.terminal.specs.Answers.{Outcome, bytesSent}
 use Rattle.terminal.specs.Runs.{after, sentBy, storedBy}
-use Rattle.promises.specs.Streams.{Machine, Input, byte, stepOf, steps, Call, read, outcomeOf, outcomes, Total, total, inputsOf, inputsDone, AllDone, done, Read, reads, joinedBytes, readAll, readOne, Carries, ended, taken, stopped}
-use Rattle.promises.specs.Laws.{StepLaws, DidSteps, CallLaws}
-use Rattle.promises.specs.Promises.{CallsAreSteps, Cutting, Continuing}
+use Rattle.promises.specs.Rules.{Rules, Input, byte, stepOf, steps, byteSteps, Total, totalOf}
+use Rattle.promises.specs.Entries.{Entries, Call, outcomeOf, outcomes, total, inputsOf, inputsDone, AllDone, done, Read, reads, joinedBytes, readAll, readOne, Carries, ended, taken, stopped}
+use Rattle.promises.specs.Further.{SameHoweverCut, Continuing, CallsAreSteps}
+use Rattle.promises.proofs.Laws.{StepLaws, Keeps, DidSteps}
+use Rattle.promises.proofs.Doing.{does-steps, all-taken}
 
--- What steps leave, send and store together; the same for the steps of inputs; and a call in front of what comes after it.
-abbrev totalOf : Terminal → List Stepped → Total
-totalOf t run = record { terminal = after t run; sent = sentBy run; stored = length (storedBy run) }
-
-abbrev doneBy : Machine → Terminal → List Input → Total
-doneBy m t inputs = totalOf t (steps m t inputs)
-
+-- A call in front of what comes after it.
 abbrev inFront : Outcome → Total → Total
 inFront outcome rest = record { terminal = rest .terminal; sent = bytesSent outcome ++ rest .sent; stored = outcome .stored + rest .stored }
 
@@ -37,10 +32,10 @@ unfolding storedBy
 stored-joined [] second = refl
 stored-joined (step ∷ later) second = rw (append-assoc, stored-joined later second)
 
-pub steps-joined : (m : Machine) (t : Terminal) (first second : List Input) → steps m t (first ++ second) ≡ steps m t first ++ steps m (after t (steps m t first)) second
+pub steps-joined : (rules : Rules) (t : Terminal) (first second : List Input) → steps rules t (first ++ second) ≡ steps rules t first ++ steps rules (after t (steps rules t first)) second
 unfolding steps after
-steps-joined m t [] second = refl
-steps-joined m t (input ∷ later) second = rw (steps-joined m (stepOf m input t .terminal) later second)
+steps-joined rules t [] second = refl
+steps-joined rules t (input ∷ later) second = rw (steps-joined rules (stepOf rules input t .terminal) later second)
 
 -- A call that did steps, in front of further steps.
 total-joined : (t : Terminal) (first second : List Stepped) (outcome : Outcome) → DidSteps t first outcome → inFront outcome (totalOf (after t first) second) ≡ totalOf t (first ++ second)
@@ -48,9 +43,9 @@ total-joined t first second outcome did =
     rw (after-joined t first second, sent-joined first second, stored-joined first second, length-append (storedBy first) (storedBy second), did .sent, did .stored)
 
 -- What a call did, in front of what later calls did.
-pub inputs-in-front : (m : Machine) (t : Terminal) (call : Call) (calls : List Call) {outcome : Outcome} → outcomeOf m call t ≡ outcome → inputsDone m t (call ∷ calls) ≡ inputsOf call outcome ++ inputsDone m (outcome .terminal) calls
+pub inputs-in-front : (entries : Entries) (t : Terminal) (call : Call) (calls : List Call) {outcome : Outcome} → outcomeOf entries call t ≡ outcome → inputsDone entries t (call ∷ calls) ≡ inputsOf call outcome ++ inputsDone entries (outcome .terminal) calls
 unfolding inputsDone
-inputs-in-front m t call calls is = λ i. inputsOf call (is i) ++ inputsDone m (is i .terminal) calls
+inputs-in-front entries t call calls is = λ i. inputsOf call (is i) ++ inputsDone entries (is i .terminal) calls
 
 pub first-done : {outcome : Outcome} {later : List Outcome} → AllDone (outcome ∷ later) → outcome .number ≡ 0
 first-done (done outcome later number further) = number
@@ -58,60 +53,49 @@ first-done (done outcome later number further) = number
 later-done : {outcome : Outcome} {later : List Outcome} → AllDone (outcome ∷ later) → AllDone later
 later-done (done outcome later number further) = further
 
-module _ (m : Machine) (step-laws : StepLaws m) (call-laws : CallLaws m) where
-  pub steps-keep-valid : (t : Terminal) → Valid t → (inputs : List Input) → Valid (after t (steps m t inputs))
-  unfolding steps after
-  steps-keep-valid t valid [] = valid
-  steps-keep-valid t valid (input ∷ later) = steps-keep-valid (stepOf m input t .terminal) (step-laws .every-step input t valid .valid) later
+-- Steps keep a terminal valid.
+pub steps-keep-valid : (rules : Rules) → StepLaws rules → (t : Terminal) → Valid t → (inputs : List Input) → Valid (after t (steps rules t inputs))
+unfolding steps after
+steps-keep-valid rules laws t valid [] = valid
+steps-keep-valid rules laws t valid (input ∷ later) = steps-keep-valid rules laws (stepOf rules input t .terminal) (laws .every-step input t valid .valid) later
 
-  pub calls-are-steps-of : CallsAreSteps m
+module _ (rules : Rules) (entries : Entries) (kept : Keeps rules entries) where
+  pub calls-are-steps-of : CallsAreSteps rules entries
   unfolding outcomes total inputsDone steps after sentBy storedBy
-  calls-are-steps-of t valid [] = refl
-  calls-are-steps-of t valid (call ∷ later) =
-      let outcome = outcomeOf m call t in
-      let now = steps m t (inputsOf call outcome) in
-      let did : DidSteps t now outcome = call-laws .does-steps call t valid in
-      let inputs = inputsDone m (outcome .terminal) later in
-      let next-valid : Valid (outcome .terminal) = subst Valid (sym (did .terminal)) (steps-keep-valid t valid (inputsOf call outcome)) in
-      ap (inFront outcome) (calls-are-steps-of (outcome .terminal) next-valid later)
-      ∙ ap (λ (u : Terminal). inFront outcome (doneBy m u inputs)) (did .terminal)
-      ∙ total-joined t now (steps m (after t now) inputs) outcome did
-      ∙ ap (totalOf t) (sym (steps-joined m t (inputsOf call outcome) inputs))
+  calls-are-steps-of t [] = refl
+  calls-are-steps-of t (call ∷ later) =
+      let outcome = outcomeOf entries call t in
+      let now = steps rules t (inputsOf call outcome) in
+      let did : DidSteps t now outcome = does-steps rules entries kept call t in
+      let inputs = inputsDone entries (outcome .terminal) later in
+      ap (inFront outcome) (calls-are-steps-of (outcome .terminal) later)
+      ∙ ap (λ (u : Terminal). inFront outcome (totalOf u (steps rules u inputs))) (did .terminal)
+      ∙ total-joined t now (steps rules (after t now) inputs) outcome did
+      ∙ ap (totalOf t) (sym (steps-joined rules t (inputsOf call outcome) inputs))
 
-  -- A read given 0 did the inputs of all its bytes.
-  all-taken : (t : Terminal) (bytes output : List ℕ) → m .host t bytes output .number ≡ 0 → map byte (take (m .host t bytes output .taken) bytes) ≡ map byte bytes
-  all-taken t bytes output number = rw (call-laws .done-takes-all t bytes output number, take-length)
-
-  -- So reads that carry a stream did its inputs, and are the steps of these.
-  carried-inputs : {t : Terminal} {stream : List ℕ} {list : List Read} → Carries m t stream list → inputsDone m t (reads list) ≡ map byte stream
+  -- Reads that carry a stream did its inputs, and are the steps of these.
+  carried-inputs : {t : Terminal} {stream : List ℕ} {list : List Read} → Carries entries t stream list → inputsDone entries t (reads list) ≡ map byte stream
   unfolding outcomeOf inputsDone inputsOf
   carried-inputs ended = refl
-  carried-inputs {t} (taken r {later} zero further) = rw (all-taken t (r .bytes) (r .output) zero, carried-inputs further, map-append byte (r .bytes) later)
+  carried-inputs {t} (taken r {later} zero further) =
+      rw (all-taken rules entries kept t (r .bytes) (r .output) zero, carried-inputs further, map-append byte (r .bytes) later)
   carried-inputs {t} (stopped r later three further) =
-      let n = readOne m t r .taken in
+      let n = readOne entries t r .taken in
       rw (carried-inputs further, ← map-append byte (take n (r .bytes)) (drop n (r .bytes) ++ later), ← append-assoc (take n (r .bytes)) (drop n (r .bytes)) later, take-append-drop n (r .bytes))
 
-  as-steps : {t : Terminal} {stream : List ℕ} {list : List Read} → Valid t → Carries m t stream list → readAll m t list ≡ doneBy m t (map byte stream)
-  as-steps {t} {list} valid carries = calls-are-steps-of t valid (reads list) ∙ ap (doneBy m t) (carried-inputs carries)
-
-  carried : {t : Terminal} {stream : List ℕ} {list : List Read} → Carries m t stream list → readAll m t list ≡ doneBy m t (map byte stream)
-  unfolding outcomes outcomeOf total steps after sentBy storedBy
-  carried ended = refl
-  carried {t} (taken r zero further) = as-steps (call-laws .done-is-valid (read (r .bytes) (r .output)) t zero) (taken r zero further)
-  carried {t} (stopped r later three further) = as-steps (call-laws .stopped-is-valid t (r .bytes) (r .output) three) (stopped r later three further)
-
-  pub continuing-of : Continuing m
-  continuing-of t stream one other carries carries-too = carried carries ∙ sym (carried carries-too)
+  pub continuing-of : Continuing rules entries
+  continuing-of t stream list carries =
+      calls-are-steps-of t (reads list) ∙ ap (λ (inputs : List Input). totalOf t (steps rules t inputs)) (carried-inputs carries)
 
   -- Reads that are all given 0 carry their bytes joined.
-  all-done-carry : (t : Terminal) (list : List Read) → AllDone (outcomes m t (reads list)) → Carries m t (joinedBytes list) list
+  all-done-carry : (t : Terminal) (list : List Read) → AllDone (outcomes entries t (reads list)) → Carries entries t (joinedBytes list) list
   unfolding outcomes outcomeOf joinedBytes
   all-done-carry t [] all-done = ended
   all-done-carry t (r ∷ later) all-done = taken r (first-done all-done) (all-done-carry _ later (later-done all-done))
 
-  pub cutting-of : Cutting m
-  cutting-of t one other same one-done other-done =
-      continuing-of t (joinedBytes other) one other (subst (λ (stream : List ℕ). Carries m t stream one) same (all-done-carry t one one-done)) (all-done-carry t other other-done)
+  pub cutting-of : (t : Terminal) (cut : List Read) → AllDone (outcomes entries t (reads cut)) → readAll entries t cut ≡ totalOf t (byteSteps rules t (joinedBytes cut))
+  cutting-of t cut all-done = continuing-of t (joinedBytes cut) cut (all-done-carry t cut all-done)
 
-  pub reads-done : (t : Terminal) (list : List Read) → AllDone (outcomes m t (reads list)) → inputsDone m t (reads list) ≡ map byte (joinedBytes list)
-  reads-done t list all-done = carried-inputs (all-done-carry t list all-done)
+  pub same-however-cut-of : SameHoweverCut entries
+  same-however-cut-of t one other same one-done other-done =
+      cutting-of t one one-done ∙ ap (λ (stream : List ℕ). totalOf t (byteSteps rules t stream)) same ∙ sym (cutting-of t other other-done)

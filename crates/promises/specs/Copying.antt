@@ -1,50 +1,52 @@
 -- Demand 3: what the host does with the blocks it gets, and what keys have stored since the block before.
 use mathlib.Core.Path.{_≡_}
-use mathlib.Core.Bool.{true}
-use mathlib.Core.List.{List, [], _∷_, _++_, List·Memᴰ}
+use mathlib.Core.List.{List, [], _∷_, _++_, map, List·Memᴰ}
 use mathlib.Core.Logic.{_↔_}
 use Prim.Native.Nat.{ℕ, _+_, _<_, _≤_}
-use Rattle.places.specs.Places.{placeOf}
 use Rattle.fields.specs.Fields.{Field}
-use Rattle.blocks.specs.Blocks.{Entry, block}
+use Rattle.blocks.specs.Blocks.{Entry}
 use Rattle.blocks.specs.Decode.{decode}
 use Rattle.blocks.specs.Lay.{lay}
 use Rattle.steps.specs.Steps.{Terminal, Message, silent, report, fullBlock, changedBlock, Stepped}
-use Rattle.steps.specs.Keys.{fieldsHere}
-use Rattle.promises.specs.Streams.{Machine, Input, byte, press}
+use Rattle.steps.specs.Seen.{fieldsHere, entryHere}
+use Rattle.promises.specs.Rules.{Rules, Input, byte, press}
 
--- Host bytes follow, as long as each one's step names no cell; keys as they come.
-unfoldable pub HostStoresNothing : Machine → Terminal → List Input → Type 0
-HostStoresNothing m t [] = Unit {0}
-HostStoresNothing m t (byte b ∷ later) = (m .onByte b t .cells ≡ []) × HostStoresNothing m (m .onByte b t .terminal) later
-HostStoresNothing m t (press key ∷ later) = HostStoresNothing m (m .onKey key t .terminal) later
+-- A step that stores in no cell: the one place that says so.
+abbrev pub StoresNoCell : Stepped → Type 0
+StoresNoCell step = step .cells ≡ []
 
--- The full block of a page as it stands.
-abbrev pub copyOf : Terminal → List ℕ
-copyOf t = block true (t .state .size .columns) (t .page)
+-- Host bytes follow, as long as they store in no cell; keys as they come.
+unfoldable pub HostStoresNothing : Rules → Terminal → List Input → Type 0
+HostStoresNothing rules t [] = Unit {0}
+HostStoresNothing rules t (byte b ∷ later) =
+    StoresNoCell (rules .onByte b t) × HostStoresNothing rules (rules .onByte b t .terminal) later
+HostStoresNothing rules t (press key ∷ later) = HostStoresNothing rules (rules .onKey key t .terminal) later
 
--- A block is laid over the copy; a report is none.
-unfoldable pub laid : Message → List ℕ → List ℕ
-laid silent copy = copy
-laid (report bytes) copy = copy
-laid (fullBlock bytes) copy = lay bytes copy
-laid (changedBlock bytes) copy = lay bytes copy
+-- The blocks among the messages of steps, in order; a report is none.
+unfoldable pub blockIn : Message → List (List ℕ)
+blockIn silent = []
+blockIn (report bytes) = []
+blockIn (fullBlock bytes) = bytes ∷ []
+blockIn (changedBlock bytes) = bytes ∷ []
 
--- Right after a block the copy is the full block of the page as it stands.
-unfoldable pub RightAfter : Message → List ℕ → Terminal → Type 0
-RightAfter silent copy t = Unit {0}
-RightAfter (report bytes) copy t = Unit {0}
-RightAfter (fullBlock bytes) copy t = copy ≡ copyOf t
-RightAfter (changedBlock bytes) copy t = copy ≡ copyOf t
+unfoldable pub blocksSent : List Stepped → List (List ℕ)
+blocksSent [] = []
+blocksSent (step ∷ later) = blockIn (step .message) ++ blocksSent later
 
--- After each block among these steps, with every block laid over what the host had.
-unfoldable pub CopyHolds : List ℕ → List Stepped → Type 0
-CopyHolds copy [] = Unit {0}
-CopyHolds copy (step ∷ later) = RightAfter (step .message) (laid (step .message) copy) (step .terminal) × CopyHolds (laid (step .message) copy) later
+-- The terminal as it stands right after each of them.
+unfoldable pub standings : List Stepped → List Terminal
+standings [] = []
+standings (step ∷ later) = map (λ (block : List ℕ). step .terminal) (blockIn (step .message)) ++ standings later
 
--- A block has no entry for the field.
-pub record Omitted (columns : ℕ) (bytes : List ℕ) (field : Field) : Type 0 where
-  pub no-entry : (entry : Entry) → List·Memᴰ entry (decode bytes) → entry .row ≡ placeOf columns (field .start) .row → entry .column ≡ placeOf columns (field .start) .column → ⊥
+-- The host lays each block over its copy: the copy that it has after each.
+unfoldable pub copies : List ℕ → List (List ℕ) → List (List ℕ)
+copies copy [] = []
+copies copy (block ∷ later) = let now = lay block copy in now ∷ copies now later
+
+-- A block has no entry at the field's place.
+pub record Omitted (t : Terminal) (bytes : List ℕ) (field : Field) : Type 0 where
+  pub no-entry : (entry : Entry) → List·Memᴰ entry (decode bytes) →
+      entry .row ≡ entryHere t field .row → entry .column ≡ entryHere t field .column → ⊥
 
 -- None of the field's cells is among those stored.
 pub record Unstored (stored : List ℕ) (field : Field) : Type 0 where
@@ -56,7 +58,7 @@ OmitsExactly silent t stored = Unit {0}
 OmitsExactly (report bytes) t stored = Unit {0}
 OmitsExactly (fullBlock bytes) t stored = Unit {0}
 OmitsExactly (changedBlock bytes) t stored =
-    (field : Field) → List·Memᴰ field (fieldsHere t) → Omitted (t .state .size .columns) bytes field ↔ Unstored stored field
+    (field : Field) → List·Memᴰ field (fieldsHere t) → Omitted t bytes field ↔ Unstored stored field
 
 -- The cells that steps have named since the last block, of whichever kind.
 unfoldable pub storedSince : Message → List ℕ → List ℕ → List ℕ
@@ -65,6 +67,9 @@ storedSince (report bytes) stored cells = stored ++ cells
 storedSince (fullBlock bytes) stored cells = []
 storedSince (changedBlock bytes) stored cells = []
 
+-- So it is with each changed block among these steps, from a terminal, where `stored` was stored since the block before.
 unfoldable pub OmissionHolds : Terminal → List ℕ → List Stepped → Type 0
 OmissionHolds t stored [] = Unit {0}
-OmissionHolds t stored (step ∷ later) = OmitsExactly (step .message) t stored × OmissionHolds (step .terminal) (storedSince (step .message) stored (step .cells)) later
+OmissionHolds t stored (step ∷ later) =
+    OmitsExactly (step .message) t stored
+    × OmissionHolds (step .terminal) (storedSince (step .message) stored (step .cells)) later

@@ -1,6 +1,7 @@
-pub mod Streams
-pub mod Contracts
+pub mod Rules
+pub mod Entries
+pub mod FeedingBack
 pub mod Copying
-pub mod Promises
-pub mod Laws
-pub mod Wrong
+pub mod Demands
+pub mod Contracts
+pub mod Further

@@ -1,0 +1,115 @@
+-- What else is promised, beside the three demands: of contracts, of entries with the rules that they follow, and of rules alone.
+-- The theorems are in proofs/Theorems.antt; the proofs of the wrong terminals (proofs/Wrong*.antt) show that none is empty.
+use mathlib.Core.Path.{_≡_}
+use mathlib.Core.Bool.{Bool, true, false}
+use mathlib.Core.List.{List, [], _∷_, map}
+use mathlib.Core.Logic.{_↔_}
+use Prim.Native.Nat.{ℕ, _<_, _≤_}
+use lib.ListN.{length}
+use Rattle.page.specs.Page.{Page}
+use Rattle.state.specs.declared.Size.{Size}
+use Rattle.steps.specs.Steps.{Terminal, fullBlock, blockMessage, Valid}
+use Rattle.steps.specs.Seen.{cellsHere, characterAt, free, modifiedAt, blockHere}
+use Rattle.steps.specs.Claims.{ProtectedKept}
+use Rattle.terminal.specs.declared.Reply.{Reply}
+use Rattle.terminal.specs.Claims.{SameResult}
+use Rattle.promises.specs.Rules.{Rules, Input, byte, press, stepOf, steps, byteSteps, totalOf}
+use Rattle.promises.specs.Entries.{Entries, Call, outcomes, callAll, inputsDone, AllDone, Read, reads, joinedBytes, readAll, Carries}
+use Rattle.promises.specs.Contracts.{Results, Contracts}
+use Rattle.promises.specs.Copying.{HostStoresNothing, blocksSent, standings, copies, OmissionHolds}
+use Rattle.promises.specs.Demands.{Demand1, Follows}
+
+-- One result: whatever comes in, any two results that the contract of an entry allows are the same.
+abbrev pub AllSame : Results → Type 0
+AllSame allowed =
+    (one other : Reply) (page there : Page) (output lent : List ℕ) → allowed one page output → allowed other there lent →
+    SameResult one other page there output lent
+
+pub record OneResult (contracts : Contracts) : Type 0 where
+  pub of-start : (size : Size) (page : Page) → AllSame (contracts .start size page)
+  pub of-host : (t : Terminal) (bytes lent : List ℕ) → AllSame (contracts .host t bytes lent)
+  pub of-key : (t : Terminal) (key : ℕ) (lent : List ℕ) → AllSame (contracts .key t key lent)
+
+-- One terminal: entries that keep demand 1 and follow the rules are the same on every input, whoever wrote them.
+pub record SameEntries (one other : Entries) : Type 0 where
+  pub of-start : (size : Size) (page : Page) → one .start size page ≡ other .start size page
+  pub of-host : (t : Terminal) (bytes lent : List ℕ) → one .host t bytes lent ≡ other .host t bytes lent
+  pub of-key : (t : Terminal) (key : ℕ) (lent : List ℕ) → one .key t key lent ≡ other .key t key lent
+
+abbrev pub OneTerminal : Rules → Type 1
+OneTerminal rules =
+    (one other : Entries) → Demand1 rules one → Follows rules one → Demand1 rules other → Follows rules other →
+    SameEntries one other
+
+-- Validity: a start given 0 leaves a valid terminal, and calls leave a valid one valid, so that they never meet 1 or 2.
+pub record StaysValid (entries : Entries) : Type 0 where
+  pub from-start : (size : Size) (page : Page) → entries .start size page .number ≡ 0 → Valid (entries .start size page .terminal)
+  pub through-calls : (t : Terminal) → Valid t → (calls : List Call) → Valid (callAll entries t calls .terminal)
+
+-- Two ways to cut a stream into reads, none of them refused, leave, send and store the same.
+abbrev pub SameHoweverCut : Entries → Type 0
+SameHoweverCut entries =
+    (t : Terminal) (one other : List Read) → joinedBytes one ≡ joinedBytes other →
+    AllDone (outcomes entries t (reads one)) → AllDone (outcomes entries t (reads other)) →
+    readAll entries t one ≡ readAll entries t other
+
+-- Calls given 3: reads that carry a stream, stopped for room wherever and however often, did the steps of the whole stream.
+abbrev pub Continuing : Rules → Entries → Type 0
+Continuing rules entries =
+    (t : Terminal) (stream : List ℕ) (list : List Read) → Carries entries t stream list →
+    readAll entries t list ≡ totalOf t (byteSteps rules t stream)
+
+-- With room for 35,185 bytes or more, a host call given 3 has sent something: calling again with the rest comes to an end.
+abbrev pub Progress : Entries → Type 0
+Progress entries =
+    (t : Terminal) (bytes lent : List ℕ) → 35185 ≤ length lent → entries .host t bytes lent .number ≡ 3 →
+    0 < entries .host t bytes lent .sent
+
+-- Calls are the steps of what they did: their bytes are those messages joined, their count the cells that those steps name.
+abbrev pub CallsAreSteps : Rules → Entries → Type 0
+CallsAreSteps rules entries =
+    (t : Terminal) (calls : List Call) → callAll entries t calls ≡ totalOf t (steps rules t (inputsDone entries t calls))
+
+-- What a block leaves: every character; protected cells with their marks, modified too; and no unprotected cell modified.
+pub record LeftByBlock (before after : Terminal) : Type 0 where
+  pub characters : (cell : ℕ) → cell < cellsHere before → characterAt after cell ≡ characterAt before cell
+  pub protected-cells : (cell : ℕ) → free before cell ≡ false → ProtectedKept (before .page) (after .page) cell
+  pub none-modified : (cell : ℕ) → cell < cellsHere after → free after cell ≡ true → modifiedAt after cell ≡ false
+
+abbrev pub BlocksKeep : Rules → Type 0
+BlocksKeep rules =
+    (t : Terminal) → Valid t → (asks : Input) (full : Bool) (bytes : List ℕ) →
+    stepOf rules asks t .message ≡ blockMessage full bytes → LeftByBlock t (stepOf rules asks t .terminal)
+
+-- What asks for a block, full or changed: 266, 267, and S after ESC. A step sends one exactly when it is asked for, and it is that
+-- of the page as it stands.
+pub data Asks (t : Terminal) : Bool → Input → Type 0 where
+  changed-by-266 : Asks t false (press 266)
+  full-by-267 : Asks t true (press 267)
+  full-by-esc-s : t .state .half .kind ≡ 1 → Asks t true (byte 0x53)
+
+abbrev pub SendsBlocks : Rules → Type 0
+SendsBlocks rules =
+    (t : Terminal) → Valid t → (input : Input) (full : Bool) (bytes : List ℕ) →
+    (stepOf rules input t .message ≡ blockMessage full bytes) ↔ (Asks t full input × (bytes ≡ blockHere full t))
+
+-- No block that is sent exceeds 35,185 bytes.
+abbrev pub Bounded : Rules → Type 0
+Bounded rules =
+    (t : Terminal) → Valid t → (input : Input) (full : Bool) (bytes : List ℕ) →
+    stepOf rules input t .message ≡ blockMessage full bytes → length bytes ≤ 35185
+
+-- Demand 3 over steps: after a full block, whatever asked for it, keys and host bytes that store in no cell.
+abbrev pub CopyingSteps : Rules → Type 0
+CopyingSteps rules =
+    (t : Terminal) → Valid t → (asks : Input) (block : List ℕ) → stepOf rules asks t .message ≡ fullBlock block →
+    let there = stepOf rules asks t .terminal in
+    (later : List Input) → HostStoresNothing rules there later →
+    let run = steps rules there later in
+    block ∷ copies block (blocksSent run) ≡ map (blockHere true) (there ∷ standings run)
+
+abbrev pub OmissionSteps : Rules → Type 0
+OmissionSteps rules =
+    (t : Terminal) → Valid t → (asks : Input) (block : List ℕ) → stepOf rules asks t .message ≡ fullBlock block →
+    let there = stepOf rules asks t .terminal in
+    (later : List Input) → HostStoresNothing rules there later → OmissionHolds there [] (steps rules there later)
