@@ -7,4 +7,6 @@ pub mod Laying
 pub mod Recovering
 pub mod Weighing
 pub mod Bound
+pub mod Finding
 pub mod Theorems
+pub mod Examples

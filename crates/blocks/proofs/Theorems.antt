@@ -1,7 +1,7 @@
 -- What is proved of blocks. The words are in Claims, the proofs in the other files of this folder.
 use mathlib.Core.Path.{_≡_}
 use mathlib.Core.Bool.{Bool, true, false}
-use mathlib.Core.List.{List, [], _∷_}
+use mathlib.Core.List.{List, [], _∷_, _++_}
 use Prim.Native.Nat.{ℕ, _*_, _≤_}
 use lib.ListN.{length}
 use Rattle.words.specs.Lists.{every}
@@ -9,6 +9,7 @@ use Rattle.page.specs.Page.{Page}
 use Rattle.blocks.specs.Blocks.{Entry, encode, entriesSent, block}
 use Rattle.blocks.specs.Decode.{decode, validEntry}
 use Rattle.blocks.specs.Lay.{lay}
+use Rattle.blocks.specs.Finding.{blocksIn, IsReport}
 use Rattle.page.proofs.Keeping.{SameSize}
 use Rattle.blocks.proofs.Claims.{Sendable, Whole, SameForm, FilledAlike, NothingModified, UnmodifiedKept, blankForm, firstAndEven}
 use Rattle.blocks.proofs.Decoding
@@ -16,6 +17,7 @@ use Rattle.blocks.proofs.Pages
 use Rattle.blocks.proofs.Recovering
 use Rattle.blocks.proofs.Laying
 use Rattle.blocks.proofs.Bound
+use Rattle.blocks.proofs.Finding
 
 -- A block read back gives its entries.
 pub entries-read-back : (entries : List Entry) → every validEntry entries ≡ true → decode (encode entries) ≡ entries
@@ -24,6 +26,13 @@ entries-read-back = Decoding.decode-encode
 -- A page's block read back gives the entries that it sent.
 pub block-read-back : (columns : ℕ) (page : Page) → Sendable columns page → (full : Bool) → decode (block full columns page) ≡ entriesSent full columns page
 block-read-back = Pages.decode-block
+
+-- From the bytes of a stream alone, a host finds a page's block, whatever comes after it, and passes a report by.
+pub page-block-found : (columns : ℕ) (page : Page) → Sendable columns page → (full : Bool) (later : List ℕ) → blocksIn (block full columns page ++ later) ≡ block full columns page ∷ blocksIn later
+page-block-found = Finding.page-block-found
+
+pub report-passed : (bytes later : List ℕ) → IsReport bytes → blocksIn (bytes ++ later) ≡ blocksIn later
+report-passed = Finding.report-passed
 
 -- Two pages of one size with equal full blocks have the same fields, the same unprotected cells, and in these the same characters.
 pub equal-blocks : (columns : ℕ) (p q : Page) → SameSize p q → Whole p → Sendable columns p → Sendable columns q → block true columns p ≡ block true columns q → FilledAlike columns p q

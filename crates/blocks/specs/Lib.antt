@@ -1,3 +1,4 @@
 pub mod Blocks
 pub mod Decode
 pub mod Lay
+pub mod Finding

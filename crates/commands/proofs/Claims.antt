@@ -5,7 +5,8 @@ use mathlib.Core.Path.{_≡_}
 use Prim.Native.Nat.{ℕ}
 use Rattle.sequence.specs.declared.HalfRead.{HalfRead}
 use Rattle.page.specs.Page.{cellsErased}
-use Rattle.steps.specs.Steps.{Terminal, fullBlock, changedBlock, Stepped, cursorCell, allCells}
+use Rattle.blocks.specs.Finding.{IsReport}
+use Rattle.steps.specs.Steps.{Terminal, report, fullBlock, changedBlock, Stepped, cursorCell, allCells}
 use Rattle.steps.specs.Claims.{SendsBlock, Sound}
 
 -- The byte ends ESC S.
@@ -26,3 +27,4 @@ pub record HostSound (Asked : Type 0) (t : Terminal) (step : Stepped) : Type 0 w
   pub stored : Stores t (step .cells)
   pub full-block : (bytes : List ℕ) → step .message ≡ fullBlock bytes → SendsBlock true Asked t step bytes
   pub no-changed-block : (bytes : List ℕ) → step .message ≡ changedBlock bytes → ⊥
+  pub is-report : (bytes : List ℕ) → step .message ≡ report bytes → IsReport bytes

@@ -18,6 +18,8 @@ use Rattle.sequence.proofs.Keeping.{advance-keeps}
 use Rattle.page.specs.Marks.{validCharacter}
 use Rattle.page.specs.Page.{Page}
 use Rattle.blocks.specs.Blocks.{block}
+use Rattle.blocks.specs.Finding.{IsReport}
+use Rattle.blocks.proofs.Finding.{ready-is-report, cursor-is-report}
 use Rattle.state.specs.declared.State.{State}
 use Rattle.state.specs.State.{OnPage, withHalf}
 use Rattle.state.specs.Moves.{downBy, toMargin}
@@ -26,7 +28,7 @@ use Rattle.state.proofs.Keeping.{KeepsValid, size-bounds, on-page, parts, up-ke
 use Rattle.steps.specs.Steps.{Terminal, silent, report, fullBlock, blockMessage, Stepped, withState, goesTo, stores, sends, refusing, cursorCell, Valid, rowStart}
 use Rattle.steps.specs.Claims.{markLeft, Sound}
 use Rattle.steps.proofs.Storing.{Stored, text-stored, blank-stored, up-stored, down-stored, erasing-stored}
-use Rattle.steps.proofs.Messages.{silent-is-no-full, silent-is-no-changed, report-is-no-full, report-is-no-changed, full-is-no-changed, same-full}
+use Rattle.steps.proofs.Messages.{silent-is-no-full, silent-is-no-changed, silent-is-no-report, report-is-no-full, report-is-no-changed, full-is-no-changed, same-report, same-full, block-is-no-report}
 use Rattle.steps.proofs.Soundness.{Sized, sized, row-on-page, cursor-on-page, goes-soundly, refuses-soundly, stores-soundly, reports-soundly, clears-soundly}
 use Rattle.steps.specs.Table.{allowed, valueOf}
 use Rattle.steps.specs.Commands.{textStep, lineDown, lineUp, nextLine, controlStep, freshStep, sendBlock, escStep, toColumn, toRow, toPlace, tabControl, erasing, erasePart, rendition, setMode, readyReport, cursorReport, statusReport, listedStep, bracketStep}
@@ -52,6 +54,7 @@ module _ (Asked : Type 0) (t : Terminal) (valid : Valid t) where
     stored = stored;
     full-block = λ bytes f. absurd (silent-is-no-full bytes (cc));
     no-changed-block = λ bytes f. silent-is-no-changed bytes (cc);
+    is-report = λ bytes f. absurd (silent-is-no-report bytes (cc));
   }
 
   goes : (s : State) → KeepsValid (t .state) s → Holds (goesTo s t)
@@ -63,12 +66,13 @@ module _ (Asked : Type 0) (t : Terminal) (valid : Valid t) where
   puts : {cells : List ℕ} {unlocks : Bool} {s : State} {page : Page} → Stores t cells → KeepsValid (t .state) s → Stored (t .page) cells unlocks page → Holds (stores cells unlocks s page)
   puts {cells} {unlocks} {s} {page} names keeps stored = silently refl names (stores-soundly t valid cells unlocks s page keeps stored)
 
-  reports : (said : List ℕ) → Holds (sends (report said) (t .state) (t .page))
-  reports said = record {
+  reports : (said : List ℕ) → IsReport said → Holds (sends (report said) (t .state) (t .page))
+  reports said is = record {
     sound = reports-soundly t valid said;
     stored = no-cell;
     full-block = λ bytes e. absurd (report-is-no-full said bytes e);
     no-changed-block = λ bytes e. report-is-no-changed said bytes e;
+    is-report = λ bytes e. rw (same-report said bytes e) is;
   }
 
   full-block-holds : Asked → Holds (sendBlock true t)
@@ -78,6 +82,7 @@ module _ (Asked : Type 0) (t : Terminal) (valid : Valid t) where
     stored = no-cell;
     full-block = λ bytes e. record { asked = asked; of-page = same-full said bytes e; no-cell = refl };
     no-changed-block = λ bytes e. full-is-no-changed said bytes e;
+    is-report = λ bytes e. absurd (block-is-no-report said bytes true e);
   }
 
   -- What is known of a valid terminal.
@@ -208,7 +213,11 @@ module _ (Asked : Type 0) (t : Terminal) (valid : Valid t) where
 
   status-holds : (what : ℕ) → Holds (statusReport what t)
   unfolding statusReport readyReport cursorReport
-  status-holds what = line (λ _. reports _) (line (λ _. reports _) refuses)
+  status-holds what =
+      let here = cursor in
+      let bounds = size-bounds (t .state .size) (page-size .listed) in
+      line (λ _. reports _ ready-is-report)
+      (line (λ _. reports _ (cursor-is-report (t .state .cursor .row) (t .state .cursor .column) (omega arith) (omega arith))) refuses)
 
   listed-holds : (final : ℕ) (arguments : List ℕ) (count : ℕ) → Holds (listedStep final arguments count t)
   unfolding listedStep
@@ -282,6 +291,7 @@ whatever-half-read Asked t half step holds = let sound = holds .sound in record 
   stored = whatever-half-stores t half (holds .stored);
   full-block = λ bytes e. let full = holds .full-block bytes e in record { asked = full .asked; of-page = full .of-page; no-cell = full .no-cell };
   no-changed-block = holds .no-changed-block;
+  is-report = holds .is-report;
 }
 
 pub host-holds : (byte : ℕ) (t : Terminal) → Valid t → HostSound (EndsEscS (t .state .half) byte) t (hostStep byte t)

@@ -10,9 +10,10 @@ use lib.ListN.{length}
 use Rattle.words.specs.Choice.{if_then_else_}
 use Rattle.words.proofs.Elements.{place-passes, place-listed, run-length}
 use Rattle.page.specs.Page.{Page, erasable, cellsErased}
+use Rattle.blocks.specs.Finding.{IsReport}
 use Rattle.state.specs.declared.State.{State}
 use Rattle.state.specs.Moves.{toMargin}
-use Rattle.steps.specs.Steps.{Terminal, Message, fullBlock, changedBlock, Stepped, goesTo, sends, refusing, allCells, Valid}
+use Rattle.steps.specs.Steps.{Terminal, Message, report, fullBlock, changedBlock, Stepped, goesTo, sends, refusing, allCells, Valid}
 use Rattle.steps.specs.Claims.{Rising, TouchesOnly, KeepsProtection, KeepsText, Refusal, SendsBlock, counted}
 use Rattle.steps.proofs.Naming.{named-between, places-rise}
 use Rattle.steps.proofs.Soundness.{sized, names-none}
@@ -58,6 +59,10 @@ module _ (byte : ℕ) (t : Terminal) (valid : Valid t) where
 
   pub step-sends-no-changed : (bytes : List ℕ) → hostStep byte t .message ≡ changedBlock bytes → ⊥
   step-sends-no-changed bytes sent = host-holds byte t valid .no-changed-block bytes sent
+
+  -- A report is ESC, bytes that end no sequence, then n or R, so that a host can tell it from a block.
+  pub step-reports : (bytes : List ℕ) → hostStep byte t .message ≡ report bytes → IsReport bytes
+  step-reports bytes sent = host-holds byte t valid .is-report bytes sent
 
   -- Protection changes only where the step says so.
   pub step-keeps-protection : hostStep byte t .protection ≡ false → KeepsProtection (t .page) (hostStep byte t .terminal .page)

@@ -27,7 +27,7 @@ use Rattle.steps.specs.Steps.{Terminal, Stepped, goesTo, stores, cursorCell}
 use Rattle.steps.specs.Commands.{sendBlock}
 use Rattle.steps.specs.Seen.{free}
 use Rattle.steps.specs.Keys.{isTyping, cellsFrom, startHere, endHere, goneTo, typedStep, toNextField, toPreviousField, toFirstUnprotected, fieldBlanked, restShifted, keyStep}
-use Rattle.steps.proofs.Messages.{silent-is-no-full, silent-is-no-changed, told-full, told-changed}
+use Rattle.steps.proofs.Messages.{silent-is-no-full, silent-is-no-changed, silent-is-no-report, told-full, told-changed, block-is-no-report}
 use Rattle.keys.proofs.Claims.{KeyStores, no-cell, typed-cell, whole-field, rest-of-field, KeyAlways}
 use Rattle.steps.specs.Claims.{ProtectedKept}
 
@@ -59,6 +59,7 @@ module _ (key : ℕ) (t : Terminal) where
     stored = names;
     full-block = λ bytes e. absurd (silent-is-no-full bytes e);
     changed-block = λ bytes e. absurd (silent-is-no-changed bytes e);
+    no-report = λ bytes e. silent-is-no-report bytes e;
     not-refused = refl;
     locks = locks;
     protected = protected;
@@ -87,6 +88,7 @@ module _ (key : ℕ) (t : Terminal) where
         changed-block = λ bytes e.
             let told = told-changed said bytes full e in
             record { asked = asked ∙ ap blockKey (told .0); of-page = told .1 ∙ ap (λ (f : Bool). block f columns (t .page)) (told .0); no-cell = refl };
+        no-report = λ bytes e. block-is-no-report said bytes full e;
         not-refused = refl;
         locks = λ _. refl;
         protected = λ cell p. record { character = λ _. refl; mark = protected-uncleared (t .page .marks) cell p };

@@ -7,7 +7,7 @@ use Prim.Native.Nat.{ℕ}
 use lib.ListN.{getD}
 use Rattle.page.specs.Marks.{isModified, unprotected}
 use Rattle.page.specs.Page.{Page}
-use Rattle.steps.specs.Steps.{Terminal, fullBlock, changedBlock, Stepped, cursorCell}
+use Rattle.steps.specs.Steps.{Terminal, report, fullBlock, changedBlock, Stepped, cursorCell}
 use Rattle.steps.specs.Claims.{SendsBlock, Sound, ProtectedKept}
 use Rattle.steps.specs.Seen.{free}
 use Rattle.steps.specs.Keys.{isTyping, cellsFrom, startHere, endHere}
@@ -25,6 +25,7 @@ pub record KeyAlways (key : ℕ) (t : Terminal) (step : Stepped) : Type 0 where
   pub stored : KeyStores key t (step .cells)
   pub full-block : (bytes : List ℕ) → step .message ≡ fullBlock bytes → SendsBlock true (key ≡ 267) t step bytes
   pub changed-block : (bytes : List ℕ) → step .message ≡ changedBlock bytes → SendsBlock false (key ≡ 266) t step bytes
+  pub no-report : (bytes : List ℕ) → step .message ≡ report bytes → ⊥
   pub not-refused : step .wasRefused ≡ false
   pub locks : (key ≡ 268 → ⊥) → step .terminal .state .locks ≡ t .state .locks
   pub protected : (cell : ℕ) → unprotected (t .page .marks) cell ≡ false → ProtectedKept (t .page) (step .terminal .page) cell

@@ -10,7 +10,7 @@ use Rattle.words.proofs.Choosing.{not-both, then-case, first-holds}
 use Rattle.words.proofs.Elements.{run-length}
 use Rattle.page.specs.Marks.{isModified, unprotected}
 use Rattle.state.specs.State.{withLocks, unlocked}
-use Rattle.steps.specs.Steps.{Terminal, fullBlock, changedBlock, goesTo, cursorCell, Valid}
+use Rattle.steps.specs.Steps.{Terminal, report, fullBlock, changedBlock, goesTo, cursorCell, Valid}
 use Rattle.steps.specs.Claims.{Rising, TouchesOnly, KeepsProtection, KeepsText, SendsBlock, ProtectedKept, counted}
 use Rattle.steps.specs.Seen.{free}
 use Rattle.steps.specs.Keys.{isTyping, isEditing, startHere, endHere, typedStep, fieldBlanked, restShifted, keyStep}
@@ -60,6 +60,10 @@ module _ (key : ℕ) (t : Terminal) where
 
   pub key-sends-changed : (bytes : List ℕ) → keyStep key t .message ≡ changedBlock bytes → SendsBlock false (key ≡ 266) t (keyStep key t) bytes
   key-sends-changed = key-always key t .changed-block
+
+  -- No key sends a report.
+  pub key-sends-no-report : (bytes : List ℕ) → keyStep key t .message ≡ report bytes → ⊥
+  key-sends-no-report = key-always key t .no-report
 
   -- No key refuses a command.
   pub key-never-refuses : keyStep key t .wasRefused ≡ false

@@ -1,4 +1,4 @@
--- Messages of different kinds differ, and equal blocks have equal bytes.
+-- Messages of different kinds differ, and equal messages have equal bytes.
 use mathlib.Core.Path.{_≡_, refl, sym}
 use mathlib.Core.Bool.{Bool, true, false}
 use mathlib.Core.List.{List}
@@ -12,6 +12,9 @@ silent-is-no-full bytes e = let z : _≡_ {A = ℕ} 0 1 = cc in omega arith
 pub silent-is-no-changed : (bytes : List ℕ) → silent ≡ changedBlock bytes → ⊥
 silent-is-no-changed bytes e = let z : _≡_ {A = ℕ} 0 1 = cc in omega arith
 
+pub silent-is-no-report : (bytes : List ℕ) → silent ≡ report bytes → ⊥
+silent-is-no-report bytes e = let z : _≡_ {A = ℕ} 0 1 = cc in omega arith
+
 pub report-is-no-full : (said bytes : List ℕ) → report said ≡ fullBlock bytes → ⊥
 report-is-no-full said bytes e = let z : _≡_ {A = ℕ} 0 1 = cc in omega arith
 
@@ -20,6 +23,9 @@ report-is-no-changed said bytes e = let z : _≡_ {A = ℕ} 0 1 = cc in omega ar
 
 pub full-is-no-changed : (said bytes : List ℕ) → fullBlock said ≡ changedBlock bytes → ⊥
 full-is-no-changed said bytes e = let z : _≡_ {A = ℕ} 0 1 = cc in omega arith
+
+pub same-report : (said bytes : List ℕ) → report said ≡ report bytes → bytes ≡ said
+same-report said bytes e = cc
 
 pub same-full : (said bytes : List ℕ) → fullBlock said ≡ fullBlock bytes → bytes ≡ said
 same-full said bytes e = cc
@@ -35,3 +41,9 @@ module _ (said bytes : List ℕ) where
   unfolding blockMessage
   told-changed true e = absurd (full-is-no-changed said bytes e)
   told-changed false e = (refl, cc)
+
+  -- It is no report.
+  pub block-is-no-report : (full : Bool) → blockMessage full said ≡ report bytes → ⊥
+  unfolding blockMessage
+  block-is-no-report true e = report-is-no-full bytes said (sym e)
+  block-is-no-report false e = report-is-no-changed bytes said (sym e)
