@@ -1,7 +1,7 @@
 -- Demand 3, the copy, by the laws alone.
 use mathlib.Core.Path.{_≡_, refl, sym, ap, _∙_}
 use mathlib.Core.Bool.{true}
-use mathlib.Core.List.{List, []}
+use mathlib.Core.List.{List, [], _∷_, _++_, map}
 use Prim.Native.Nat.{ℕ}
 use native.Mathlib.Omega.{arith}
 use Rattle.words.proofs.Choosing.{not-both}
@@ -12,11 +12,12 @@ use Rattle.blocks.specs.Lay.{lay}
 use Rattle.blocks.proofs.Claims.{Sendable, SameForm, UnmodifiedKept}
 use Rattle.blocks.proofs.Theorems.{copy-changed, copy-replaced}
 use Rattle.steps.specs.Steps.{Terminal, Message, silent, report, fullBlock, changedBlock, Stepped, Valid}
+use Rattle.steps.specs.Seen.{blockHere}
 use Rattle.steps.specs.Claims.{markLeft}
-use Rattle.promises.specs.Streams.{Machine, stepOf}
-use Rattle.promises.specs.Copying.{copyOf, laid, RightAfter, CopyHolds}
-use Rattle.promises.specs.Laws.{StepLaw, TagLaw, StepLaws}
-use Rattle.promises.specs.Promises.{Copying}
+use Rattle.promises.specs.Rules.{Rules, stepOf}
+use Rattle.promises.specs.Copying.{StoresNoCell, blockIn, blocksSent, standings, copies}
+use Rattle.promises.proofs.Laws.{StepLaw, TagLaw, StepLaws}
+use Rattle.promises.specs.Further.{CopyingSteps}
 use Rattle.promises.proofs.Keeping.{sendable, leaves, was-on-page, same-form, same-full-block}
 use Rattle.promises.proofs.Following.{Follow, no-more, one-more, follow}
 
@@ -29,7 +30,7 @@ record IsCopy (copy : List ℕ) (t : Terminal) : Type 0 where
   kept : UnmodifiedKept page (t .page)
 
 -- A page's own full block is its copy.
-own-copy : {copy : List ℕ} (t : Terminal) → Valid t → copy ≡ copyOf t → IsCopy copy t
+own-copy : {copy : List ℕ} (t : Terminal) → Valid t → copy ≡ blockHere true t → IsCopy copy t
 own-copy t valid is = record {
   page = t .page;
   is = is;
@@ -61,38 +62,44 @@ module _ (copy : List ℕ) (t : Terminal) (valid : Valid t) (step : Stepped) (la
   }
 
   -- A block makes it the full block of the page as it stands.
-  renews-copy : (bytes : List ℕ) → step .cells ≡ [] → lay bytes copy ≡ block true (t .state .size .columns) (t .page) → (lay bytes copy ≡ copyOf (step .terminal)) × IsCopy (lay bytes copy) (step .terminal)
+  renews-copy : (bytes : List ℕ) → StoresNoCell step → lay bytes copy ≡ blockHere true t → (lay bytes copy ≡ blockHere true (step .terminal)) × IsCopy (lay bytes copy) (step .terminal)
   renews-copy bytes no-cell laid-right =
       let right = laid-right ∙ same-full-block t valid step law no-cell in
       (right, own-copy (step .terminal) (law .valid) right)
 
-  copied-on : (message : Message) → step .message ≡ message → RightAfter message (laid message copy) (step .terminal) × IsCopy (laid message copy) (step .terminal)
-  unfolding RightAfter laid markLeft
-  copied-on silent is = (tt, stays-copy (leaves step is))
-  copied-on (report bytes) is = (tt, stays-copy (leaves step is))
-  copied-on (fullBlock bytes) is =
-      let sent = law .full-block bytes is in
-      renews-copy bytes (sent .no-cell)
-      (rw (sent .of-page, copied .is) (copy-replaced _ (copied .page) (t .page) (copied .was-sendable) (sendable valid) (copied .form)))
-  copied-on (changedBlock bytes) is =
-      let sent = law .changed-block bytes is in
-      renews-copy bytes (sent .no-cell)
-      (rw (sent .of-page, copied .is) (copy-changed _ (copied .page) (t .page) (copied .was-sendable) (sendable valid) (copied .form) (copied .kept)))
+  -- The step, and then later ones, of which it holds.
+  module _ (later : List Stepped) (rest : (next : List ℕ) → IsCopy next (step .terminal) → copies next (blocksSent later) ≡ map (blockHere true) (standings later)) where
+    and-later : (bytes : List ℕ) → (lay bytes copy ≡ blockHere true (step .terminal)) × IsCopy (lay bytes copy) (step .terminal)
+        → copies copy (bytes ∷ blocksSent later) ≡ map (blockHere true) (step .terminal ∷ standings later)
+    unfolding copies
+    and-later bytes now = λ i. now .0 i ∷ rest (lay bytes copy) (now .1) i
 
-copy-holds : {t : Terminal} {run : List Stepped} → Follow t run → (copy : List ℕ) → IsCopy copy t → CopyHolds copy run
-unfolding CopyHolds
-copy-holds no-more copy copied = tt
-copy-holds (one-more {t} {step} valid law tag further) copy copied =
-    let now = copied-on copy t valid step law tag copied (step .message) refl in
-    (now .0, copy-holds further (laid (step .message) copy) (now .1))
+    copied-on : (message : Message) → step .message ≡ message
+        → copies copy (blockIn message ++ blocksSent later) ≡ map (blockHere true) (map (λ (block : List ℕ). step .terminal) (blockIn message) ++ standings later)
+    unfolding blockIn markLeft
+    copied-on silent is = rest copy (stays-copy (leaves step is))
+    copied-on (report bytes) is = rest copy (stays-copy (leaves step is))
+    copied-on (fullBlock bytes) is =
+        let sent = law .full-block bytes is in
+        and-later bytes (renews-copy bytes (sent .no-cell)
+        (rw (sent .of-page, copied .is) (copy-replaced _ (copied .page) (t .page) (copied .was-sendable) (sendable valid) (copied .form))))
+    copied-on (changedBlock bytes) is =
+        let sent = law .changed-block bytes is in
+        and-later bytes (renews-copy bytes (sent .no-cell)
+        (rw (sent .of-page, copied .is) (copy-changed _ (copied .page) (t .page) (copied .was-sendable) (sendable valid) (copied .form) (copied .kept))))
+
+copies-right : {t : Terminal} {run : List Stepped} → Follow t run → (copy : List ℕ) → IsCopy copy t → copies copy (blocksSent run) ≡ map (blockHere true) (standings run)
+unfolding copies blocksSent standings
+copies-right no-more copy copied = refl
+copies-right (one-more {t} {step} {later} valid law tag further) copy copied =
+    copied-on copy t valid step law tag copied later (λ next is-copy. copies-right further next is-copy) (step .message) refl
 
 -- Right after the first full block, too, the copy is the full block of the page as it stands.
-pub copying-of : (m : Machine) → StepLaws m → Copying m
-copying-of m laws t valid first block sends =
-    let step = stepOf m first t in
-    let law = laws .every-step first t valid in
+pub copying-of : (rules : Rules) → StepLaws rules → CopyingSteps rules
+copying-of rules laws t valid asks block sends later nothing =
+    let step = stepOf rules asks t in
+    let law = laws .every-step asks t valid in
     let sent = law .full-block block sends in
-    let at-first = sent .of-page ∙ same-full-block t valid step law (sent .no-cell) in (
-      at-first,
-      λ inputs nothing. copy-holds (follow m laws (step .terminal) (law .valid) inputs nothing) block (own-copy (step .terminal) (law .valid) at-first),
-    )
+    let at-first = sent .of-page ∙ same-full-block t valid step law (sent .no-cell) in
+    let right = copies-right (follow rules laws (step .terminal) (law .valid) later nothing) block (own-copy (step .terminal) (law .valid) at-first) in
+    (λ i. at-first i ∷ right i)

@@ -1,34 +1,55 @@
--- Demand 3 carried to calls: what they sent is the messages of the steps that they did.
-use mathlib.Core.Path.{_≡_, ap, _∙_}
-use mathlib.Core.List.{List, _∷_, _++_}
+-- Demand 3 carried to calls: what they sent is the messages of the steps that they did, and the host finds their blocks in it.
+use mathlib.Core.Path.{_≡_, refl, sym, ap, _∙_}
+use mathlib.Core.List.{List, [], _∷_, _++_}
 use Prim.Native.Nat.{ℕ}
-use Rattle.steps.specs.Steps.{Terminal, fullBlock, bytesOf, Message}
+use Rattle.blocks.specs.Finding.{blocksIn}
+use Rattle.steps.specs.Steps.{Terminal, fullBlock, Message, Valid}
 use Rattle.terminal.specs.Runs.{after, sentBy}
-use Rattle.promises.specs.Streams.{Machine, Input, stepOf, steps, Total}
-use Rattle.promises.specs.Laws.{StepLaws, CallLaws}
-use Rattle.promises.specs.Promises.{CopyingCalls}
-use Rattle.promises.proofs.Calling.{sent-joined, steps-joined, steps-keep-valid, calls-are-steps-of}
+use Rattle.promises.specs.Rules.{Rules, Input, stepOf, steps, Total}
+use Rattle.promises.specs.Entries.{Entries, Call, inputsDone, callAll}
+use Rattle.promises.specs.Copying.{blockIn, blocksSent}
+use Rattle.promises.specs.Demands.{Demand3}
+use Rattle.promises.proofs.Laws.{StepLaws, Keeps}
+use Rattle.promises.proofs.Doing.{found-valid}
+use Rattle.promises.proofs.Calling.{steps-joined, steps-keep-valid, calls-are-steps-of}
+use Rattle.promises.proofs.Found.{blocks-joined, blocks-found}
 use Rattle.promises.proofs.Copied.{copying-of}
 use Rattle.promises.proofs.Omitted.{omission-of}
 
 -- The first of some steps sends a block.
-block-first : (m : Machine) (t : Terminal) (first : Input) (later : List Input) (block : List ℕ) → stepOf m first t .message ≡ fullBlock block → sentBy (steps m t (first ∷ later)) ≡ block ++ sentBy (steps m (stepOf m first t .terminal) later)
-unfolding steps sentBy bytesOf
-block-first m t first later block sends = ap (λ (message : Message). bytesOf message ++ sentBy (steps m (stepOf m first t .terminal) later)) sends
+block-first : (rules : Rules) (t : Terminal) (asks : Input) (later : List Input) (block : List ℕ) → stepOf rules asks t .message ≡ fullBlock block → blocksSent (steps rules t (asks ∷ later)) ≡ block ∷ blocksSent (steps rules (stepOf rules asks t .terminal) later)
+unfolding steps blocksSent blockIn
+block-first rules t asks later block sends = ap (λ (message : Message). blockIn message ++ blocksSent (steps rules (stepOf rules asks t .terminal) later)) sends
 
-pub copying-calls-of : (m : Machine) → StepLaws m → CallLaws m → CopyingCalls m
-copying-calls-of m step-laws call-laws t valid calls before first later block did sends nothing =
-    let here = after t (steps m t before) in
-    let here-valid = steps-keep-valid m step-laws call-laws t valid before in
-    let copied = copying-of m step-laws here here-valid first block sends in
-    record {
-      sent =
-          ap (λ (all : Total). all .sent) (calls-are-steps-of m step-laws call-laws t valid calls)
-          ∙ ap (λ (inputs : List Input). sentBy (steps m t inputs)) did
-          ∙ ap sentBy (steps-joined m t before (first ∷ later))
-          ∙ sent-joined (steps m t before) (steps m here (first ∷ later))
-          ∙ ap (λ (bytes : List ℕ). sentBy (steps m t before) ++ bytes) (block-first m here first later block sends);
-      at-first = copied .0;
-      copy = copied .1 later nothing;
-      omission = omission-of m step-laws here here-valid first block sends later nothing;
-    }
+-- Inputs that begin with some, and go on.
+first-input : (before : List Input) (asks : Input) (later : List Input) → (input : Input) × (rest : List Input) × (before ++ (asks ∷ later) ≡ input ∷ rest)
+first-input [] asks later = (asks, later, refl)
+first-input (input ∷ before) asks later = (input, before ++ (asks ∷ later), refl)
+
+module _ (rules : Rules) (laws : StepLaws rules) (entries : Entries) (kept : Keeps rules entries) where
+  -- In all that calls wrote, the host finds the blocks of the steps that they did.
+  found-in-calls : (t : Terminal) → Valid t → (calls : List Call) → blocksIn (callAll entries t calls .sent) ≡ blocksSent (steps rules t (inputsDone entries t calls))
+  found-in-calls t valid calls =
+      ap (λ (all : Total). blocksIn (all .sent)) (calls-are-steps-of rules entries kept t calls) ∙ blocks-found rules laws t valid (inputsDone entries t calls)
+
+  pub demand-3-of : Demand3 blocksIn rules entries
+  demand-3-of = record {
+    copying = λ t calls before asks later block did sends nothing.
+        let begun = first-input before asks later in
+        let valid = found-valid rules entries kept t calls (begun .0) (begun .1) (did ∙ begun .2) in
+        let here = after t (steps rules t before) in
+        let here-valid = steps-keep-valid rules laws t valid before in
+        let there = stepOf rules asks here .terminal in
+        record {
+          further = blocksSent (steps rules there later);
+          found =
+              found-in-calls t valid calls
+              ∙ ap (λ (inputs : List Input). blocksSent (steps rules t inputs)) did
+              ∙ ap blocksSent (steps-joined rules t before (asks ∷ later))
+              ∙ blocks-joined (steps rules t before) (steps rules here (asks ∷ later))
+              ∙ ap (λ (blocks : List (List ℕ)). blocksSent (steps rules t before) ++ blocks) (block-first rules here asks later block sends);
+          as-sent = refl;
+          copy = copying-of rules laws here here-valid asks block sends later nothing;
+          omission = omission-of rules laws here here-valid asks block sends later nothing;
+        };
+  }

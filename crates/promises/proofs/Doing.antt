@@ -62,10 +62,11 @@ module _ (rules : Rules) (entries : Entries) (kept : Keeps rules entries) where
         subst (λ (run : List Stepped). DidSteps t run outcome) (sym (ap (λ (k : ℕ). byteSteps rules t (take k bytes)) taken ∙ are)) did
 
     host-does : DidSteps t (byteSteps rules t (take (outcome .taken) bytes)) outcome
+    unfolding steps
     host-does =
         either-way (eqb (outcome .number) 0)
-        (λ zero.
-        let did = kept .follows .of-host t bytes lent (eqb-true _ _ zero) in
+        (λ done.
+        let did = kept .follows .of-host t bytes lent (eqb-true _ _ done) in
         does-taken (length bytes) (byteSteps rules t bytes) (did .bytes-taken) (ap (byteSteps rules t) (take-length bytes)) (in-steps did))
         (λ other.
         either-way (eqb (outcome .number) 3)
@@ -84,16 +85,16 @@ module _ (rules : Rules) (entries : Entries) (kept : Keeps rules entries) where
 
     -- A read given 0 took all its bytes.
     pub all-taken : outcome .number ≡ 0 → map byte (take (outcome .taken) bytes) ≡ map byte bytes
-    all-taken zero = rw (kept .follows .of-host t bytes lent zero .bytes-taken, take-length)
+    all-taken is-done = rw (kept .follows .of-host t bytes lent is-done .bytes-taken, take-length)
 
     -- The terminal is valid, or nothing was done.
     host-valid-or-not : Valid t ⊎ ((map byte (take (outcome .taken) bytes) ≡ []) × (outcome .terminal ≡ t))
     host-valid-or-not =
         either-way (eqb (outcome .number) 0)
-        (λ zero. let is = eqb-true _ _ zero in inl (host-valid (λ e. omega (arith, is, e)) (λ e. omega (arith, is, e))))
+        (λ done. let is = eqb-true (outcome .number) 0 done in inl (host-valid (λ e. omega (arith, is, e)) (λ e. omega (arith, is, e))))
         (λ other.
         either-way (eqb (outcome .number) 3)
-        (λ three. let is = eqb-true _ _ three in inl (host-valid (λ e. omega (arith, is, e)) (λ e. omega (arith, is, e))))
+        (λ three. let is = eqb-true (outcome .number) 3 three in inl (host-valid (λ e. omega (arith, is, e)) (λ e. omega (arith, is, e))))
         (λ further.
         let left = kept .refusals .of-host t bytes lent (eqb-false _ _ other) (eqb-false _ _ further) in
         inr (ap (λ (n : ℕ). map byte (take n bytes)) (left .taken), left .terminal)))
@@ -106,17 +107,17 @@ module _ (rules : Rules) (entries : Entries) (kept : Keeps rules entries) where
     unfolding inputsOf steps stepOf
     key-does =
         either-way (eqb (pressed .number) 0)
-        (λ zero. rw (then-case _ _ _ zero) (in-steps (kept .follows .of-key t key lent (eqb-true _ _ zero))))
+        (λ done. rw (then-case _ _ _ done) (in-steps (kept .follows .of-key t key lent (eqb-true _ _ done))))
         (λ other. rw (else-case _ _ _ other) (no-steps (kept .refusals .of-key t key lent (eqb-false _ _ other))))
 
     pub key-valid : pressed .number ≡ 0 → Valid t
-    key-valid zero = passes (kept .numbers .of-key t key lent _ .0 refl) (λ e. omega (arith, zero, e)) (λ e. omega (arith, zero, e))
+    key-valid is-done = passes (kept .numbers .of-key t key lent _ .0 refl) (λ e. omega (arith, is-done, e)) (λ e. omega (arith, is-done, e))
 
     key-valid-or-not : Valid t ⊎ ((inputsOf (keyPress key lent) pressed ≡ []) × (pressed .terminal ≡ t))
     unfolding inputsOf
     key-valid-or-not =
         either-way (eqb (pressed .number) 0)
-        (λ zero. inl (key-valid (eqb-true _ _ zero)))
+        (λ done. inl (key-valid (eqb-true _ _ done)))
         (λ other. inr (else-case _ _ _ other, kept .refusals .of-key t key lent (eqb-false _ _ other) .terminal))
 
   pub does-steps : (call : Call) (t : Terminal) → DidSteps t (steps rules t (inputsOf call (outcomeOf entries call t))) (outcomeOf entries call t)
@@ -132,7 +133,7 @@ module _ (rules : Rules) (entries : Entries) (kept : Keeps rules entries) where
   -- Calls that did something began with a valid terminal.
   pub found-valid : (t : Terminal) (calls : List Call) (input : Input) (later : List Input) → inputsDone entries t calls ≡ input ∷ later → Valid t
   unfolding inputsDone
-  found-valid t [] input later none = absurd (eqb-false 0 1 refl (ap length none))
+  found-valid t [] input later none = absurd (omega (arith, ap (length {A = Input}) none))
   found-valid t (call ∷ calls) input later are =
       ⊎-elim (λ valid. valid)
       (λ nothing.

@@ -1,7 +1,7 @@
 -- Demand 2, feeding back: a full block, read by a receiver of equal size, fills its fields with the sender's characters and changes no protected cell.
 use mathlib.Core.Path.{_≡_, sym, ap, _∙_, subst}
 use mathlib.Core.Bool.{true, false, not}
-use mathlib.Core.List.{List, map}
+use mathlib.Core.List.{List}
 use Prim.Native.Nat.{ℕ, _<_, _≤_}
 use native.Mathlib.Omega.{arith}
 use lib.ListN.{length, getD}
@@ -12,16 +12,15 @@ use Rattle.fields.proofs.Theorems.{all-fields-listed}
 use Rattle.blocks.specs.Blocks.{block, encode}
 use Rattle.blocks.proofs.Claims.{fieldsOn}
 use Rattle.blocks.proofs.Pages.{all-sent}
-use Rattle.blocks.proofs.Theorems.{longest-block}
-use Rattle.steps.specs.Steps.{Terminal, Valid}
+use Rattle.steps.specs.Steps.{Terminal, bytesOf, fullBlock, Message, Valid}
+use Rattle.steps.specs.Seen.{blockHere, free}
 use Rattle.steps.proofs.Measuring.{measured}
-use Rattle.promises.specs.Streams.{ours, byte, Read, joinedBytes, readAll}
-use Rattle.promises.specs.Promises.{WroteFullBlock, Receives, FedBack, FeedingBack}
-use Rattle.promises.proofs.OurLaws.{our-step-laws, our-call-laws}
-use Rattle.promises.proofs.Calling.{reads-done}
+use Rattle.promises.specs.Rules.{ourRules, Input, stepOf}
+use Rattle.promises.specs.Entries.{ourEntries, Read, joinedBytes, readAll}
+use Rattle.promises.specs.FeedingBack.{Receives, FedBack}
+use Rattle.promises.proofs.OurLaws.{our-step-laws}
 use Rattle.promises.proofs.FeedingRuns.{Leads, none-refused}
 use Rattle.promises.proofs.FeedingReads.{ReadThrough, read-through}
-use Rattle.promises.proofs.FeedingSender.{full-block-sent}
 use Rattle.promises.proofs.FeedingCells.{Filled, Kept}
 use Rattle.promises.proofs.FeedingFields.{fields-feed}
 
@@ -48,26 +47,21 @@ module _ (sender : Terminal) (valid : Valid sender) where
         kept = λ cell protected. feeds .1 .keeps cell (λ some. not-both (lists .only-fields (some .0) (some .1) .all-free cell (some .2)) protected);
       }
 
-  -- It is no longer than a read may be, whole or cut.
-  short : length (block true (sender .state .size .columns) (sender .page)) ≤ 65536
-  short =
-      let known = measured valid in
-      let most = longest-block true (sender .state .size .rows) (sender .state .size .columns) (sender .page) (known .on-page .rows-most) (known .on-page .columns-most) (known .all-cells) (sym (known .as-many)) in
-      omega arith
-
-module _ (sender receiver : Terminal) (bytes : List ℕ) (cut : List Read) (wrote : WroteFullBlock ours sender bytes) (receives : Receives sender receiver) (joined : joinedBytes cut ≡ bytes) where
+module _ (sender receiver : Terminal) (asks : Input) (bytes : List ℕ) (cut : List Read) (valid : Valid sender) (sends : stepOf ourRules asks sender .message ≡ fullBlock bytes) (receives : Receives sender receiver) (joined : joinedBytes cut ≡ bytes) where
   reached : Fed sender receiver bytes
-  reached = let sent = full-block-sent wrote in subst (Fed sender receiver) (sym (sent .is-block)) (fed sender (sent .valid) receiver receives)
+  reached = subst (Fed sender receiver) (sym (our-step-laws .every-step asks sender valid .full-block bytes sends .of-page)) (fed sender valid receiver receives)
 
+  -- It is no longer than a read may be, whole or cut.
   through : ReadThrough receiver cut (reached .end)
+  unfolding bytesOf
   through =
-      let sent = full-block-sent wrote in
-      let few : length (joinedBytes cut) ≤ 65536 = omega (arith, ap length (joined ∙ sent .is-block), short sender (sent .valid)) in
+      let short = our-step-laws .every-step asks sender valid .short in
+      let few : length (joinedBytes cut) ≤ 65536 = omega (arith, ap (length {A = ℕ}) joined, ap (λ (message : Message). length (bytesOf message)) sends, short) in
       read-through cut (subst (λ (b : List ℕ). Leads receiver b (reached .end)) (sym joined) (reached .leads)) (receives .valid) few
 
   -- What the reads leave of a cell.
   abbrev left : Page
-  left = readAll ours receiver cut .terminal .page
+  left = readAll ourEntries receiver cut .terminal .page
 
   left-character : (cell : ℕ) → getD (left .characters) cell 0 ≡ getD (reached .end .page .characters) cell 0
   left-character cell = ap (λ (t : Terminal). getD (t .page .characters) cell 0) (through .terminal)
@@ -84,17 +78,15 @@ module _ (sender receiver : Terminal) (bytes : List ℕ) (cut : List Read) (wrot
       (λ free. reached .filled cell here free .free ∙ sym free)
       (λ protected. ap (λ (mark : ℕ). not (isProtected mark)) (reached .kept cell protected .mark) ∙ receives .protection cell)
 
-  is-fed-back : FedBack ours sender receiver bytes cut
-  is-fed-back = record {
+  pub feeding-back : FedBack ourRules ourEntries sender receiver bytes cut
+  feeding-back = record {
     answered = through .answered;
-    taken-whole = reads-done ours our-step-laws our-call-laws receiver cut (through .answered) ∙ ap (map byte) joined;
     nothing-sent = through .nothing-sent;
     nothing-refused = none-refused (reached .leads);
     characters = λ cell here free. left-character cell ∙ reached .filled cell here free .character;
-    protected-character = λ cell protected. left-character cell ∙ reached .kept cell protected .character;
+    protected-cells = λ cell protected. record {
+      character = λ _. left-character cell ∙ reached .kept cell protected .character;
+      mark = left-mark cell ∙ reached .kept cell protected .mark;
+    };
     protection = feeding-keeps-protection;
-    protected-mark = λ cell protected. left-mark cell ∙ reached .kept cell protected .mark;
   }
-
-pub feeding-back : FeedingBack ours
-feeding-back = is-fed-back

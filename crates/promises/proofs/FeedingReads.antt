@@ -10,7 +10,7 @@ use Rattle.terminal.specs.Answers.{numberOf, Outcome, bytesSent}
 use Rattle.terminal.specs.Calls.{hostCall}
 use Rattle.terminal.proofs.Cases.{host-did}
 use Rattle.terminal.proofs.Theorems.{did-so, did-number, bytes-sent}
-use Rattle.promises.specs.Streams.{ours, outcomeOf, outcomes, total, AllDone, no-more, done, Read, reads, joinedBytes, readAll}
+use Rattle.promises.specs.Entries.{ourEntries, outcomeOf, outcomes, total, AllDone, no-more, done, Read, reads, joinedBytes, readAll}
 use Rattle.promises.proofs.FeedingRuns.{Quiet, Leads, arrived, onward, leads-cut, leads-validly}
 
 quiet-bytes : {step : Stepped} → Quiet step → bytesOf (step .message) ≡ []
@@ -43,9 +43,9 @@ read-answered {t} {bytes} way valid short output =
 
 -- All reads of a stream.
 pub record ReadThrough (t : Terminal) (cut : List Read) (end : Terminal) : Type 0 where
-  pub answered : AllDone (outcomes ours t (reads cut))
-  pub nothing-sent : readAll ours t cut .sent ≡ []
-  pub terminal : readAll ours t cut .terminal ≡ end
+  pub answered : AllDone (outcomes ourEntries t (reads cut))
+  pub nothing-sent : readAll ourEntries t cut .sent ≡ []
+  pub terminal : readAll ourEntries t cut .terminal ≡ end
 
 pub read-through : {t end : Terminal} (cut : List Read) → Leads t (joinedBytes cut) end → Valid t → length (joinedBytes cut) ≤ 65536 → ReadThrough t cut end
 unfolding outcomes total joinedBytes outcomeOf

@@ -1,7 +1,7 @@
 -- Host bytes whose steps are quiet: each sends nothing and refuses nothing.
 use mathlib.Core.Path.{_≡_, refl, sym, ap, _∙_, subst}
 use mathlib.Core.Bool.{false}
-use mathlib.Core.List.{List, [], _∷_, _++_, map, List·Memᴰ, List·Memᴰ·not-nil, List·Memᴰ·cases-cons}
+use mathlib.Core.List.{List, [], _∷_, _++_, List·Memᴰ, List·Memᴰ·not-nil, List·Memᴰ·cases-cons}
 use mathlib.Core.Logic.{⊎-elim}
 use Prim.Native.Nat.{ℕ}
 use Rattle.sequence.specs.declared.HalfRead.{HalfRead}
@@ -11,7 +11,7 @@ use Rattle.state.specs.State.{withHalf}
 use Rattle.steps.specs.Steps.{Terminal, silent, Stepped, withState, goesTo, Valid}
 use Rattle.steps.specs.Host.{eventStep, hostStep}
 use Rattle.commands.proofs.Theorems.{step-keeps-valid, step-keeps-size}
-use Rattle.promises.specs.Streams.{ours, byte, stepOf, steps}
+use Rattle.promises.specs.Rules.{ourRules, stepOf, steps, byteSteps}
 
 -- The terminal with another half-read record.
 abbrev pub reading : Terminal → HalfRead → Terminal
@@ -61,7 +61,7 @@ leads-sized (arrived here) valid = ap (λ (t : Terminal). t .state .size) (sym h
 leads-sized {t} (onward first _ way) valid = leads-sized way (step-keeps-valid first t valid) ∙ step-keeps-size first t valid
 
 -- None of the steps refuses.
-pub none-refused : {t end : Terminal} {bytes : List ℕ} → Leads t bytes end → (step : Stepped) → List·Memᴰ step (steps ours t (map byte bytes)) → step .wasRefused ≡ false
+pub none-refused : {t end : Terminal} {bytes : List ℕ} → Leads t bytes end → (step : Stepped) → List·Memᴰ step (byteSteps ourRules t bytes) → step .wasRefused ≡ false
 unfolding steps stepOf
 none-refused (arrived here) step among = absurd (List·Memᴰ·not-nil among)
 none-refused (onward first quiet way) step among =

@@ -1,13 +1,13 @@
 -- What follows from the laws for one step: what it keeps of the page's form, and what a block leaves.
-use mathlib.Core.Path.{_≡_, sym, ap, _∙_, subst}
-use mathlib.Core.Bool.{true, false}
+use mathlib.Core.Path.{_≡_, refl, sym, ap, _∙_, subst}
+use mathlib.Core.Bool.{true, false, not}
 use mathlib.Core.List.{List, [], map, List·Memᴰ, List·Memᴰ·not-nil}
 use Prim.Native.Nat.{ℕ, _*_, _/_, _%_, _+_, _<_, _≤_}
 use native.Mathlib.Nat.{mul-le-mul-right}
 use native.Mathlib.Omega.{arith}
-use borrow.Author.Tests.{ne-eqb, not-true}
-use lib.ListN.{length, getD}
-use Rattle.words.proofs.Choosing.{both, else-case}
+use borrow.Author.Tests.{ne-eqb, not-true, not-false}
+use lib.ListN.{length, getD, List·getD-eq-default}
+use Rattle.words.proofs.Choosing.{not-both, less-or-not, both, then-case, else-case}
 use Rattle.page.specs.Marks.{isProtected, isModified, unprotected}
 use Rattle.page.specs.Page.{Page, validPage, sentMark}
 use Rattle.page.proofs.Keeping.{SameSize}
@@ -16,12 +16,12 @@ use Rattle.blocks.proofs.Claims.{Sendable, SameForm, NothingModified}
 use Rattle.blocks.proofs.Pages.{all-sent}
 use Rattle.blocks.proofs.Laying.{same-fields}
 use Rattle.state.proofs.Keeping.{size-bounds}
-use Rattle.steps.specs.Steps.{Terminal, Message, Stepped, Valid}
-use Rattle.steps.specs.Claims.{markLeft, TouchesOnly, KeepsProtection}
+use Rattle.steps.specs.Steps.{Terminal, Message, silent, report, fullBlock, changedBlock, Stepped, Valid}
+use Rattle.steps.specs.Seen.{free, modifiedAt, blockHere}
+use Rattle.steps.specs.Claims.{markLeft, TouchesOnly, ProtectedKept, KeepsProtection}
 use Rattle.steps.proofs.Naming.{all-stay-protected, same-characters}
 use Rattle.steps.proofs.Soundness.{Sized, sized}
-use Rattle.promises.specs.Copying.{copyOf}
-use Rattle.promises.specs.Laws.{StepLaw, TagLaw}
+use Rattle.promises.proofs.Laws.{StepLaw, TagLaw}
 
 -- A valid terminal's page can be sent.
 pub sendable : {t : Terminal} → Valid t → Sendable (t .state .size .columns) (t .page)
@@ -52,18 +52,43 @@ sent-unmodified : (mark : ℕ) → isProtected mark ≡ false → isModified (se
 unfolding sentMark
 sent-unmodified mark free = ap isModified (else-case _ _ _ free) ∙ ne-eqb ((mark / 4 * 4 + mark % 2) / 2 % 2) 1 (λ bit. omega arith)
 
+-- A protected cell is on the page, past which nothing is; and no message changes its mark.
+pub past-free : (marks : List ℕ) (cell : ℕ) → length marks ≤ cell → unprotected marks cell ≡ true
+unfolding unprotected
+past-free marks cell past = ap (λ (mark : ℕ). not (isProtected mark)) (List·getD-eq-default marks 0 past)
+
+protected-on-page : (marks : List ℕ) (cell : ℕ) → unprotected marks cell ≡ false → cell < length marks
+protected-on-page marks cell protected = less-or-not cell (length marks) (λ here. here) (λ past. absurd (not-both (past-free marks cell past) protected))
+
+protected-stays : (marks : List ℕ) (cell : ℕ) → unprotected marks cell ≡ false → sentMark (getD marks cell 0) ≡ getD marks cell 0
+unfolding unprotected sentMark
+protected-stays marks cell protected = then-case _ _ _ (not-false _ protected)
+
+left-protected : (message : Message) (marks : List ℕ) (cell : ℕ) → unprotected marks cell ≡ false → markLeft message (getD marks cell 0) ≡ getD marks cell 0
+unfolding markLeft
+left-protected silent marks cell protected = refl
+left-protected (report bytes) marks cell protected = refl
+left-protected (fullBlock bytes) marks cell protected = protected-stays marks cell protected
+left-protected (changedBlock bytes) marks cell protected = protected-stays marks cell protected
+
 module _ (t : Terminal) (valid : Valid t) (step : Stepped) (law : StepLaw t step) where
   was : Sized (t .state .size) (t .page)
   was = sized (t .state .size) (t .page) (valid .size)
 
   -- No step takes a cell away or adds one.
-  same-size : SameSize (t .page) (step .terminal .page)
+  pub same-size : SameSize (t .page) (step .terminal .page)
   same-size =
       let is = sized (t .state .size) (step .terminal .page) (rw (law .size) at (law .valid .size)) in
       record { characters = is .characters ∙ sym (was .characters); marks = is .marks ∙ sym (was .marks) }
 
   pub was-on-page : (cell : ℕ) → cell < length (step .terminal .page .marks) → cell < length (t .page .marks)
   was-on-page cell here = omega (arith, same-size .marks)
+
+  -- A protected cell that isn't named is kept.
+  pub protected-kept : (cell : ℕ) → free t cell ≡ false → (List·Memᴰ cell (step .cells) → ⊥) → ProtectedKept (t .page) (step .terminal .page) cell
+  protected-kept cell protected unnamed =
+      let stays = law .touches cell (protected-on-page (t .page .marks) cell protected) unnamed in
+      record { character = λ _. stays .character; mark = stays .mark ∙ left-protected (step .message) (t .page .marks) cell protected }
 
   pub same-form : KeepsProtection (t .page) (step .terminal .page) → SameForm (t .page) (step .terminal .page)
   same-form protection = record { size = same-size; unprotected-cells = λ cell here. sym (protection cell (was-on-page cell here)) }
@@ -79,7 +104,7 @@ module _ (t : Terminal) (valid : Valid t) (step : Stepped) (law : StepLaw t step
       tags = λ cell named. absurd (List·Memᴰ·not-nil (subst (λ (cells : List ℕ). List·Memᴰ cell cells) no-cell named));
     }
 
-    pub same-full-block : block true (t .state .size .columns) (t .page) ≡ copyOf (step .terminal)
+    pub same-full-block : blockHere true t ≡ blockHere true (step .terminal)
     same-full-block =
         rw (law .size) (same-copy (t .state .size .columns) (t .page) (step .terminal .page) (same-form (names-none .protection))
         (same-characters (step .message) (t .page) (step .terminal .page) all-stay same-size (was .characters ∙ sym (was .marks))))

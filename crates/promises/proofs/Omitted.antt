@@ -14,10 +14,10 @@ use Rattle.blocks.proofs.Pages.{none-modified}
 use Rattle.blocks.proofs.Laying.{unmodified}
 use Rattle.steps.specs.Steps.{Terminal, Message, silent, report, fullBlock, changedBlock, Stepped, Valid}
 use Rattle.steps.specs.Claims.{markLeft}
-use Rattle.promises.specs.Streams.{Machine, stepOf}
+use Rattle.promises.specs.Rules.{Rules, stepOf}
 use Rattle.promises.specs.Copying.{OmitsExactly, storedSince, OmissionHolds}
-use Rattle.promises.specs.Laws.{StepLaw, TagLaw, StepLaws}
-use Rattle.promises.specs.Promises.{Omission}
+use Rattle.promises.proofs.Laws.{StepLaw, TagLaw, StepLaws}
+use Rattle.promises.specs.Further.{OmissionSteps}
 use Rattle.promises.proofs.Keeping.{sendable, leaves, was-on-page, nothing-modified}
 use Rattle.promises.proofs.Unsent.{is-field, omitted-unsent, unsent-omitted}
 use Rattle.promises.proofs.Following.{Follow, no-more, one-more, follow}
@@ -32,15 +32,15 @@ omits-exactly : (t : Terminal) → Valid t → (stored : List ℕ) → Tracks st
 unfolding OmitsExactly isSent
 omits-exactly t valid stored tracks field listed =
     let columns = t .state .size .columns in
-    let is = is-field columns (t .page) (sendable valid) field listed in (
+    let is = is-field t (sendable valid) field listed in (
       λ omitted. record {
         no-cell = λ cell low high was-stored.
-            let unsent = omitted-unsent columns (t .page) (sendable valid) false field listed omitted in
+            let unsent = omitted-unsent t (sendable valid) false field listed omitted in
             not-both (tracks .stored-are cell (omega (arith, is .on-page)) was-stored)
             (unmodified (t .page .marks) (field .length) (field .start) cell (neither unsent .1) low high);
       },
       λ unstored.
-          unsent-omitted columns (t .page) (sendable valid) false field listed
+          unsent-omitted t (sendable valid) false field listed
           (second-decides false _ refl
           ∙ none-modified columns (t .page) (field .length) (field .start)
           (λ cell low high. tracks .others-are-not cell (omega (arith, is .on-page)) (is .all-free cell (low, high)) (unstored .no-cell cell low high))),
@@ -92,10 +92,10 @@ omission-holds (one-more {t} {step} valid law tag further) stored tracks =
     let now = omitted-on t valid step law tag stored tracks (step .message) refl in
     (now .0, omission-holds further (storedSince (step .message) stored (step .cells)) (now .1))
 
-pub omission-of : (m : Machine) → StepLaws m → Omission m
+pub omission-of : (rules : Rules) → StepLaws rules → OmissionSteps rules
 unfolding markLeft
-omission-of m laws t valid first block sends inputs nothing =
-    let step = stepOf m first t in
+omission-of rules laws t valid first block sends inputs nothing =
+    let step = stepOf rules first t in
     let law = laws .every-step first t valid in
-    omission-holds (follow m laws (step .terminal) (law .valid) inputs nothing) []
+    omission-holds (follow rules laws (step .terminal) (law .valid) inputs nothing) []
     (tracks-anew t valid step law (law .full-block block sends .no-cell) (leaves step sends))

@@ -1,32 +1,20 @@
--- What every block leaves of protected cells, and how long it is, by the laws of a step.
+-- What every block leaves, how long it is, and that a call stopped for room has sent something: by the laws alone.
 use mathlib.Core.Path.{_≡_, refl, sym, ap, _∙_}
-use mathlib.Core.Bool.{Bool, true, false, not}
-use mathlib.Core.List.{List, List·Memᴰ·not-nil}
-use Prim.Native.Nat.{ℕ, _<_}
+use mathlib.Core.Bool.{Bool, true, false}
+use mathlib.Core.List.{List, [], _∷_, _++_, List·Memᴰ·not-nil}
+use Prim.Native.Nat.{ℕ, _<_, _≤_}
 use native.Mathlib.Omega.{arith}
-use borrow.Author.Tests.{not-false}
-use lib.ListN.{length, getD, List·getD-eq-default}
-use Rattle.words.proofs.Choosing.{true-is-not-false, less-or-not, then-case}
-use Rattle.page.specs.Marks.{isProtected, unprotected}
+use lib.ListN.{length}
 use Rattle.page.specs.Page.{sentMark}
-use Rattle.blocks.proofs.Theorems.{longest-block}
-use Rattle.steps.specs.Steps.{Terminal, Message, blockMessage, Stepped}
+use Rattle.steps.specs.Steps.{Terminal, Message, bytesOf, blockMessage, Stepped, Valid}
 use Rattle.steps.specs.Claims.{markLeft}
-use Rattle.steps.proofs.Measuring.{measured}
-use Rattle.promises.specs.Streams.{Machine, stepOf}
-use Rattle.promises.specs.Laws.{BlockOfPage, StepLaw, StepLaws}
-use Rattle.promises.specs.Promises.{BlocksKeep, Bounded}
-
--- A protected cell is on the page, and sending leaves its mark.
-protected-on-page : (marks : List ℕ) (cell : ℕ) → unprotected marks cell ≡ false → cell < length marks
-unfolding unprotected
-protected-on-page marks cell protected =
-    less-or-not cell (length marks) (λ here. here)
-    (λ past. absurd (true-is-not-false (sym (ap (λ (mark : ℕ). not (isProtected mark)) (List·getD-eq-default marks 0 past)) ∙ protected)))
-
-protected-stays : (marks : List ℕ) (cell : ℕ) → unprotected marks cell ≡ false → sentMark (getD marks cell 0) ≡ getD marks cell 0
-unfolding unprotected sentMark
-protected-stays marks cell protected = then-case _ _ _ (not-false _ protected)
+use Rattle.terminal.specs.Runs.{sentBy}
+use Rattle.promises.specs.Rules.{Rules, Input, byte, stepOf, steps}
+use Rattle.promises.specs.Entries.{Entries}
+use Rattle.promises.specs.Further.{BlocksKeep, Bounded, Progress}
+use Rattle.promises.proofs.Laws.{BlockOfPage, StepLaw, StepLaws, Keeps}
+use Rattle.promises.proofs.Keeping.{leaves, protected-kept, nothing-modified}
+use Rattle.promises.proofs.Doing.{host-valid}
 
 -- A block of either kind.
 is-block : (t : Terminal) (step : Stepped) → StepLaw t step → (full : Bool) (bytes : List ℕ) → step .message ≡ blockMessage full bytes → BlockOfPage full t step bytes
@@ -39,16 +27,51 @@ unfolding blockMessage markLeft
 block-clears true bytes mark = refl
 block-clears false bytes mark = refl
 
-pub blocks-keep-of : (m : Machine) → StepLaws m → BlocksKeep m
-blocks-keep-of m laws t valid input full bytes sends cell protected =
-    let law = laws .every-step input t valid in
-    let sent = is-block t (stepOf m input t) law full bytes sends in
-    let stays = (rw (sent .no-cell) at (law .touches)) cell (protected-on-page (t .page .marks) cell protected) List·Memᴰ·not-nil in
-    stays .mark ∙ ap (λ (message : Message). markLeft message (getD (t .page .marks) cell 0)) sends ∙ block-clears full bytes (getD (t .page .marks) cell 0) ∙ protected-stays (t .page .marks) cell protected
+block-bytes : (full : Bool) (bytes : List ℕ) → bytesOf (blockMessage full bytes) ≡ bytes
+unfolding blockMessage bytesOf
+block-bytes true bytes = refl
+block-bytes false bytes = refl
 
-pub bounded-of : (m : Machine) → StepLaws m → Bounded m
-bounded-of m laws t valid input full bytes sends =
-    let sent = is-block t (stepOf m input t) (laws .every-step input t valid) full bytes sends in
-    let known = measured valid in
-    let most = longest-block full (t .state .size .rows) (t .state .size .columns) (t .page) (known .on-page .rows-most) (known .on-page .columns-most) (known .all-cells) (sym (known .as-many)) in
-    omega (arith, ap (length {A = ℕ}) (sent .of-page), most)
+-- Of a run: how many bytes the first step sends (0 where there is none), and the other steps.
+unfoldable firstSent : List Stepped → ℕ
+firstSent [] = 0
+firstSent (step ∷ later) = length (bytesOf (step .message))
+
+unfoldable others : List Stepped → List Stepped
+others [] = []
+others (step ∷ later) = later
+
+module _ (rules : Rules) (laws : StepLaws rules) where
+  pub blocks-keep-of : BlocksKeep rules
+  blocks-keep-of t valid asks full bytes sends =
+      let step = stepOf rules asks t in
+      let law = laws .every-step asks t valid in
+      let sent = is-block t step law full bytes sends in
+      record {
+        characters = λ cell here. (rw (sent .no-cell) at (law .touches)) cell here List·Memᴰ·not-nil .character;
+        protected-cells = λ cell protected. protected-kept t valid step law cell protected (rw (sent .no-cell) List·Memᴰ·not-nil);
+        none-modified = nothing-modified t valid step law (sent .no-cell) (λ mark. leaves step sends mark ∙ block-clears full bytes mark);
+      }
+
+  pub bounded-of : Bounded rules
+  bounded-of t valid input full bytes sends =
+      let short = laws .every-step input t valid .short in
+      omega (arith, short, ap (λ (message : Message). length (bytesOf message)) sends, ap (length {A = ℕ}) (block-bytes full bytes))
+
+  -- Every step of a run is short.
+  all-short : (t : Terminal) → Valid t → (inputs : List Input) (before : List Stepped) (next : Stepped) (later : List Stepped) → steps rules t inputs ≡ before ++ (next ∷ later) → length (bytesOf (next .message)) ≤ 35185
+  unfolding steps firstSent others
+  all-short t valid [] [] next later are = omega (arith, ap firstSent are)
+  all-short t valid [] (first ∷ before) next later are = absurd (omega (arith, ap (length {A = Stepped}) are))
+  all-short t valid (input ∷ inputs) [] next later are =
+      omega (arith, laws .every-step input t valid .short, ap firstSent are)
+  all-short t valid (input ∷ inputs) (first ∷ before) next later are =
+      all-short (stepOf rules input t .terminal) (laws .every-step input t valid .valid) inputs before next later (ap others are)
+
+  pub progress-of : (entries : Entries) → Keeps rules entries → Progress entries
+  progress-of entries kept t bytes lent room three =
+      let stopped = kept .refusals .of-host-3 t bytes lent three in
+      let line = stopped .0 in
+      let valid = host-valid rules entries kept t bytes lent (λ e. omega (arith, three, e)) (λ e. omega (arith, three, e)) in
+      let short = all-short t valid _ (line .before) (line .next) (line .later) (line .are) in
+      omega (arith, room, short, line .exceeds, stopped .1 .sent)

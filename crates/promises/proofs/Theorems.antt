@@ -1,27 +1,43 @@
--- What the terminal of document 01 promises: each claim of specs/Promises.antt.
+-- What is promised and kept: the three demands (specs/Demands.antt), and what else is promised (specs/Further.antt).
 use mathlib.Core.Path.{_≡_}
+use Rattle.blocks.specs.Finding.{blocksIn}
 use Rattle.terminal.specs.Answers.{Outcome, given}
 use Rattle.terminal.specs.Calls.{startCall, hostCall, keyCall}
 use Rattle.terminal.proofs.Theorems as Terminals
-use Rattle.promises.specs.Streams.{ours}
+use Rattle.promises.specs.Rules.{Rules, ourRules}
+use Rattle.promises.specs.Entries.{Entries, ourEntries}
 use Rattle.promises.specs.Contracts.{ourContracts}
-use Rattle.promises.specs.Promises.{Numbers, Refusals, AllSame, OneResult, StaysValid, Cutting, Continuing, FeedingBack, KeysKeep, BlocksKeep, SendsBlocks, Copying, Omission, CallsAreSteps, CopyingCalls, Bounded}
-use Rattle.promises.proofs.OurLaws.{our-step-laws, our-call-laws}
-use Rattle.promises.proofs.Refusing.{our-numbers, our-refusals, our-stays-valid, our-keys-keep}
-use Rattle.promises.proofs.Calling.{calls-are-steps-of, cutting-of, continuing-of}
-use Rattle.promises.proofs.Feeding as Feeding
-use Rattle.promises.proofs.Sending.{blocks-keep-of, bounded-of}
+use Rattle.promises.specs.Demands.{Demand1, Follows, Demand2, Demand3, Demands}
+use Rattle.promises.specs.Further.{AllSame, OneResult, SameEntries, OneTerminal, StaysValid, SameHoweverCut, Continuing, Progress, CallsAreSteps, BlocksKeep, SendsBlocks, Bounded, CopyingSteps, OmissionSteps}
+use Rattle.promises.proofs.OurLaws.{our-step-laws, our-keeps}
+use Rattle.promises.proofs.OnlyOne.{same-entries}
+use Rattle.promises.proofs.Staying.{stays-valid-of, keys-keep-of, keys-protect-of}
+use Rattle.promises.proofs.Calling.{calls-are-steps-of, continuing-of, cutting-of, same-however-cut-of}
+use Rattle.promises.proofs.Feeding.{feeding-back}
+use Rattle.promises.proofs.Sending.{blocks-keep-of, bounded-of, progress-of}
 use Rattle.promises.proofs.Asking.{our-sends-blocks}
 use Rattle.promises.proofs.Copied.{copying-of}
 use Rattle.promises.proofs.Omitted.{omission-of}
-use Rattle.promises.proofs.CopiedCalls.{copying-calls-of}
+use Rattle.promises.proofs.CopiedCalls.{demand-3-of}
 
--- Demand 1.
-pub numbers : Numbers ours
-numbers = our-numbers
+-- The three demands.
+demand-1 : Demand1 ourRules ourEntries
+demand-1 = record { numbers = our-keeps .numbers; refusals = our-keeps .refusals }
 
-pub refusals : Refusals ours
-refusals = our-refusals
+demand-2 : Demand2 ourRules ourEntries
+demand-2 = record {
+  follows = our-keeps .follows;
+  cutting = cutting-of ourRules ourEntries our-keeps;
+  feeding-back = feeding-back;
+  keys-keep = keys-keep-of ourRules our-step-laws ourEntries our-keeps;
+  keys-protect = keys-protect-of ourRules our-step-laws ourEntries our-keeps;
+}
+
+demand-3 : Demand3 blocksIn ourRules ourEntries
+demand-3 = demand-3-of ourRules our-step-laws ourEntries our-keeps
+
+pub demands : Demands ourRules ourEntries
+demands = record { first = demand-1; second = demand-2; third = demand-3 }
 
 -- A contract that names one outcome allows one result.
 only-outcome : (outcome : Outcome) → AllSame (λ reply page output. given reply page output ≡ outcome)
@@ -30,44 +46,48 @@ only-outcome outcome one other page there output lent a b = Terminals.one-result
 pub one-result : OneResult ourContracts
 one-result = record {
   of-start = λ size page. only-outcome (startCall size page);
-  of-host = λ t bytes output. only-outcome (hostCall t bytes output);
-  of-key = λ t key output. only-outcome (keyCall t key output);
+  of-host = λ t bytes lent. only-outcome (hostCall t bytes lent);
+  of-key = λ t key lent. only-outcome (keyCall t key lent);
 }
 
-pub stays-valid : StaysValid ours
-stays-valid = our-stays-valid
+-- Demand 1 and Follows leave one terminal, whatever the rules; with document 01's it is ours.
+pub one-terminal : (rules : Rules) → OneTerminal rules
+one-terminal rules one other first follows first-too follows-too =
+    same-entries rules one other
+    (record { numbers = first .numbers; refusals = first .refusals; follows = follows })
+    (record { numbers = first-too .numbers; refusals = first-too .refusals; follows = follows-too })
 
--- Demand 2.
-pub cutting : Cutting ours
-cutting = cutting-of ours our-step-laws our-call-laws
+pub only-ours : (entries : Entries) → Demand1 ourRules entries → Follows ourRules entries → SameEntries entries ourEntries
+only-ours entries first follows = one-terminal ourRules entries ourEntries first follows demand-1 (our-keeps .follows)
 
-pub continuing : Continuing ours
-continuing = continuing-of ours our-step-laws our-call-laws
+-- Of entries with rules.
+pub stays-valid : StaysValid ourEntries
+stays-valid = stays-valid-of ourRules our-step-laws ourEntries our-keeps
 
-pub feeding-back : FeedingBack ours
-feeding-back = Feeding.feeding-back
+pub same-however-cut : SameHoweverCut ourEntries
+same-however-cut = same-however-cut-of ourRules ourEntries our-keeps
 
-pub keys-keep : KeysKeep ours
-keys-keep = our-keys-keep
+pub continuing : Continuing ourRules ourEntries
+continuing = continuing-of ourRules ourEntries our-keeps
 
-pub blocks-keep : BlocksKeep ours
-blocks-keep = blocks-keep-of ours our-step-laws
+pub progress : Progress ourEntries
+progress = progress-of ourRules our-step-laws ourEntries our-keeps
 
--- Demand 3: over steps, and then over calls, which are steps.
-pub sends-blocks : SendsBlocks ours
+pub calls-are-steps : CallsAreSteps ourRules ourEntries
+calls-are-steps = calls-are-steps-of ourRules ourEntries our-keeps
+
+-- Of rules.
+pub blocks-keep : BlocksKeep ourRules
+blocks-keep = blocks-keep-of ourRules our-step-laws
+
+pub sends-blocks : SendsBlocks ourRules
 sends-blocks = our-sends-blocks
 
-pub copying : Copying ours
-copying = copying-of ours our-step-laws
+pub bounded : Bounded ourRules
+bounded = bounded-of ourRules our-step-laws
 
-pub omission : Omission ours
-omission = omission-of ours our-step-laws
+pub copying-steps : CopyingSteps ourRules
+copying-steps = copying-of ourRules our-step-laws
 
-pub calls-are-steps : CallsAreSteps ours
-calls-are-steps = calls-are-steps-of ours our-step-laws our-call-laws
-
-pub copying-calls : CopyingCalls ours
-copying-calls = copying-calls-of ours our-step-laws our-call-laws
-
-pub bounded : Bounded ours
-bounded = bounded-of ours our-step-laws
+pub omission-steps : OmissionSteps ourRules
+omission-steps = omission-of ourRules our-step-laws

@@ -18,9 +18,16 @@ use Rattle.blocks.specs.Blocks.{Entry, entryOf, isSent, entriesSent, block}
 use Rattle.blocks.proofs.Claims.{Sendable, fieldsOn}
 use Rattle.blocks.proofs.Theorems.{block-read-back}
 use Rattle.blocks.proofs.Laying.{cell-told}
+use Rattle.steps.specs.Steps.{Terminal}
 use Rattle.promises.specs.Copying.{Omitted}
 
-module _ (columns : ℕ) (page : Page) (can-be-sent : Sendable columns page) where
+module _ (t : Terminal) (can-be-sent : Sendable (t .state .size .columns) (t .page)) where
+  abbrev columns : ℕ
+  columns = t .state .size .columns
+
+  abbrev page : Page
+  page = t .page
+
   pub is-field : (field : Field) → List·Memᴰ field (fieldsOn columns page) → IsField (unprotected (page .marks)) columns (length (page .marks)) field
   is-field = all-fields-listed (unprotected (page .marks)) columns (length (page .marks)) (can-be-sent .some-columns) .only-fields
 
@@ -35,7 +42,7 @@ module _ (columns : ℕ) (page : Page) (can-be-sent : Sendable columns page) whe
       one-field (unprotected (page .marks)) columns (length (page .marks)) (can-be-sent .some-columns) one-is other-is (one .start) (omega arith) (omega arith)
 
   module _ (full : Bool) (field : Field) (listed : List·Memᴰ field (fieldsOn columns page)) where
-    pub omitted-unsent : Omitted columns (block full columns page) field → isSent full (page .marks) field ≡ false
+    pub omitted-unsent : Omitted t (block full columns page) field → isSent full (page .marks) field ≡ false
     unfolding entriesSent entryOf
     omitted-unsent omitted =
         let entry = entryOf columns (page .characters) field in
@@ -48,7 +55,7 @@ module _ (columns : ℕ) (page : Page) (can-be-sent : Sendable columns page) whe
         (λ unsent. unsent)
 
     -- An entry at the field's place is that of a field that is sent, and this is the same field.
-    pub unsent-omitted : isSent full (page .marks) field ≡ false → Omitted columns (block full columns page) field
+    pub unsent-omitted : isSent full (page .marks) field ≡ false → Omitted t (block full columns page) field
     unfolding entriesSent entryOf
     unsent-omitted unsent = record {
       no-entry = λ entry found row column.

@@ -7,6 +7,7 @@ use Prim.Native.Nat.{ℕ}
 use lib.ListN.{length}
 use Rattle.page.specs.Page.{Page}
 use Rattle.state.specs.declared.Size.{Size}
+use Rattle.blocks.specs.Finding.{blocksIn}
 use Rattle.steps.specs.Steps.{Terminal, fullBlock, Valid}
 use Rattle.steps.specs.Seen.{free, blockHere}
 use Rattle.steps.specs.Claims.{ProtectedKept}
@@ -85,3 +86,8 @@ pub record Demand3 (finds : List ℕ → List (List ℕ)) (rules : Rules) (entri
       let step = stepOf rules asks (after t (steps rules t before)) in
       step .message ≡ fullBlock block → HostStoresNothing rules (step .terminal) later →
       CopyHolds finds rules entries t calls before block (step .terminal) later
+
+pub record Demands (rules : Rules) (entries : Entries) : Type 1 where
+  pub first : Demand1 rules entries
+  pub second : Demand2 rules entries
+  pub third : Demand3 blocksIn rules entries

@@ -1,0 +1,95 @@
+-- Validity through calls, and that no key changes a protected cell: by the laws alone.
+use mathlib.Core.Path.{_≡_, refl, sym, ap, _∙_, subst}
+use mathlib.Core.Bool.{true, false}
+use mathlib.Core.List.{List, [], _∷_, List·Memᴰ}
+use Prim.Native.Nat.{ℕ, _≤_}
+use native.Mathlib.Omega.{arith}
+use borrow.Author.Tests.{eqb-true, eqb-false}
+use lib.Dec.{eqb}
+use lib.ListN.{length, replicate, length-replicate}
+use Rattle.words.proofs.Choosing.{not-both, either-way, less-or-not}
+use Rattle.page.specs.Marks.{unprotected}
+use Rattle.page.specs.Page.{Page, pageOf}
+use Rattle.state.specs.declared.Size.{Size}
+use Rattle.state.specs.State.{freshState}
+use Rattle.state.specs.Validity.{sizeFits}
+use Rattle.state.proofs.Lines.{line-1}
+use Rattle.state.proofs.Keeping.{fresh-valid}
+use Rattle.steps.specs.Steps.{Terminal, Valid}
+use Rattle.steps.specs.Seen.{free}
+use Rattle.steps.specs.Claims.{ProtectedKept}
+use Rattle.steps.proofs.Soundness.{sized, still-fits}
+use Rattle.steps.proofs.Storing.{blank-page-valid}
+use Rattle.terminal.specs.Runs.{after}
+use Rattle.terminal.specs.Answers.{Outcome}
+use Rattle.terminal.specs.Table.{TableLine, startTable, Decides, this-holds, not-this}
+use Rattle.promises.specs.Rules.{Rules, press, stepOf, steps, Total}
+use Rattle.promises.specs.Entries.{Entries, Call, inputsDone, callAll}
+use Rattle.promises.specs.Further.{StaysValid}
+use Rattle.promises.proofs.Laws.{StepLaw, KeyLaw, StepLaws, Keeps}
+use Rattle.promises.proofs.Keeping.{same-size, protected-kept, past-free}
+use Rattle.promises.proofs.Doing.{key-valid}
+use Rattle.promises.proofs.Calling.{steps-keep-valid, calls-are-steps-of}
+
+-- Where line 1 doesn't decide a start, the page has the size asked for.
+start-fits : {size : Size} {page : Page} {n : ℕ} → Decides (startTable size page) n → n ≡ 0 → sizeFits size page ≡ true
+start-fits (this-holds _ _ holds) zero = absurd (omega (arith, zero))
+start-fits {size} {page} (not-this _ _ _ no-1 rest) zero =
+    either-way (sizeFits size page) (λ fits. fits) (λ wrong. absurd (no-1 (line-1 size page .0 wrong)))
+
+-- A fresh page of a listed size is valid.
+fresh-page-valid : (size : Size) (page blank : Page) → sizeFits size page ≡ true → blank ≡ pageOf (replicate (length (page .characters)) 0x20) (replicate (length (page .marks)) 0) → Valid (record { state = freshState size; page = blank })
+fresh-page-valid size page blank fits is = subst (λ (blank : Page). Valid (record { state = freshState size; page = blank })) (sym is) (record {
+  size = still-fits size size page (pageOf (replicate (length (page .characters)) 0x20) (replicate (length (page .marks)) 0)) fits refl (record { characters = length-replicate (length (page .characters)) 0x20; marks = length-replicate (length (page .marks)) 0 });
+  state = fresh-valid size (sized size page fits .listed);
+  page = blank-page-valid (length (page .characters)) (length (page .marks));
+})
+
+module _ (rules : Rules) (laws : StepLaws rules) (entries : Entries) (kept : Keeps rules entries) where
+  started-valid : (size : Size) (page : Page) → entries .start size page .number ≡ 0 → Valid (entries .start size page .terminal)
+  started-valid size page zero =
+      let fits = start-fits (kept .numbers .of-start size page _ .0 refl) zero in
+      let lengths = sized size page fits in
+      let started = kept .follows .of-start size page zero in
+      let blank : entries .start size page .terminal .page ≡ pageOf (replicate (length (page .characters)) 0x20) (replicate (length (page .marks)) 0)
+      = (λ i. pageOf ((started .characters ∙ ap (λ (n : ℕ). replicate n 0x20) (sym (lengths .characters))) i) ((started .marks ∙ ap (λ (n : ℕ). replicate n 0) (sym (lengths .marks))) i)) in
+      subst Valid (λ i. record { state = sym (started .state) i; page = entries .start size page .terminal .page })
+      (fresh-page-valid size page (entries .start size page .terminal .page) fits blank)
+
+  pub stays-valid-of : StaysValid entries
+  stays-valid-of = record {
+    from-start = started-valid;
+    through-calls = λ t valid calls.
+        subst Valid (sym (ap (λ (all : Total). all .terminal) (calls-are-steps-of rules entries kept t calls)))
+        (steps-keep-valid rules laws t valid (inputsDone entries t calls));
+  }
+
+  -- A key call leaves the terminal as it was, or as its step leaves it.
+  module _ (t : Terminal) (key : ℕ) (lent : List ℕ) where
+    key-left : (P : Terminal → Type 0) → P t → (Valid t → P (rules .onKey key t .terminal)) → P (entries .key t key lent .terminal)
+    unfolding after
+    key-left P as-it-was as-stepped =
+        either-way (eqb (entries .key t key lent .number) 0)
+        (λ done.
+        let is = eqb-true _ _ done in
+        subst P (sym (kept .follows .of-key t key lent is .terminal)) (as-stepped (key-valid rules entries kept t key lent is)))
+        (λ other. subst P (sym (kept .refusals .of-key t key lent (eqb-false _ _ other) .terminal)) as-it-was)
+
+    pub keys-keep-of : (cell : ℕ) → free t cell ≡ false → ProtectedKept (t .page) (entries .key t key lent .terminal .page) cell
+    unfolding stepOf
+    keys-keep-of cell protected =
+        key-left (λ (left : Terminal). ProtectedKept (t .page) (left .page) cell) (record { character = λ _. refl; mark = refl })
+        (λ valid.
+        protected-kept t valid (rules .onKey key t) (laws .every-step (press key) t valid) cell protected
+        (λ named. not-both (laws .every-key key t valid .names-free cell named) protected))
+
+    pub keys-protect-of : (cell : ℕ) → free (entries .key t key lent .terminal) cell ≡ free t cell
+    unfolding stepOf
+    keys-protect-of cell =
+        key-left (λ (left : Terminal). free left cell ≡ free t cell) refl
+        (λ valid.
+        let step = rules .onKey key t in
+        let same = same-size t valid step (laws .every-step (press key) t valid) .marks in
+        less-or-not cell (length (t .page .marks))
+        (λ here. laws .every-key key t valid .tag-law .protection cell here)
+        (λ past. past-free (step .terminal .page .marks) cell (omega (arith, same)) ∙ sym (past-free (t .page .marks) cell past)))
