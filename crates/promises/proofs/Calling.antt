@@ -7,7 +7,8 @@ use Rattle.steps.specs.Steps.{Terminal, Stepped, Valid}
 use Rattle.terminal.specs.Answers.{Outcome, bytesSent}
 use Rattle.terminal.specs.Runs.{after, sentBy, storedBy}
 use Rattle.promises.specs.Rules.{Rules, Input, byte, stepOf, steps, byteSteps, Total, totalOf}
-use Rattle.promises.specs.Entries.{Entries, Call, outcomeOf, outcomes, total, inputsOf, inputsDone, AllDone, done, Read, reads, joinedBytes, readAll, readOne, Carries, ended, taken, stopped}
+use Rattle.promises.specs.Entries.{Entries, Call, outcomeOf, outcomes, total, inputsOf, inputsDone, AllDone, done, Read, reads, joinedBytes, readOne, Carries, ended, taken, stopped}
+use Rattle.promises.specs.Demands.{Cutting}
 use Rattle.promises.specs.Further.{SameHoweverCut, Continuing, CallsAreSteps}
 use Rattle.promises.proofs.Laws.{StepLaws, Keeps, DidSteps}
 use Rattle.promises.proofs.Doing.{does-steps, all-taken}
@@ -93,7 +94,7 @@ module _ (rules : Rules) (entries : Entries) (kept : Keeps rules entries) where
   all-done-carry t [] all-done = ended
   all-done-carry t (r ∷ later) all-done = taken r (first-done all-done) (all-done-carry _ later (later-done all-done))
 
-  pub cutting-of : (t : Terminal) (cut : List Read) → AllDone (outcomes entries t (reads cut)) → readAll entries t cut ≡ totalOf t (byteSteps rules t (joinedBytes cut))
+  pub cutting-of : Cutting rules entries
   cutting-of t cut all-done = continuing-of t (joinedBytes cut) cut (all-done-carry t cut all-done)
 
   pub same-however-cut-of : SameHoweverCut entries

@@ -32,24 +32,22 @@ module _ (rules : Rules) (laws : StepLaws rules) (entries : Entries) (kept : Kee
   found-in-calls t valid calls =
       ap (λ (all : Total). blocksIn (all .sent)) (calls-are-steps-of rules entries kept t calls) ∙ blocks-found rules laws t valid (inputsDone entries t calls)
 
-  pub demand-3-of : Demand3 blocksIn rules entries
-  demand-3-of = record {
-    copying = λ t calls before asks later block did sends nothing.
-        let begun = first-input before asks later in
-        let valid = found-valid rules entries kept t calls (begun .0) (begun .1) (did ∙ begun .2) in
-        let here = after t (steps rules t before) in
-        let here-valid = steps-keep-valid rules laws t valid before in
-        let there = stepOf rules asks here .terminal in
-        record {
-          further = blocksSent (steps rules there later);
-          found =
-              found-in-calls t valid calls
-              ∙ ap (λ (inputs : List Input). blocksSent (steps rules t inputs)) did
-              ∙ ap blocksSent (steps-joined rules t before (asks ∷ later))
-              ∙ blocks-joined (steps rules t before) (steps rules here (asks ∷ later))
-              ∙ ap (λ (blocks : List (List ℕ)). blocksSent (steps rules t before) ++ blocks) (block-first rules here asks later block sends);
-          as-sent = refl;
-          copy = copying-of rules laws here here-valid asks block sends later nothing;
-          omission = omission-of rules laws here here-valid asks block sends later nothing;
-        };
-  }
+  pub copying-calls-of : Demand3 rules entries
+  copying-calls-of t calls before asks later block did sends nothing =
+      let begun = first-input before asks later in
+      let valid = found-valid rules entries kept t calls (begun .0) (begun .1) (did ∙ begun .2) in
+      let here = after t (steps rules t before) in
+      let here-valid = steps-keep-valid rules laws t valid before in
+      let there = stepOf rules asks here .terminal in
+      record {
+        found-later = blocksSent (steps rules there later);
+        found =
+            found-in-calls t valid calls
+            ∙ ap (λ (inputs : List Input). blocksSent (steps rules t inputs)) did
+            ∙ ap blocksSent (steps-joined rules t before (asks ∷ later))
+            ∙ blocks-joined (steps rules t before) (steps rules here (asks ∷ later))
+            ∙ ap (λ (blocks : List (List ℕ)). blocksSent (steps rules t before) ++ blocks) (block-first rules here asks later block sends);
+        as-sent = refl;
+        copy = copying-of rules laws here here-valid asks block sends later nothing;
+        omission = omission-of rules laws here here-valid asks block sends later nothing;
+      }

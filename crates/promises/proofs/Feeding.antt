@@ -18,6 +18,7 @@ use Rattle.steps.proofs.Measuring.{measured}
 use Rattle.promises.specs.Rules.{ourRules, Input, stepOf}
 use Rattle.promises.specs.Entries.{ourEntries, Read, joinedBytes, readAll}
 use Rattle.promises.specs.FeedingBack.{Receives, FedBack}
+use Rattle.promises.specs.Demands.{FeedingBack}
 use Rattle.promises.proofs.OurLaws.{our-step-laws}
 use Rattle.promises.proofs.FeedingRuns.{Leads, none-refused}
 use Rattle.promises.proofs.FeedingReads.{ReadThrough, read-through}
@@ -78,8 +79,8 @@ module _ (sender receiver : Terminal) (asks : Input) (bytes : List ℕ) (cut : L
       (λ free. reached .filled cell here free .free ∙ sym free)
       (λ protected. ap (λ (mark : ℕ). not (isProtected mark)) (reached .kept cell protected .mark) ∙ receives .protection cell)
 
-  pub feeding-back : FedBack ourRules ourEntries sender receiver bytes cut
-  feeding-back = record {
+  is-fed-back : FedBack ourRules ourEntries sender receiver bytes cut
+  is-fed-back = record {
     answered = through .answered;
     nothing-sent = through .nothing-sent;
     nothing-refused = none-refused (reached .leads);
@@ -90,3 +91,6 @@ module _ (sender receiver : Terminal) (asks : Input) (bytes : List ℕ) (cut : L
     };
     protection = feeding-keeps-protection;
   }
+
+pub our-feeding-back : FeedingBack ourRules ourEntries
+our-feeding-back = is-fed-back

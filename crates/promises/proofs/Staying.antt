@@ -25,6 +25,7 @@ use Rattle.terminal.specs.Answers.{Outcome}
 use Rattle.terminal.specs.Table.{TableLine, startTable, Decides, this-holds, not-this}
 use Rattle.promises.specs.Rules.{Rules, press, stepOf, steps, Total}
 use Rattle.promises.specs.Entries.{Entries, Call, inputsDone, callAll}
+use Rattle.promises.specs.Demands.{KeysKeep}
 use Rattle.promises.specs.Further.{StaysValid}
 use Rattle.promises.proofs.Laws.{StepLaw, KeyLaw, StepLaws, Keeps}
 use Rattle.promises.proofs.Keeping.{same-size, protected-kept, past-free}
@@ -75,17 +76,17 @@ module _ (rules : Rules) (laws : StepLaws rules) (entries : Entries) (kept : Kee
         subst P (sym (kept .follows .of-key t key lent is .terminal)) (as-stepped (key-valid rules entries kept t key lent is)))
         (λ other. subst P (sym (kept .refusals .of-key t key lent (eqb-false _ _ other) .terminal)) as-it-was)
 
-    pub keys-keep-of : (cell : ℕ) → free t cell ≡ false → ProtectedKept (t .page) (entries .key t key lent .terminal .page) cell
+    protected-stay : (cell : ℕ) → free t cell ≡ false → ProtectedKept (t .page) (entries .key t key lent .terminal .page) cell
     unfolding stepOf
-    keys-keep-of cell protected =
+    protected-stay cell protected =
         key-left (λ (left : Terminal). ProtectedKept (t .page) (left .page) cell) (record { character = λ _. refl; mark = refl })
         (λ valid.
         protected-kept t valid (rules .onKey key t) (laws .every-step (press key) t valid) cell protected
         (λ named. not-both (laws .every-key key t valid .names-free cell named) protected))
 
-    pub keys-protect-of : (cell : ℕ) → free (entries .key t key lent .terminal) cell ≡ free t cell
+    protection-stays : (cell : ℕ) → free (entries .key t key lent .terminal) cell ≡ free t cell
     unfolding stepOf
-    keys-protect-of cell =
+    protection-stays cell =
         key-left (λ (left : Terminal). free left cell ≡ free t cell) refl
         (λ valid.
         let step = rules .onKey key t in
@@ -93,3 +94,6 @@ module _ (rules : Rules) (laws : StepLaws rules) (entries : Entries) (kept : Kee
         less-or-not cell (length (t .page .marks))
         (λ here. laws .every-key key t valid .tag-law .protection cell here)
         (λ past. past-free (step .terminal .page .marks) cell (omega (arith, same)) ∙ sym (past-free (t .page .marks) cell past)))
+
+  pub keys-keep-of : KeysKeep entries
+  keys-keep-of = record { protected-cells = protected-stay; protection = protection-stays }

@@ -1,43 +1,41 @@
 -- What is promised and kept: the three demands (specs/Demands.antt), and what else is promised (specs/Further.antt).
 use mathlib.Core.Path.{_≡_}
-use Rattle.blocks.specs.Finding.{blocksIn}
 use Rattle.terminal.specs.Answers.{Outcome, given}
 use Rattle.terminal.specs.Calls.{startCall, hostCall, keyCall}
 use Rattle.terminal.proofs.Theorems as Terminals
 use Rattle.promises.specs.Rules.{Rules, ourRules}
 use Rattle.promises.specs.Entries.{Entries, ourEntries}
 use Rattle.promises.specs.Contracts.{ourContracts}
-use Rattle.promises.specs.Demands.{Demand1, Follows, Demand2, Demand3, Demands}
+use Rattle.promises.specs.Demands.{Demand1, Follows, Demand2, Demand3}
 use Rattle.promises.specs.Further.{AllSame, OneResult, SameEntries, OneTerminal, StaysValid, SameHoweverCut, Continuing, Progress, CallsAreSteps, BlocksKeep, SendsBlocks, Bounded, CopyingSteps, OmissionSteps}
 use Rattle.promises.proofs.OurLaws.{our-step-laws, our-keeps}
 use Rattle.promises.proofs.OnlyOne.{same-entries}
-use Rattle.promises.proofs.Staying.{stays-valid-of, keys-keep-of, keys-protect-of}
+use Rattle.promises.proofs.Staying.{stays-valid-of, keys-keep-of}
 use Rattle.promises.proofs.Calling.{calls-are-steps-of, continuing-of, cutting-of, same-however-cut-of}
-use Rattle.promises.proofs.Feeding.{feeding-back}
+use Rattle.promises.proofs.Feeding.{our-feeding-back}
 use Rattle.promises.proofs.Sending.{blocks-keep-of, bounded-of, progress-of}
 use Rattle.promises.proofs.Asking.{our-sends-blocks}
 use Rattle.promises.proofs.Copied.{copying-of}
 use Rattle.promises.proofs.Omitted.{omission-of}
-use Rattle.promises.proofs.CopiedCalls.{demand-3-of}
+use Rattle.promises.proofs.CopiedCalls.{copying-calls-of}
 
 -- The three demands.
-demand-1 : Demand1 ourRules ourEntries
+pub demand-1 : Demand1 ourRules ourEntries
 demand-1 = record { numbers = our-keeps .numbers; refusals = our-keeps .refusals }
 
-demand-2 : Demand2 ourRules ourEntries
+pub demand-2 : Demand2 ourRules ourEntries
 demand-2 = record {
   follows = our-keeps .follows;
   cutting = cutting-of ourRules ourEntries our-keeps;
-  feeding-back = feeding-back;
+  feeding-back = our-feeding-back;
   keys-keep = keys-keep-of ourRules our-step-laws ourEntries our-keeps;
-  keys-protect = keys-protect-of ourRules our-step-laws ourEntries our-keeps;
 }
 
-demand-3 : Demand3 blocksIn ourRules ourEntries
-demand-3 = demand-3-of ourRules our-step-laws ourEntries our-keeps
+pub demand-3 : Demand3 ourRules ourEntries
+demand-3 = copying-calls-of ourRules our-step-laws ourEntries our-keeps
 
-pub demands : Demands ourRules ourEntries
-demands = record { first = demand-1; second = demand-2; third = demand-3 }
+pub demands : Demand1 ourRules ourEntries × Demand2 ourRules ourEntries × Demand3 ourRules ourEntries
+demands = (demand-1, demand-2, demand-3)
 
 -- A contract that names one outcome allows one result.
 only-outcome : (outcome : Outcome) → AllSame (λ reply page output. given reply page output ≡ outcome)

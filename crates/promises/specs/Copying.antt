@@ -1,5 +1,6 @@
 -- Demand 3: what the host does with the blocks it gets, and what keys have stored since the block before.
 use mathlib.Core.Path.{_≡_}
+use mathlib.Core.Bool.{true}
 use mathlib.Core.List.{List, [], _∷_, _++_, map, List·Memᴰ}
 use mathlib.Core.Logic.{_↔_}
 use Prim.Native.Nat.{ℕ, _+_, _<_, _≤_}
@@ -8,8 +9,8 @@ use Rattle.blocks.specs.Blocks.{Entry}
 use Rattle.blocks.specs.Decode.{decode}
 use Rattle.blocks.specs.Lay.{lay}
 use Rattle.steps.specs.Steps.{Terminal, Message, silent, report, fullBlock, changedBlock, Stepped}
-use Rattle.steps.specs.Seen.{fieldsHere, entryHere}
-use Rattle.promises.specs.Rules.{Rules, Input, byte, press}
+use Rattle.steps.specs.Seen.{fieldsHere, entryHere, blockHere}
+use Rattle.promises.specs.Rules.{Rules, Input, byte, press, steps}
 
 -- A step that stores in no cell: the one place that says so.
 abbrev pub StoresNoCell : Stepped → Type 0
@@ -73,3 +74,14 @@ OmissionHolds t stored [] = Unit {0}
 OmissionHolds t stored (step ∷ later) =
     OmitsExactly (step .message) t stored
     × OmissionHolds (step .terminal) (storedSince (step .message) stored (step .cells)) later
+
+-- What the host finds in all the bytes sent: the blocks of the steps before, this block, and the later ones. It has this block for
+-- its copy, and with each later one laid over it what is then a full block of the page as it stands; and omission holds.
+-- `there` is the terminal that this block's step left.
+pub record CopyHolds (finds : List ℕ → List (List ℕ)) (rules : Rules) (t : Terminal) (sent : List ℕ) (before : List Input)
+    (block : List ℕ) (there : Terminal) (later : List Input) : Type 0 where
+  pub found-later : List (List ℕ)
+  pub found : finds sent ≡ blocksSent (steps rules t before) ++ (block ∷ found-later)
+  pub as-sent : found-later ≡ blocksSent (steps rules there later)
+  pub copy : block ∷ copies block found-later ≡ map (blockHere true) (there ∷ standings (steps rules there later))
+  pub omission : OmissionHolds there [] (steps rules there later)

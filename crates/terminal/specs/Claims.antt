@@ -12,11 +12,14 @@ use Rattle.steps.specs.Steps.{Terminal, Stepped}
 use Rattle.terminal.specs.declared.Reply.{Reply}
 use Rattle.terminal.specs.Runs.{after, sentBy, storedBy}
 use Rattle.terminal.specs.Answers.{Outcome}
-use Rattle.terminal.specs.Table.{TableLine, Decides}
+use Rattle.terminal.specs.Table.{Line3, TableLine, Decides}
 
 -- It is given n exactly when n's line holds and none before it does.
 abbrev pub NumberedBy : List TableLine → Outcome → Type 1
 NumberedBy table outcome = (n : ℕ) → (outcome .number ≡ n) ↔ Decides table n
+
+abbrev pub Refused : Outcome → Type 0
+Refused outcome = outcome .number ≡ 0 → ⊥
 
 -- What a refusal leaves: nothing changed, counts 0.
 pub record Leaves (t : Terminal) (lent : List ℕ) (outcome : Outcome) : Type 0 where
@@ -33,6 +36,11 @@ pub record Did (taken : ℕ) (t : Terminal) (lent : List ℕ) (steps : List Step
   pub stored : outcome .stored ≡ length (storedBy steps)
   pub terminal : outcome .terminal ≡ after t steps
   pub output : outcome .output ≡ placed 0 (sentBy steps) lent
+
+-- What a host call given 3 leaves: it did the steps before the one whose message exceeds the room left, and took their bytes only.
+abbrev pub StopsShort : Terminal → List ℕ → List Stepped → Outcome → Type 0
+StopsShort t lent steps outcome =
+    (line : Line3 (length lent) steps) × Did (length (line .before)) t lent (line .before) outcome
 
 -- What a start that is done leaves: a fresh page and a fresh state, of the size asked for. Every cell counts as stored.
 pub record Started (size : Size) (outcome : Outcome) : Type 0 where
