@@ -8,7 +8,7 @@ use Rattle.terminal.specs.Runs.{after, sentBy}
 use Rattle.promises.specs.Rules.{Rules, Input, stepOf, steps, Total}
 use Rattle.promises.specs.Entries.{Entries, Call, inputsDone, callAll}
 use Rattle.promises.specs.Copying.{blockIn, blocksSent}
-use Rattle.promises.specs.Demands.{Demand3}
+use Rattle.promises.specs.Demands.{Copying}
 use Rattle.promises.proofs.Laws.{StepLaws, Keeps}
 use Rattle.promises.proofs.Doing.{found-valid}
 use Rattle.promises.proofs.Calling.{steps-joined, steps-keep-valid, calls-are-steps-of}
@@ -32,7 +32,7 @@ module _ (rules : Rules) (laws : StepLaws rules) (entries : Entries) (kept : Kee
   found-in-calls t valid calls =
       ap (λ (all : Total). blocksIn (all .sent)) (calls-are-steps-of rules entries kept t calls) ∙ blocks-found rules laws t valid (inputsDone entries t calls)
 
-  pub copying-calls-of : Demand3 rules entries
+  pub copying-calls-of : Copying blocksIn rules entries
   copying-calls-of t calls before asks later block did sends nothing =
       let begun = first-input before asks later in
       let valid = found-valid rules entries kept t calls (begun .0) (begun .1) (did ∙ begun .2) in

@@ -21,3 +21,6 @@ pub mod FeedingText
 pub mod FeedingFields
 pub mod Feeding
 pub mod Theorems
+pub mod Sheets
+pub mod Computing
+pub mod Worked

@@ -32,7 +32,7 @@ demand-2 = record {
 }
 
 pub demand-3 : Demand3 ourRules ourEntries
-demand-3 = copying-calls-of ourRules our-step-laws ourEntries our-keeps
+demand-3 = record { copying = copying-calls-of ourRules our-step-laws ourEntries our-keeps }
 
 pub demands : Demand1 ourRules ourEntries × Demand2 ourRules ourEntries × Demand3 ourRules ourEntries
 demands = (demand-1, demand-2, demand-3)

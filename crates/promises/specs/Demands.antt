@@ -88,5 +88,5 @@ Copying finds rules entries =
     step .message ≡ fullBlock block → HostStoresNothing rules (step .terminal) later →
     CopyHolds finds rules t (callAll entries t calls .sent) before block (step .terminal) later
 
-abbrev pub Demand3 : Rules → Entries → Type 0
-Demand3 rules entries = Copying blocksIn rules entries
+pub record Demand3 (rules : Rules) (entries : Entries) : Type 0 where
+  pub copying : Copying blocksIn rules entries

@@ -1,1 +1,1 @@
-// The three demands: see specs/Promises.antt; their proofs are in proofs/.
+// The three demands and what else is promised: specs/Demands.antt and specs/Further.antt; the theorems are in proofs/Theorems.antt.

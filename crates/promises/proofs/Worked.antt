@@ -1,0 +1,236 @@
+-- Demand 3 worked out on a form: two fields in row 1, AB and CD, with a protected colon between them.
+use mathlib.Core.Path.{_≡_, refl, ap, _∙_}
+use mathlib.Core.List.{List, [], _∷_, _++_, map}
+use mathlib.Core.Bool.{true, false}
+use Prim.Native.Nat.{ℕ}
+use native.Mathlib.Omega.{arith}
+use lib.ListN.{length, replicate}
+use Rattle.blocks.specs.Blocks.{block}
+use Rattle.blocks.specs.Decode.{decode}
+use Rattle.blocks.specs.Lay.{lay}
+use Rattle.blocks.specs.Finding.{blocksIn}
+use Rattle.page.specs.Page.{Page}
+use Rattle.steps.specs.Steps.{Terminal, silent, report, fullBlock, changedBlock, Stepped, Valid}
+use Rattle.words.specs.Output.{placed}
+use Rattle.terminal.specs.Runs.{stepsOf, after, sentBy}
+use Rattle.terminal.specs.Answers.{Outcome, bytesSent}
+use Rattle.terminal.specs.Calls.{hostCall, keyCall}
+use Rattle.terminal.proofs.Deciding.{valid-holds, key-done}
+use Rattle.terminal.proofs.Cases.{host-did}
+use Rattle.promises.specs.Rules.{ourRules, Input, byte, press, stepOf, steps}
+use Rattle.promises.specs.Entries.{ourEntries, Call, read, keyPress, outcomeOf, outcomes, callAll, inputsOf, inputsDone}
+use Rattle.promises.specs.Copying.{HostStoresNothing, CopyHolds}
+use Rattle.promises.proofs.Calling.{inputs-in-front}
+use Rattle.promises.proofs.Theorems.{demand-3}
+use Rattle.promises.proofs.Sheets.{sheet, at, sheet-block}
+use Rattle.promises.proofs.Computing.{validity, blockBytes, laying, finding, hostSteps, keySteps, calls, streams}
+
+-- The form, by the first character of each field and the marks; in three states of the marks.
+abbrev pub form : ℕ → ℕ → List ℕ → Page
+form one other marks = sheet (one ∷ 0x42 ∷ 0x3A ∷ other ∷ 0x44 ∷ []) marks
+
+abbrev pub noTag : List ℕ
+noTag = 0 ∷ 0 ∷ 1 ∷ 0 ∷ 0 ∷ []
+
+abbrev firstTagged : List ℕ
+firstTagged = 2 ∷ 0 ∷ 1 ∷ 0 ∷ 0 ∷ []
+
+abbrev secondTagged : List ℕ
+secondTagged = 0 ∷ 0 ∷ 1 ∷ 2 ∷ 0 ∷ []
+
+-- Where it begins: cursor 1;1, AB and CD, nothing modified.
+abbrev pub start : Terminal
+start = at 1 (form 0x41 0x43 noTag)
+
+pub start-valid : Valid start
+unfolding validity
+start-valid = record { size = refl; state = refl; page = refl }
+
+-- What happens: 267; X is typed; the host sends ESC S, ESC [ 6 n, ESC S; right, right; Y is typed; 266.
+abbrev hostBytes : List ℕ
+hostBytes = 0x1B ∷ 0x53 ∷ 0x1B ∷ 0x5B ∷ 0x36 ∷ 0x6E ∷ 0x1B ∷ 0x53 ∷ []
+
+abbrev afterFirst : List Input
+afterFirst = press 0x58 ∷ (map byte hostBytes ++ (press 259 ∷ press 259 ∷ press 0x59 ∷ press 266 ∷ []))
+
+-- The blocks: ESC [ 1 ; 1 f .. B ESC [ 1 ; 4 f .. D 03, and ESC [ 1 ; 4 f Y D 03; the report: ESC [ 1 ; 2 R.
+abbrev pub fullBytes : ℕ → ℕ → List ℕ
+fullBytes one other = 0x1B ∷ 0x5B ∷ 0x31 ∷ 0x3B ∷ 0x31 ∷ 0x66 ∷ one ∷ 0x42 ∷ 0x1B ∷ 0x5B ∷ 0x31 ∷ 0x3B ∷ 0x34 ∷ 0x66 ∷ other ∷ 0x44 ∷ 0x03 ∷ []
+
+abbrev changedBytes : List ℕ
+changedBytes = 0x1B ∷ 0x5B ∷ 0x31 ∷ 0x3B ∷ 0x34 ∷ 0x66 ∷ 0x59 ∷ 0x44 ∷ 0x03 ∷ []
+
+abbrev reportBytes : List ℕ
+reportBytes = 0x1B ∷ 0x5B ∷ 0x31 ∷ 0x3B ∷ 0x32 ∷ 0x52 ∷ []
+
+pub full-noTag : (one other : ℕ) → block true 80 (form one other noTag) ≡ fullBytes one other
+unfolding blockBytes
+full-noTag one other = sheet-block noTag refl true (one ∷ 0x42 ∷ 0x3A ∷ other ∷ 0x44 ∷ []) ∙ refl
+
+full-firstTagged : block true 80 (form 0x58 0x43 firstTagged) ≡ fullBytes 0x58 0x43
+unfolding blockBytes
+full-firstTagged = sheet-block firstTagged refl true (0x58 ∷ 0x42 ∷ 0x3A ∷ 0x43 ∷ 0x44 ∷ []) ∙ refl
+
+changed-secondTagged : block false 80 (form 0x58 0x59 secondTagged) ≡ changedBytes
+unfolding blockBytes
+changed-secondTagged = sheet-block secondTagged refl false (0x58 ∷ 0x42 ∷ 0x3A ∷ 0x59 ∷ 0x44 ∷ []) ∙ refl
+
+-- The messages of the steps, one for each key and each host byte.
+messages : map (λ (step : Stepped). step .message) (steps ourRules start (press 267 ∷ afterFirst))
+    ≡ fullBlock (fullBytes 0x41 0x43)  -- 267
+    ∷ silent  -- X
+    ∷ silent ∷ fullBlock (fullBytes 0x58 0x43)  -- ESC S
+    ∷ silent ∷ silent ∷ silent ∷ report reportBytes  -- ESC [ 6 n
+    ∷ silent ∷ fullBlock (fullBytes 0x58 0x43)  -- ESC S
+    ∷ silent ∷ silent ∷ silent  -- right, right, Y
+    ∷ changedBlock changedBytes  -- 266
+    ∷ []
+unfolding hostSteps keySteps streams
+messages = λ i.
+    fullBlock (full-noTag 0x41 0x43 i)
+    ∷ silent
+    ∷ silent ∷ fullBlock (full-firstTagged i)
+    ∷ silent ∷ silent ∷ silent ∷ report reportBytes
+    ∷ silent ∷ fullBlock (full-noTag 0x58 0x43 i)
+    ∷ silent ∷ silent ∷ silent
+    ∷ changedBlock (changed-secondTagged i)
+    ∷ []
+
+-- The host stored nothing.
+stores-nothing : HostStoresNothing ourRules (stepOf ourRules (press 267) start .terminal) afterFirst
+unfolding hostSteps keySteps streams HostStoresNothing
+stores-nothing = (refl, (refl, (refl, (refl, (refl, (refl, (refl, (refl, tt))))))))
+
+-- The changed block has one field, the second, whose cell was stored since the block before; the first is omitted.
+one-field : decode changedBytes ≡ record { row = 1; column = 4; characters = 0x59 ∷ 0x44 ∷ [] } ∷ []
+unfolding laying
+one-field = refl
+
+-- The host's copy: AB CD, and with each block laid over it XB CD, XB CD, XB YD.
+copies : (lay (fullBytes 0x58 0x43) (fullBytes 0x41 0x43) ≡ fullBytes 0x58 0x43) × (lay (fullBytes 0x58 0x43) (fullBytes 0x58 0x43) ≡ fullBytes 0x58 0x43) × (lay changedBytes (fullBytes 0x58 0x43) ≡ fullBytes 0x58 0x59)
+unfolding laying
+copies = (refl, refl, refl)
+
+-- As calls, with a Y besides that is typed on the colon: it is given 7.
+abbrev session : List Call
+session =
+    keyPress 267 (replicate 17 0)
+    ∷ keyPress 0x58 []
+    ∷ read hostBytes (replicate 40 0)
+    ∷ keyPress 259 []
+    ∷ keyPress 0x59 []
+    ∷ keyPress 259 []
+    ∷ keyPress 0x59 []
+    ∷ keyPress 266 (replicate 9 0)
+    ∷ []
+
+-- What is seen of a call: number, cells stored, bytes sent.
+pub record Seen : Type 0 where
+  pub number : ℕ
+  pub stored : ℕ
+  pub sent : List ℕ
+
+abbrev gives : ℕ → ℕ → List ℕ → Seen
+gives number stored sent = record { number = number; stored = stored; sent = sent }
+
+abbrev seen : Outcome → Seen
+seen outcome = gives (outcome .number) (outcome .stored) (bytesSent outcome)
+
+-- What is seen of some calls, and the inputs that they did.
+record Told (t : Terminal) (calls : List Call) (saw : List Seen) (inputs : List Input) : Type 0 where
+  outcomes-seen : map seen (outcomes ourEntries t calls) ≡ saw
+  inputs-are : inputsDone ourEntries t calls ≡ inputs
+
+no-calls : {t : Terminal} → Told t [] [] []
+unfolding streams
+no-calls = record { outcomes-seen = refl; inputs-are = refl }
+
+next-call : {t : Terminal} {calls : List Call} {saw : List Seen} {inputs : List Input} (call : Call) (outcome : Outcome) → outcomeOf ourEntries call t ≡ outcome → Told (outcome .terminal) calls saw inputs → Told t (call ∷ calls) (seen outcome ∷ saw) (inputsOf call outcome ++ inputs)
+unfolding outcomes
+next-call {calls} call outcome is later = record {
+  outcomes-seen = (λ i. seen (is i) ∷ map seen (outcomes ourEntries (is i .terminal) calls)) ∙ ap (λ (rest : List Seen). seen outcome ∷ rest) (later .outcomes-seen);
+  inputs-are = inputs-in-front ourEntries _ call calls is ∙ ap (λ (rest : List Input). inputsOf call outcome ++ rest) (later .inputs-are);
+}
+
+-- An outcome whose output is just the bytes sent.
+abbrev pub leaves : ℕ → ℕ → ℕ → List ℕ → Terminal → Outcome
+leaves number taken stored sent t = record { number = number; taken = taken; sent = length sent; stored = stored; terminal = t; output = sent }
+
+-- The terminals that the calls leave: after X, after the host's bytes with the cursor in a column, after Y, after 266.
+abbrev typedX : Terminal
+typedX = at 2 (form 0x58 0x43 firstTagged)
+
+abbrev sentTwice : ℕ → Terminal
+sentTwice column = at column (form 0x58 0x43 noTag)
+
+abbrev typedY : Terminal
+typedY = at 5 (form 0x58 0x59 secondTagged)
+
+abbrev end : Terminal
+end = at 5 (form 0x58 0x59 noTag)
+
+-- The calls that send.
+pub call-267 : keyCall start 267 (replicate 17 0) ≡ leaves 0 0 0 (fullBytes 0x41 0x43) start
+unfolding validity keySteps calls
+call-267 =
+    key-done start 267 (replicate 17 0) refl (valid-holds start start-valid) refl refl refl (omega (arith, ap length (full-noTag 0x41 0x43)))
+    ∙ (λ i. record { number = 0; taken = 0; sent = length (full-noTag 0x41 0x43 i); stored = 0; terminal = start; output = placed 0 (full-noTag 0x41 0x43 i) (replicate 17 0) })
+
+typedX-valid : Valid typedX
+unfolding validity
+typedX-valid = record { size = refl; state = refl; page = refl }
+
+host-sends : sentBy (stepsOf typedX hostBytes) ≡ fullBytes 0x58 0x43 ++ (reportBytes ++ fullBytes 0x58 0x43)
+unfolding hostSteps stepsOf sentBy
+host-sends = λ i. full-firstTagged i ++ (reportBytes ++ (full-noTag 0x58 0x43 i ++ []))
+
+call-host : hostCall typedX hostBytes (replicate 40 0) ≡ leaves 0 8 0 (fullBytes 0x58 0x43 ++ (reportBytes ++ fullBytes 0x58 0x43)) (sentTwice 2)
+unfolding hostSteps calls
+call-host =
+    host-did typedX hostBytes (replicate 40 0) typedX-valid (omega arith) (omega (arith, ap length host-sends))
+    ∙ (λ i. record { number = 0; taken = 8; sent = length (host-sends i); stored = 0; terminal = sentTwice 2; output = placed 0 (host-sends i) (replicate 40 0) })
+
+typedY-valid : Valid typedY
+unfolding validity
+typedY-valid = record { size = refl; state = refl; page = refl }
+
+call-266 : keyCall typedY 266 (replicate 9 0) ≡ leaves 0 0 0 changedBytes end
+unfolding validity keySteps calls
+call-266 =
+    key-done typedY 266 (replicate 9 0) refl (valid-holds typedY typedY-valid) refl refl refl (omega (arith, ap length changed-secondTagged))
+    ∙ (λ i. record { number = 0; taken = 0; sent = length (changed-secondTagged i); stored = 0; terminal = end; output = placed 0 (changed-secondTagged i) (replicate 9 0) })
+
+-- All that is seen, call by call; and the inputs that these calls did are those above.
+session-told : Told start session
+    (gives 0 0 (fullBytes 0x41 0x43)
+    ∷ gives 0 1 []
+    ∷ gives 0 0 (fullBytes 0x58 0x43 ++ (reportBytes ++ fullBytes 0x58 0x43))
+    ∷ gives 0 0 []
+    ∷ gives 7 0 []
+    ∷ gives 0 0 []
+    ∷ gives 0 1 []
+    ∷ gives 0 0 changedBytes
+    ∷ [])
+    (press 267 ∷ afterFirst)
+unfolding keySteps calls outcomeOf inputsOf
+session-told =
+    next-call _ (leaves 0 0 0 (fullBytes 0x41 0x43) start) call-267
+    (next-call _ (leaves 0 0 1 [] typedX) refl
+    (next-call _ (leaves 0 8 0 (fullBytes 0x58 0x43 ++ (reportBytes ++ fullBytes 0x58 0x43)) (sentTwice 2)) call-host
+    (next-call _ (leaves 0 0 0 [] (sentTwice 3)) refl
+    (next-call _ (leaves 7 0 0 [] (sentTwice 3)) refl
+    (next-call _ (leaves 0 0 0 [] (sentTwice 4)) refl
+    (next-call _ (leaves 0 0 1 [] typedY) refl
+    (next-call _ (leaves 0 0 0 changedBytes end) call-266 no-calls)))))))
+
+-- All that the calls sent is one stream, and the host finds the four blocks in it; the report is none.
+blocks-found : blocksIn (fullBytes 0x41 0x43 ++ (fullBytes 0x58 0x43 ++ (reportBytes ++ (fullBytes 0x58 0x43 ++ changedBytes))))
+    ≡ fullBytes 0x41 0x43 ∷ fullBytes 0x58 0x43 ∷ fullBytes 0x58 0x43 ∷ changedBytes ∷ []
+unfolding finding
+blocks-found = refl
+
+-- So demand 3 speaks of this session: the copy is right after each of the three blocks that follow, and the changed one omits what
+-- was not stored.
+session-copied : CopyHolds blocksIn ourRules start (callAll ourEntries start session .sent) [] (fullBytes 0x41 0x43) (stepOf ourRules (press 267) start .terminal) afterFirst
+unfolding keySteps streams after
+session-copied = demand-3 .copying start session [] (press 267) afterFirst (fullBytes 0x41 0x43) (session-told .inputs-are) (ap fullBlock (full-noTag 0x41 0x43)) stores-nothing

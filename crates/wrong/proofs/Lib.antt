@@ -1,0 +1,9 @@
+pub mod WrongAnswers
+pub mod WrongContracts
+pub mod WrongReads
+pub mod WrongKeys
+pub mod WrongBounds
+pub mod WrongFeeding
+pub mod WrongCopies
+pub mod WrongCalls
+pub mod WrongDoing

@@ -1,0 +1,157 @@
+-- Demand 3 of calls catches calls whose bytes are not those of their steps, and blocks that are wrong through calls.
+use mathlib.Core.Path.{_≡_, refl, sym, ap, _∙_, subst}
+use mathlib.Core.Bool.{true, false}
+use mathlib.Core.List.{List, [], _∷_, _++_, map, reverse}
+use Prim.Native.Nat.{ℕ}
+use native.Mathlib.Omega.{arith}
+use borrow.Author.Tests.{eqb-false, eq-eqb}
+use lib.ListN.{length, take, getD, replicate}
+use Rattle.words.specs.Output.{placed}
+use Rattle.words.proofs.Choosing.{then-case}
+use Rattle.blocks.specs.Blocks.{block}
+use Rattle.blocks.specs.Finding.{blocksIn}
+use Rattle.steps.specs.Steps.{Terminal, Message, fullBlock, changedBlock, sends}
+use Rattle.steps.specs.Seen.{blockHere}
+use Rattle.terminal.specs.Runs.{stepsOf, sentBy}
+use Rattle.terminal.specs.Answers.{Outcome, bytesSent}
+use Rattle.terminal.specs.Calls.{hostCall}
+use Rattle.terminal.proofs.Cases.{host-did}
+use Rattle.promises.specs.Rules.{Rules, ourRules, Input, byte, press, steps}
+use Rattle.promises.specs.Entries.{Entries, ourEntries, Call, read, keyPress, outcomeOf, inputsOf, inputsDone}
+use Rattle.promises.specs.Copying.{HostStoresNothing, blockIn, blocksSent, standings, copies, CopyHolds, OmitsExactly, storedSince, OmissionHolds}
+use Rattle.promises.specs.Demands.{Copying}
+use Rattle.wrong.specs.Entries.{showing, sendsBackwards}
+use Rattle.wrong.specs.Rules.{keyCallBy, keysBy, neverTags, tagsOnlyChanges}
+use Rattle.wrong.specs.Finding.{upTo03, by03Alone, findsNone}
+use Rattle.promises.proofs.Calling.{inputs-in-front}
+use Rattle.promises.proofs.Sheets.{sheet}
+use Rattle.wrong.proofs.WrongCopies.{texts, clear, before, after, B-valid, fieldBlock, emptyBlock, firstBlock, full-block-is, untagged-block, copy-is-stale, second-copy, typeX, field-listed, wrongly-omitted, typeB}
+use Rattle.promises.proofs.Computing.{tests, blockBytes, finding, hostSteps, keySteps, calls, streams}
+
+-- 267, a character, 266, with room for either block.
+abbrev room : List ℕ
+room = replicate 10 0
+
+abbrev start : Terminal
+start = before 0x42 clear
+
+abbrev keyCalls : ℕ → List Call
+keyCalls character = keyPress 267 room ∷ keyPress character [] ∷ keyPress 266 room ∷ []
+
+-- A key call that sends a block and leaves the terminal.
+abbrev sending : Message → Terminal → ℕ → Outcome
+sending message t key = keyCallBy (λ _ _. sends message (t .state) (t .page)) t key room
+
+full-sent : sending (fullBlock firstBlock) start 267 ≡ sending (fullBlock (fieldBlock 0x42)) start 267
+full-sent = ap (λ (bytes : List ℕ). sending (fullBlock bytes) start 267) (full-block-is 0x42)
+
+changed-sent : (second : ℕ) → sending (changedBlock (block false 80 (sheet (texts second) clear))) (after second clear) 266 ≡ sending (changedBlock emptyBlock) (after second clear) 266
+changed-sent second = ap (λ (bytes : List ℕ). sending (changedBlock bytes) (after second clear) 266) (untagged-block second)
+
+-- A key call given 0 did its key.
+key-in-front : (entries : Entries) (t : Terminal) (key : ℕ) (output : List ℕ) (later : List Call) {inputs : List Input} {outcome : Outcome} → entries .key t key output ≡ outcome → outcome .number ≡ 0 → inputsDone entries (outcome .terminal) later ≡ inputs → inputsDone entries t (keyPress key output ∷ later) ≡ press key ∷ inputs
+unfolding outcomeOf inputsOf
+key-in-front entries t key output later {outcome} is zero further =
+    inputs-in-front entries t (keyPress key output) later is
+    ∙ ap (λ (now : List Input). now ++ inputsDone entries (outcome .terminal) later) (then-case _ _ _ (eq-eqb _ _ zero))
+    ∙ ap (λ (inputs : List Input). press key ∷ inputs) further
+
+-- So did these three, where each is given 0.
+keys-done : (entries : Entries) (character : ℕ) {full typed changed : Outcome} → entries .key start 267 room ≡ full → entries .key (full .terminal) character [] ≡ typed → entries .key (typed .terminal) 266 room ≡ changed
+    → full .number ≡ 0 → typed .number ≡ 0 → changed .number ≡ 0 → inputsDone entries start (keyCalls character) ≡ press 267 ∷ press character ∷ press 266 ∷ []
+unfolding inputsDone
+keys-done entries character {full} {typed} {changed} sends types sends-again done-first done-second done-third =
+    key-in-front entries start 267 room (keyPress character [] ∷ keyPress 266 room ∷ []) sends done-first
+    (key-in-front entries (full .terminal) character [] (keyPress 266 room ∷ []) types done-second
+    (key-in-front entries (typed .terminal) 266 room [] sends-again done-third refl))
+
+-- What the host found later is what was sent, so its second copy is that of the second block.
+right-copies : {finds : List ℕ → List (List ℕ)} {rules : Rules} {t : Terminal} {sent : List ℕ} {earlier : List Input} {block : List ℕ} {there : Terminal} {later : List Input}
+    → CopyHolds finds rules t sent earlier block there later → block ∷ copies block (blocksSent (steps rules there later)) ≡ map (blockHere true) (there ∷ standings (steps rules there later))
+right-copies {rules} {block} {there} {later} holds =
+    subst (λ (found : List (List ℕ)). block ∷ copies block found ≡ map (blockHere true) (there ∷ standings (steps rules there later))) (holds .as-sent) (holds .copy)
+
+-- X is typed, and not tagged: the copy has B still.
+pub neverTags-breaks-copying : Copying blocksIn neverTags (keysBy neverTags) → ⊥
+unfolding keySteps calls streams HostStoresNothing blockIn blocksSent standings copies
+neverTags-breaks-copying kept =
+    let did = keys-done (keysBy neverTags) 0x58 full-sent refl (changed-sent 0x58) refl refl refl in
+    copy-is-stale (untagged-block 0x58) (second-copy (right-copies (kept start (keyCalls 0x58) [] (press 267) typeX firstBlock did refl tt)))
+
+-- B is typed where B stands, and not tagged: the copy is right, and the changed block omits what was stored.
+pub tagsOnlyChanges-breaks-copying : Copying blocksIn tagsOnlyChanges (keysBy tagsOnlyChanges) → ⊥
+unfolding blockBytes keySteps calls streams HostStoresNothing OmissionHolds OmitsExactly storedSince
+tagsOnlyChanges-breaks-copying kept =
+    let did = keys-done (keysBy tagsOnlyChanges) 0x42 full-sent refl (changed-sent 0x42) refl refl refl in
+    wrongly-omitted clear (block false 80 (sheet (texts 0x42) clear)) (field-listed clear refl refl) (untagged-block 0x42)
+    (kept start (keyCalls 0x42) [] (press 267) typeB firstBlock did refl tt .omission .1 .0)
+
+-- The first of some blocks.
+firstOf : List (List ℕ) → List ℕ
+firstOf [] = []
+firstOf (first ∷ later) = first
+
+-- ESC S, X, ESC S: two blocks, the first with B, the second with X.
+abbrev sendTwice : List ℕ
+sendTwice = 0x1B ∷ 0x53 ∷ 0x58 ∷ 0x1B ∷ 0x53 ∷ []
+
+abbrev twoRooms : List ℕ
+twoRooms = replicate 20 0
+
+steps-send : sentBy (stepsOf start sendTwice) ≡ fieldBlock 0x42 ++ fieldBlock 0x58
+unfolding hostSteps stepsOf sentBy
+steps-send = λ i. full-block-is 0x42 i ++ (full-block-is 0x58 i ++ [])
+
+-- Sent backwards, the one with X comes first.
+sent-backwards : sendsBackwards .host start sendTwice twoRooms ≡ record { number = 0; taken = 5; sent = 20; stored = 1; terminal = after 0x58 clear; output = fieldBlock 0x58 ++ fieldBlock 0x42 }
+unfolding hostSteps calls
+sent-backwards =
+    ap (λ (o : Outcome). showing (placed 0 (sentBy (reverse (stepsOf start (take (o .taken) sendTwice)))) twoRooms) o) (host-did start sendTwice twoRooms B-valid (omega arith) (omega (arith, ap length steps-send)))
+    ∙ (λ i. record { number = 0; taken = 5; sent = length (steps-send i); stored = 1; terminal = after 0x58 clear; output = placed 0 (full-block-is 0x58 i ++ (full-block-is 0x42 i ++ [])) twoRooms })
+
+pub sendsBackwards-breaks-copying : Copying blocksIn ourRules sendsBackwards → ⊥
+unfolding hostSteps calls streams finding HostStoresNothing blockIn blocksSent firstOf
+sendsBackwards-breaks-copying kept =
+    let did = inputs-in-front sendsBackwards start (read sendTwice twoRooms) [] sent-backwards in
+    let holds = kept start (read sendTwice twoRooms ∷ []) (map byte (0x1B ∷ 0x53 ∷ 0x58 ∷ 0x1B ∷ [])) (byte 0x53) [] (block true 80 (sheet (texts 0x58) clear)) did refl tt in
+    eqb-false 0x58 0x42 refl
+    (sym (ap (λ (o : Outcome). getD (firstOf (blocksIn (bytesSent o ++ []))) 7 0) sent-backwards)
+    ∙ ap (λ (blocks : List (List ℕ)). getD (firstOf blocks) 7 0) (holds .found)
+    ∙ ap (λ (bytes : List ℕ). getD bytes 7 0) (full-block-is 0x42))
+
+-- ESC [ 6 n, ESC S: a report, ESC [ 1 ; 2 R, and a block. The sixth byte of the report is R, that of the block f.
+abbrev askAndSend : List ℕ
+askAndSend = 0x1B ∷ 0x5B ∷ 0x36 ∷ 0x6E ∷ 0x1B ∷ 0x53 ∷ []
+
+abbrev bothRooms : List ℕ
+bothRooms = replicate 16 0
+
+abbrev reportBytes : List ℕ
+reportBytes = 0x1B ∷ 0x5B ∷ 0x31 ∷ 0x3B ∷ 0x32 ∷ 0x52 ∷ []
+
+both-send : sentBy (stepsOf start askAndSend) ≡ reportBytes ++ fieldBlock 0x42
+unfolding hostSteps stepsOf sentBy
+both-send = λ i. reportBytes ++ (full-block-is 0x42 i ++ [])
+
+both-sent : hostCall start askAndSend bothRooms ≡ record { number = 0; taken = 6; sent = 16; stored = 0; terminal = start; output = reportBytes ++ fieldBlock 0x42 }
+unfolding hostSteps calls
+both-sent =
+    host-did start askAndSend bothRooms B-valid (omega arith) (omega (arith, ap length both-send))
+    ∙ (λ i. record { number = 0; taken = 6; sent = length (both-send i); stored = 0; terminal = start; output = placed 0 (both-send i) bothRooms })
+
+-- So a host that finds blocks another way finds, or does not find, this block alone.
+found-alone : (finds : List ℕ → List (List ℕ)) → Copying finds ourRules ourEntries → (later : List (List ℕ)) × (finds (reportBytes ++ fieldBlock 0x42) ≡ firstBlock ∷ later)
+unfolding hostSteps calls streams HostStoresNothing blockIn blocksSent
+found-alone finds kept =
+    let did = inputs-in-front ourEntries start (read askAndSend bothRooms) [] both-sent in
+    let holds = kept start (read askAndSend bothRooms ∷ []) (map byte (0x1B ∷ 0x5B ∷ 0x36 ∷ 0x6E ∷ 0x1B ∷ [])) (byte 0x53) [] firstBlock did refl tt in
+    (holds .found-later, sym (ap (λ (o : Outcome). finds (bytesSent o ++ [])) both-sent) ∙ holds .found)
+
+pub by03Alone-breaks-copying : Copying by03Alone ourRules ourEntries → ⊥
+unfolding tests upTo03 firstOf
+by03Alone-breaks-copying kept =
+    let found = found-alone by03Alone kept in
+    eqb-false 0x52 0x66 refl (ap (λ (blocks : List (List ℕ)). getD (firstOf blocks) 5 0) (found .1) ∙ ap (λ (bytes : List ℕ). getD bytes 5 0) (full-block-is 0x42))
+
+pub findsNone-breaks-copying : Copying findsNone ourRules ourEntries → ⊥
+findsNone-breaks-copying kept = let found = found-alone findsNone kept in absurd (omega (arith, ap (length {A = List ℕ}) (found .1)))

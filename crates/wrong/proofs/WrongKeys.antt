@@ -1,0 +1,69 @@
+-- Keys and blocks that change protected cells are caught by demand 2.
+use mathlib.Core.Path.{refl}
+use mathlib.Core.Bool.{true}
+use mathlib.Core.List.{[], _∷_}
+use Prim.Native.Nat.{ℕ, _<_}
+use native.Mathlib.Omega.{arith}
+use borrow.Author.Tests.{eqb-false}
+use lib.ListN.{replicate}
+use Rattle.words.proofs.Choosing.{true-is-not-false}
+use Rattle.sequence.specs.Record.{escRead}
+use Rattle.blocks.specs.Blocks.{block}
+use Rattle.state.specs.State.{withHalf}
+use Rattle.steps.specs.Steps.{Terminal, withState, Valid}
+use Rattle.promises.specs.Rules.{byte, press}
+use Rattle.promises.specs.Demands.{KeysKeep}
+use Rattle.promises.specs.Further.{BlocksKeep}
+use Rattle.wrong.specs.Entries.{blanksRow, typesOnProtected}
+use Rattle.wrong.specs.Rules.{isBlock, clearsAllTags, unprotectsFirst, keepsTags}
+use Rattle.promises.proofs.Sheets.{sheet, at}
+use Rattle.promises.proofs.Computing.{validity, hostSteps, keySteps, calls, streams}
+
+-- A field of one cell, and after it a protected B.
+abbrev fieldAndLabel : ℕ → Terminal
+fieldAndLabel column = at column (sheet (0x41 ∷ 0x42 ∷ 0x20 ∷ 0x20 ∷ 0x20 ∷ []) (0 ∷ 1 ∷ 1 ∷ 1 ∷ 1 ∷ []))
+
+-- 263 in the field blanks the B.
+pub blanksRow-breaks-keys-keep : KeysKeep blanksRow → ⊥
+unfolding calls keySteps
+blanksRow-breaks-keys-keep kept =
+    let on-page : 1 < 1920 = omega arith in
+    eqb-false 0x20 0x42 refl (kept .protected-cells (fieldAndLabel 1) 263 [] 1 refl .character on-page)
+
+-- X typed with the cursor on the B.
+pub typesOnProtected-breaks-keys-keep : KeysKeep typesOnProtected → ⊥
+unfolding calls keySteps
+typesOnProtected-breaks-keys-keep kept =
+    let on-page : 1 < 1920 = omega arith in
+    eqb-false 0x58 0x42 refl (kept .protected-cells (fieldAndLabel 2) 0x58 [] 1 refl .character on-page)
+
+-- The first cell is protected and modified.
+abbrev taggedLabel : Terminal
+taggedLabel = at 1 (sheet (replicate 5 0x20) (3 ∷ 0 ∷ 0 ∷ 0 ∷ 0 ∷ []))
+
+-- 267 from there; and S, where ESC is half read.
+pub clearsAllTags-breaks-blocks-keep : BlocksKeep clearsAllTags → ⊥
+unfolding validity keySteps streams isBlock
+clearsAllTags-breaks-blocks-keep kept =
+    let valid : Valid taggedLabel = record { size = refl; state = refl; page = refl } in
+    eqb-false 1 3 refl (kept taggedLabel valid (press 267) true (block true 80 (taggedLabel .page)) refl .protected-cells 0 refl .mark)
+
+abbrev afterEscape : Terminal
+afterEscape = withState taggedLabel (withHalf (taggedLabel .state) escRead)
+
+pub unprotectsFirst-breaks-blocks-keep : BlocksKeep unprotectsFirst → ⊥
+unfolding validity hostSteps keySteps streams isBlock
+unprotectsFirst-breaks-blocks-keep kept =
+    let valid : Valid afterEscape = record { size = refl; state = refl; page = refl } in
+    eqb-false 0 3 refl (kept afterEscape valid (byte 0x53) true (block true 80 (afterEscape .page)) refl .protected-cells 0 refl .mark)
+
+-- A field of one cell that is modified, and is so still after 267.
+abbrev taggedField : Terminal
+taggedField = at 1 (sheet (replicate 5 0x20) (2 ∷ 1 ∷ 1 ∷ 1 ∷ 1 ∷ []))
+
+pub keepsTags-breaks-blocks-keep : BlocksKeep keepsTags → ⊥
+unfolding validity keySteps streams isBlock
+keepsTags-breaks-blocks-keep kept =
+    let valid : Valid taggedField = record { size = refl; state = refl; page = refl } in
+    let on-page : 0 < 1920 = omega arith in
+    true-is-not-false (kept taggedField valid (press 267) true (block true 80 (taggedField .page)) refl .none-modified 0 on-page refl)

@@ -1,0 +1,214 @@
+-- Wrong entries: ours with one fault each, under the promise that it breaks (proofs/).
+use mathlib.Core.Bool.{Bool, false}
+use mathlib.Core.List.{List, [], _∷_, _++_, reverse}
+use Prim.Native.Nat.{ℕ, _+_}
+use lib.Dec.{ltb, eqb}
+use lib.ListN.{length, take, getD, set, replicate}
+use Rattle.words.specs.Choice.{if_then_else_, _and_, _or_}
+use Rattle.words.specs.Output.{placed}
+use Rattle.sequence.specs.Record.{nothingRead}
+use Rattle.page.specs.Page.{Page, pageOf, typed, blanked, partStored, modifiedCleared}
+use Rattle.state.specs.declared.Size.{Size}
+use Rattle.state.specs.State.{withCursor, withLocks, withHalf}
+use Rattle.steps.specs.Steps.{Terminal, Stepped, withState, stores, cursorCell, rowStart}
+use Rattle.steps.specs.Host.{hostStep}
+use Rattle.steps.specs.Keys.{isTyping, isEditing, isLocked, cellsFrom, keyStep}
+use Rattle.terminal.specs.declared.Answer.the-variants.{Done, NoRoom, Locked, TooLong}
+use Rattle.terminal.specs.Runs.{stepsOf, sentBy}
+use Rattle.terminal.specs.Answers.{Outcome, unchanged, did}
+use Rattle.terminal.specs.Calls.{startCall, hostCall, keyCall}
+use Rattle.promises.specs.Entries.{Entries, ourEntries}
+
+-- Ours with another function for one of the three.
+abbrev withStart : (Size → Page → Outcome) → Entries
+withStart start = record { start = start; host = hostCall; key = keyCall }
+
+abbrev withHost : (Terminal → List ℕ → List ℕ → Outcome) → Entries
+withHost host = record { start = startCall; host = host; key = keyCall }
+
+abbrev pub withKey : (Terminal → ℕ → List ℕ → Outcome) → Entries
+withKey key = record { start = startCall; host = hostCall; key = key }
+
+-- An outcome with another terminal, other bytes taken, another count, another output.
+abbrev leaving : Terminal → Outcome → Outcome
+leaving t o = record { number = o .number; taken = o .taken; sent = o .sent; stored = o .stored; terminal = t; output = o .output }
+
+abbrev taking : ℕ → Outcome → Outcome
+taking taken o = record { number = o .number; taken = taken; sent = o .sent; stored = o .stored; terminal = o .terminal; output = o .output }
+
+abbrev pub counting : ℕ → Outcome → Outcome
+counting stored o = record { number = o .number; taken = o .taken; sent = o .sent; stored = stored; terminal = o .terminal; output = o .output }
+
+abbrev pub showing : List ℕ → Outcome → Outcome
+showing output o = record { number = o .number; taken = o .taken; sent = o .sent; stored = o .stored; terminal = o .terminal; output = output }
+
+-- A terminal with another page, with nothing half read, with no cell modified.
+abbrev pub withPage : Page → Terminal → Terminal
+withPage page t = record { state = t .state; page = page }
+
+abbrev withNothingRead : Terminal → Terminal
+withNothingRead t = withState t (withHalf (t .state) nothingRead)
+
+abbrev pub withTagsCleared : Terminal → Terminal
+withTagsCleared t = withPage (pageOf (t .page .characters) (modifiedCleared (t .page .marks))) t
+
+-- An outcome that leaves nothing half read; one changed only where it is given 0, or 3.
+abbrev pub withoutHalfRead : Outcome → Outcome
+withoutHalfRead o = leaving (withNothingRead (o .terminal)) o
+
+abbrev on0 : (Outcome → Outcome) → Outcome → Outcome
+on0 change o = if eqb (o .number) 0 then change o else o
+
+abbrev on3 : (Outcome → Outcome) → Outcome → Outcome
+on3 change o = if eqb (o .number) 3 then change o else o
+
+-- Ours with what every host call gives and leaves changed.
+abbrev changingHost : (Outcome → Outcome) → Entries
+changingHost change = withHost (λ t bytes output. change (hostCall t bytes output))
+
+-- Demand 1, numbers. It always refuses: every host call is given 6.
+abbrev pub alwaysRefuses : Entries
+alwaysRefuses = withHost (λ t bytes output. unchanged TooLong t output)
+
+-- Under a lock it gives 5 before 4.
+abbrev pub lockedBeforeUnknown : Entries
+lockedBeforeUnknown = withKey (λ t key output.
+    let outcome = keyCall t key output in
+    if eqb (outcome .number) 4 and isLocked (t .state) then unchanged Locked t output
+    else outcome)
+
+-- Demand 1, refusals. A start given 1 blanks the page that it was lent.
+abbrev pub blanksRefusedStart : Entries
+blanksRefusedStart = withStart (λ size page.
+    let outcome = startCall size page in
+    if eqb (outcome .number) 0 then outcome
+    else leaving (withPage (pageOf (replicate (length (page .characters)) 0x20) (page .marks)) (outcome .terminal)) outcome)
+
+-- 266 or 267 given 3 clears modified all the same.
+abbrev pub clearsTagsRefused : Entries
+clearsTagsRefused = withKey (λ t key output. on3 (leaving (withTagsCleared t)) (keyCall t key output))
+
+-- A host call given 3 loses the sequence that its next command has begun.
+abbrev pub losesSequenceOn3 : Entries
+losesSequenceOn3 = changingHost (on3 withoutHalfRead)
+
+-- Demand 2, what a call given 0 did. A start leaves an X on the page, a locked keyboard (ESC `) and invented counts.
+abbrev paintedOver : Terminal → Terminal
+paintedOver t = hostStep 0x60 (hostStep 0x1B (hostStep 0x58 t .terminal) .terminal) .terminal
+
+abbrev inventing : Outcome → Outcome
+inventing o = record { number = o .number; taken = 9; sent = 9; stored = 0; terminal = paintedOver (o .terminal); output = o .output }
+
+abbrev pub paintsStart : Entries
+paintsStart = withStart (λ size page. on0 inventing (startCall size page))
+
+-- A start of another size, with as many cells: 24 by 160 for 48 by 80.
+abbrev pub startsOtherSize : Entries
+startsOtherSize = withStart (λ size page.
+    if eqb (size .rows) 48 and eqb (size .columns) 80 then startCall (record { rows = 24; columns = 160 }) page
+    else startCall size page)
+
+-- With that start, some keys are given what ours are given and move the cursor as ours do, and nothing is stored, counted or tagged:
+abbrev feigned : Terminal → ℕ → Outcome → Outcome
+feigned t key o =
+    record { number = o .number; taken = 0; sent = 0; stored = 0; terminal = withState t (keyStep key t .terminal .state); output = o .output }
+
+abbrev muting : (ℕ → Terminal → Bool) → Entries
+muting which = record {
+  start = paintsStart .start;
+  host = hostCall;
+  key = λ t key output. if which key t then on0 (feigned t key) (keyCall t key output) else keyCall t key output;
+}
+
+-- a character that the cell already holds;
+abbrev pub skipsSameCharacter : Entries
+skipsSameCharacter = muting (λ key t. isTyping key and eqb key (getD (t .page .characters) (cursorCell (t .state)) 0))
+
+-- all keys that store, 32 to 126 and 263 to 265.
+abbrev pub deadKeys : Entries
+deadKeys = muting (λ key t. isTyping key or isEditing key)
+
+-- A host call tells of one byte more taken than came.
+abbrev pub takesMore : Entries
+takesMore = changingHost (on0 (λ o. taking (o .taken + 1) o))
+
+-- It writes a 1 past the bytes sent, at the output's tenth place.
+abbrev pub writesPast : Entries
+writesPast = changingHost (on0 (λ o. showing (set (o .output) 9 1) o))
+
+-- Demand 2, cutting. What is half read is lost when a call ends.
+abbrev pub dropsHalfRead : Entries
+dropsHalfRead = changingHost withoutHalfRead
+
+-- It acts on the first byte and feigns the rest.
+abbrev pub actsOnFirstByte : Entries
+actsOnFirstByte = withHost (λ t bytes output. taking (length bytes) (hostCall t (take 1 bytes) output))
+
+-- Demand 2, feeding back. It stores nothing that the host sends.
+abbrev pub storesNoText : Entries
+storesNoText = withHost (λ t bytes output. let outcome = hostCall t bytes output in leaving (withPage (t .page) (outcome .terminal)) outcome)
+
+-- It has a fixed answer: all input is taken, and nothing is done.
+abbrev pub fixedAnswer : Entries
+fixedAnswer = withHost (λ t bytes output. taking (length bytes) (unchanged Done t output))
+
+-- It gives 6 to more than 16 host bytes in a call.
+abbrev pub refusesLongReads : Entries
+refusesLongReads = withHost (λ t bytes output. if ltb 16 (length bytes) then unchanged TooLong t output else hostCall t bytes output)
+
+-- Demand 2, keys. 263 makes the cursor's whole row 20s, protected cells too.
+abbrev rowBlanked : Terminal → Stepped
+rowBlanked t =
+    let from = rowStart (t .state) in
+    let end = from + t .state .size .columns in
+    stores (cellsFrom from end) false (t .state) (partStored blanked from end (t .page))
+
+abbrev pub blanksRow : Entries
+blanksRow = withKey (λ t key output.
+    let outcome = keyCall t key output in
+    if eqb key 263 and eqb (outcome .number) 0 then did Done 0 t output (rowBlanked t ∷ [])
+    else outcome)
+
+-- A typed character is stored on a protected cell too.
+abbrev pub typesOnProtected : Entries
+typesOnProtected = withKey (λ t key output.
+    let outcome = keyCall t key output in
+    if isTyping key and eqb (outcome .number) 7 then
+    did Done 0 t output (stores (cursorCell (t .state) ∷ []) false (t .state) (typed (cursorCell (t .state)) key (t .page)) ∷ [])
+    else outcome)
+
+-- Validity. A host call leaves the cursor in row 0.
+abbrev pub leavesRow0 : Entries
+leavesRow0 = changingHost (λ o. leaving (withState (o .terminal) (withCursor (o .terminal .state) 0 (o .terminal .state .cursor .column))) o)
+
+-- A key sets message 2.
+abbrev pub setsMessage2 : Entries
+setsMessage2 = withKey (λ t key output.
+    let outcome = keyCall t key output in
+    leaving (withState (outcome .terminal) (withLocks (outcome .terminal .state) (outcome .terminal .state .locks .manual) (outcome .terminal .state .locks .soft) 2)) outcome)
+
+-- Continuing. A call given 3 tells of no cells stored, though commands before it were done.
+abbrev pub forgetsCountOn3 : Entries
+forgetsCountOn3 = changingHost (on3 (counting 0))
+
+-- A call given 3 takes the last byte of the command that it doesn't do.
+abbrev pub takesLastByteOn3 : Entries
+takesLastByteOn3 = changingHost (on3 (λ o. taking (o .taken + 1) o))
+
+-- Progress. A host call with much room is given 3 and does nothing, once and again.
+abbrev pub stopsAtOnce : Entries
+stopsAtOnce = withHost (λ t bytes output. unchanged NoRoom t output)
+
+-- It hides that it has sent something.
+abbrev pub hidesSent : Entries
+hidesSent = changingHost (λ o. record { number = 3; taken = o .taken; sent = 0; stored = o .stored; terminal = o .terminal; output = o .output })
+
+-- Calls are steps. An invented count of cells stored.
+abbrev pub inventsCount : Entries
+inventsCount = changingHost (λ o. counting (o .stored + 1) o)
+
+-- The messages of a host call, the last one first.
+abbrev pub sendsBackwards : Entries
+sendsBackwards = withHost (λ t bytes output.
+    let outcome = hostCall t bytes output in
+    showing (placed 0 (sentBy (reverse (stepsOf t (take (outcome .taken) bytes)))) output) outcome)

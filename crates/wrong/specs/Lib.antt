@@ -1,0 +1,4 @@
+pub mod Entries
+pub mod Rules
+pub mod Contracts
+pub mod Finding

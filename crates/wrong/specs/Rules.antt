@@ -1,0 +1,114 @@
+-- Wrong rules: document 01's with one fault each, and entries that follow them. What they do, they tell: so only what is promised of
+-- rules, and demand 3, can tell them from ours.
+use mathlib.Core.Bool.{Bool, true, false}
+use mathlib.Core.List.{List, [], _∷_, _++_, map}
+use Prim.Native.Nat.{ℕ}
+use lib.Dec.{eqb}
+use lib.ListN.{length, take, getD, set, replicate}
+use Rattle.words.specs.Choice.{if_then_else_, _and_}
+use Rattle.words.specs.Lists.{selected}
+use Rattle.page.specs.Marks.{withoutModified}
+use Rattle.page.specs.Page.{Page, pageOf}
+use Rattle.fields.specs.Fields.{Field}
+use Rattle.blocks.specs.Blocks.{encode}
+use Rattle.steps.specs.Steps.{Terminal, Message, silent, report, fullBlock, changedBlock, Stepped, stores, sends, cursorCell}
+use Rattle.steps.specs.Seen.{characterAt, modifiedAt, fieldsHere, entryHere, blockHere}
+use Rattle.steps.specs.Host.{hostStep}
+use Rattle.steps.specs.Keys.{isTyping, keyStep}
+use Rattle.terminal.specs.declared.Answer.the-variants.{NoRoom}
+use Rattle.terminal.specs.Runs.{fitting}
+use Rattle.terminal.specs.Answers.{Outcome, gives}
+use Rattle.terminal.specs.Lines.{_answers_, firstOf, exceedsRoom, keyLines}
+use Rattle.terminal.specs.Calls.{startCall, hostCall}
+use Rattle.promises.specs.Rules.{Rules}
+use Rattle.promises.specs.Entries.{Entries}
+use Rattle.wrong.specs.Entries.{withKey, withPage, withTagsCleared}
+
+abbrev withOnByte : (ℕ → Terminal → Stepped) → Rules
+withOnByte onByte = record { onByte = onByte; onKey = keyStep }
+
+abbrev withOnKey : (ℕ → Terminal → Stepped) → Rules
+withOnKey onKey = record { onByte = hostStep; onKey = onKey }
+
+-- A key call that does another step, after lines 1, 2, 4, 5 and 7; entries whose keys follow other rules.
+abbrev pub keyCallBy : (ℕ → Terminal → Stepped) → Terminal → ℕ → List ℕ → Outcome
+keyCallBy onKey t key output =
+    let room = length output in
+    let pressed = onKey key t ∷ [] in
+    gives (firstOf (take 5 (keyLines t key output) ++ (exceedsRoom room pressed answers NoRoom ∷ []))) 0 t output (fitting room pressed)
+
+abbrev pub keysBy : Rules → Entries
+keysBy rules = withKey (keyCallBy (rules .onKey))
+
+-- Another message for 266 or 267.
+abbrev sendingOn : ℕ → (Terminal → Message) → Rules
+sendingOn sendKey message = withOnKey (λ key t.
+    if eqb key sendKey then sends (message t) (t .state) (withTagsCleared t .page)
+    else keyStep key t)
+
+-- Blocks keep. What a step that sends a block leaves of the page, changed.
+unfoldable pub isBlock : Message → Bool
+isBlock silent = false
+isBlock (report bytes) = false
+isBlock (fullBlock bytes) = true
+isBlock (changedBlock bytes) = true
+
+abbrev pageAfterBlock : (Page → Page) → Stepped → Stepped
+pageAfterBlock change step =
+    if isBlock (step .message) then
+    record {
+      terminal = withPage (change (step .terminal .page)) (step .terminal);
+      message = step .message;
+      cells = step .cells;
+      wasRefused = step .wasRefused;
+      protection = step .protection;
+    }
+    else step
+
+-- Sending clears modified on protected cells too.
+abbrev pub clearsAllTags : Rules
+clearsAllTags = withOnKey (λ key t. pageAfterBlock (λ page. pageOf (page .characters) (map (λ mark. withoutModified mark) (page .marks))) (keyStep key t))
+
+-- ESC S unprotects the first cell.
+abbrev pub unprotectsFirst : Rules
+unprotectsFirst = withOnByte (λ b t. pageAfterBlock (λ page. pageOf (page .characters) (set (page .marks) 0 0)) (hostStep b t))
+
+-- Blocks asked for. 266 clears modified and sends nothing.
+abbrev pub withholdsChanged : Rules
+withholdsChanged = sendingOn 266 (λ t. silent)
+
+-- Blocks asked for, and the bound. A full block ends with 03 twice,
+abbrev pub endsTwice : Rules
+endsTwice = sendingOn 267 (λ t. fullBlock (blockHere true t ++ (0x03 ∷ [])))
+
+-- or a changed block is 35,186 bytes of 03, whatever the page.
+abbrev pub sendsFixedBlock : Rules
+sendsFixedBlock = sendingOn 266 (λ t. changedBlock (replicate 35186 0x03))
+
+-- The copy. A changed block has those fields whose first cell is modified.
+unfoldable pub firstCellBlock : Terminal → List ℕ
+firstCellBlock t = encode (map (entryHere t) (selected (λ (field : Field). modifiedAt t (field .start)) (fieldsHere t)))
+
+abbrev pub looksAtFirstCells : Rules
+looksAtFirstCells = sendingOn 266 (λ t. changedBlock (firstCellBlock t))
+
+-- A changed block is feigned: 03 alone, whatever was typed.
+abbrev pub feignsChangedBlocks : Rules
+feignsChangedBlocks = sendingOn 266 (λ t. changedBlock (0x03 ∷ []))
+
+-- A typed character leaves the tag clear, always,
+abbrev untagged : Terminal → Stepped → Stepped
+untagged t step = stores (step .cells) (step .protection) (step .terminal .state) (pageOf (step .terminal .page .characters) (t .page .marks))
+
+abbrev pub neverTags : Rules
+neverTags = withOnKey (λ key t. if isTyping key then untagged t (keyStep key t) else keyStep key t)
+
+-- or when it stores the same character.
+abbrev pub tagsOnlyChanges : Rules
+tagsOnlyChanges = withOnKey (λ key t.
+    if isTyping key and eqb key (characterAt t (cursorCell (t .state))) then untagged t (keyStep key t)
+    else keyStep key t)
+
+-- Sending doesn't clear modified.
+abbrev pub keepsTags : Rules
+keepsTags = withOnKey (λ key t. pageAfterBlock (λ page. t .page) (keyStep key t))
