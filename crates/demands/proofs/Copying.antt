@@ -1,8 +1,8 @@
 -- Demand 3: a changed block that 266 sent, laid over the full block that 267 sent before one key, is the copy of the page.
 use mathlib.Core.Path.{_≡_, refl, sym, ap, _∙_, subst}
 use mathlib.Core.Bool.{Bool, true, false}
-use mathlib.Core.List.{List, [], _∷_, append-nil}
-use Prim.Native.Nat.{ℕ, _≤_}
+use mathlib.Core.List.{List, [], _∷_, _++_, map, append-nil}
+use Prim.Native.Nat.{ℕ, zero, suc, _≤_}
 use borrow.Author.Tests.{eqb-true}
 use denote.Enum.Declared
 use lib.Dec.{eqb}
@@ -15,6 +15,7 @@ use Rattle.blocks.specs.Blocks.{entriesSent, block}
 use Rattle.blocks.specs.Lay.{lay}
 use Rattle.blocks.proofs.Pages.{valid-entries}
 use Rattle.steps.specs.Steps.{Terminal, Message, silent, report, fullBlock, changedBlock, Stepped, bytesOf, blockMessage, Valid}
+use Rattle.steps.specs.Seen.{blockHere}
 use Rattle.steps.specs.Commands.{sendBlock}
 use Rattle.steps.specs.Keys.{isTyping, keyStep}
 use Rattle.terminal.specs.declared.Answer.{Answer}
@@ -24,11 +25,11 @@ use Rattle.terminal.specs.Runs.{after, sentBy}
 use Rattle.terminal.specs.Answers.{Outcome, numberOf, given, bytesSent}
 use Rattle.terminal.specs.Calls.{keyCall}
 use Rattle.terminal.proofs.Answer.{the-type}
-use Rattle.terminal.proofs.Theorems.{key-done, bytes-sent}
-use Rattle.promises.specs.Streams.{press, stepOf, steps, keyPress, outcomeOf}
-use Rattle.promises.specs.Copying.{HostStoresNothing, copyOf, laid, RightAfter, CopyHolds}
+use Rattle.terminal.proofs.Theorems.{key-done, key-found-valid, bytes-sent}
+use Rattle.promises.specs.Rules.{press, stepOf, steps}
+use Rattle.promises.specs.Copying.{HostStoresNothing, blockIn, blocksSent, standings, copies}
 use Rattle.promises.proofs.Keeping.{sendable, same-full-block}
-use Rattle.promises.proofs.OurLaws.{our-step-laws, our-call-laws}
+use Rattle.promises.proofs.OurLaws.{our-step-laws}
 use Rattle.promises.proofs.Theorems as Promised
 use Rattle.laying.specs.declared.Laid.{Laid}
 use Rattle.laying.specs.Laying.{IsBlock, laying}
@@ -84,6 +85,12 @@ module _ (t : Terminal) where
   unfolding block
   block-is-block valid full = is-block (entriesSent full (t .state .size .columns) (t .page)) (valid-entries (t .state .size .columns) (t .page) (sendable valid) full)
 
+-- The block at a place of a list, counted from 0.
+unfoldable place : ℕ → List (List ℕ) → List ℕ
+place n [] = []
+place zero (block ∷ later) = block
+place (suc n) (block ∷ later) = place n later
+
 -- The three steps.
 module _ (t : Terminal) (valid : Valid t) (key : ℕ) where
   abbrev one : Stepped
@@ -102,38 +109,44 @@ module _ (t : Terminal) (valid : Valid t) (key : ℕ) where
   unfolding stepOf
   one-valid = our-step-laws .every-step (press 267) t valid .valid
 
-  first-is-copy : first-block ≡ copyOf (one .terminal)
-  unfolding stepOf
-  first-is-copy = Promised.copying t valid (press 267) first-block (full-sent t) .0
+  -- After 267, the key and 266, each block laid over what the host had.
+  holds : first-block ∷ copies first-block (blockIn (two .message) ++ (blockIn (three .message) ++ []))
+      ≡ map (blockHere true) (one .terminal ∷ (map (λ (b : List ℕ). two .terminal) (blockIn (two .message)) ++ (map (λ (b : List ℕ). three .terminal) (blockIn (three .message)) ++ [])))
+  unfolding stepOf steps HostStoresNothing blocksSent standings
+  holds = Promised.copying-steps t valid (press 267) first-block (full-sent t) (press key ∷ press 266 ∷ []) tt
 
-  holds : RightAfter (two .message) (laid (two .message) first-block) (two .terminal) × RightAfter (three .message) (laid (three .message) (laid (two .message) first-block)) (three .terminal)
-  unfolding stepOf steps HostStoresNothing CopyHolds
-  holds =
-      let all = Promised.copying t valid (press 267) first-block (full-sent t) .1 (press key ∷ press 266 ∷ []) tt in
-      (all .0, all .1 .0)
+  -- Where the key sent nothing that is a block, where it sent one, and 266 its own.
+  copies-then : (sent : List (List ℕ)) → blockIn (two .message) ≡ sent
+      → first-block ∷ copies first-block (sent ++ (blockOf (two .terminal) false ∷ [])) ≡ map (blockHere true) (one .terminal ∷ (map (λ (b : List ℕ). two .terminal) sent ++ (three .terminal ∷ [])))
+  unfolding blockIn
+  copies-then sent told =
+      let last = ap blockIn (changed-sent (two .terminal)) in
+      subst (λ (blocks : List (List ℕ)). first-block ∷ copies first-block (sent ++ (blocks ++ [])) ≡ map (blockHere true) (one .terminal ∷ (map (λ (b : List ℕ). two .terminal) sent ++ (map (λ (b : List ℕ). three .terminal) blocks ++ [])))) last
+      (subst (λ (blocks : List (List ℕ)). first-block ∷ copies first-block (blocks ++ (blockIn (three .message) ++ [])) ≡ map (blockHere true) (one .terminal ∷ (map (λ (b : List ℕ). two .terminal) blocks ++ (map (λ (b : List ℕ). three .terminal) (blockIn (three .message)) ++ [])))) told holds)
 
-  -- The key between leaves the copy: if it sends a block itself, it stores nothing.
-  page-unstored : two .cells ≡ [] → copyOf (two .terminal) ≡ first-block
+  -- A key that sends a block itself stores nothing, so the page has the first block still.
+  page-unstored : two .cells ≡ [] → blockHere true (two .terminal) ≡ blockHere true (one .terminal)
   unfolding stepOf
   page-unstored no-cell =
-      sym (same-full-block (one .terminal) one-valid two (our-step-laws .every-step (press key) (one .terminal) one-valid) no-cell) ∙ sym first-is-copy
+      sym (same-full-block (one .terminal) one-valid two (our-step-laws .every-step (press key) (one .terminal) one-valid) no-cell)
 
-  copy-stays : (message : Message) → two .message ≡ message → laid message first-block ≡ first-block
-  unfolding laid RightAfter stepOf
-  copy-stays silent sends = refl
-  copy-stays (report bytes) sends = refl
-  copy-stays (fullBlock bytes) sends =
-      subst (λ (m : Message). RightAfter m (laid m first-block) (two .terminal)) sends (holds .0)
-      ∙ page-unstored (our-step-laws .every-step (press key) (one .terminal) one-valid .full-block bytes sends .no-cell)
-  copy-stays (changedBlock bytes) sends =
-      subst (λ (m : Message). RightAfter m (laid m first-block) (two .terminal)) sends (holds .0)
-      ∙ page-unstored (our-step-laws .every-step (press key) (one .terminal) one-valid .changed-block bytes sends .no-cell)
+  unsent : blockIn (two .message) ≡ [] → lay (blockOf (two .terminal) false) first-block ≡ blockHere true (three .terminal)
+  unfolding copies place
+  unsent none = ap (place 1) (copies-then [] none)
 
-  copy-right : lay (blockOf (two .terminal) false) first-block ≡ copyOf (three .terminal)
-  unfolding laid RightAfter
-  copy-right =
-      ap (lay (blockOf (two .terminal) false)) (sym (copy-stays (two .message) refl))
-      ∙ subst (λ (m : Message). RightAfter m (laid m (laid (two .message) first-block)) (three .terminal)) (changed-sent (two .terminal)) (holds .1)
+  sent-itself : (bytes : List ℕ) → blockIn (two .message) ≡ bytes ∷ [] → two .cells ≡ [] → lay (blockOf (two .terminal) false) first-block ≡ blockHere true (three .terminal)
+  unfolding copies place
+  sent-itself bytes sent no-cell =
+      let all = copies-then (bytes ∷ []) sent in
+      let same : first-block ≡ lay bytes first-block = ap (place 0) all ∙ sym (page-unstored no-cell) ∙ sym (ap (place 1) all) in
+      ap (lay (blockOf (two .terminal) false)) same ∙ ap (place 2) all
+
+  copy-right : (message : Message) → two .message ≡ message → lay (blockOf (two .terminal) false) first-block ≡ blockHere true (three .terminal)
+  unfolding blockIn stepOf
+  copy-right silent sends = unsent (ap blockIn sends)
+  copy-right (report bytes) sends = unsent (ap blockIn sends)
+  copy-right (fullBlock bytes) sends = sent-itself bytes (ap blockIn sends) (our-step-laws .every-step (press key) (one .terminal) one-valid .full-block bytes sends .no-cell)
+  copy-right (changedBlock bytes) sends = sent-itself bytes (ap blockIn sends) (our-step-laws .every-step (press key) (one .terminal) one-valid .changed-block bytes sends .no-cell)
 
 -- A key call given 0 is its key's step.
 record Pressed (t : Terminal) (key : ℕ) (outcome : Outcome) : Type 0 where
@@ -142,10 +155,10 @@ record Pressed (t : Terminal) (key : ℕ) (outcome : Outcome) : Type 0 where
   sent : bytesSent outcome ≡ bytesOf (keyStep key t .message)
 
 pressed : (t : Terminal) (key : ℕ) (lent : List ℕ) → keyCall t key lent .number ≡ 0 → Pressed t key (keyCall t key lent)
-unfolding outcomeOf after sentBy
-pressed t key lent zero =
-    let did = key-done t key lent zero in
-    record { valid = our-call-laws .done-is-valid (keyPress key lent) t zero; terminal = did .terminal; sent = bytes-sent did ∙ append-nil _ }
+unfolding after sentBy
+pressed t key lent is-done =
+    let did = key-done t key lent is-done in
+    record { valid = key-found-valid t key lent is-done; terminal = did .terminal; sent = bytes-sent did ∙ append-nil _ }
 
 -- What the calls sent, and where all were given 0, what that is.
 module _ {t : Terminal} {key : ℕ} {lentFull lentTyped lentChanged : List ℕ} {replies : KeyReplies} {page : Page} {full typed changed : List ℕ} (keys : ThreeKeys t key lentFull lentTyped lentChanged replies page full typed changed) where
@@ -186,14 +199,14 @@ module _ {t : Terminal} {key : ℕ} {lentFull lentTyped lentChanged : List ℕ} 
     pub changed-is-block : IsBlock (take (replies .changed .sent) changed)
     changed-is-block = subst IsBlock (sym changed-bytes) (block-is-block (typedCall t key lentFull lentTyped .terminal) (third-pressed .valid) false)
 
-    laid-right : lay (take (replies .changed .sent) changed) (take (replies .full .sent) full) ≡ copyOf (record { state = replies .changed .state; page = page })
+    laid-right : lay (take (replies .changed .sent) changed) (take (replies .full .sent) full) ≡ blockHere true (record { state = replies .changed .state; page = page })
     laid-right =
         (λ i. lay (changed-bytes i) (full-bytes i))
         ∙ ap (λ (u : Terminal). lay (blockOf u false) (blockOf t true)) before-changed
-        ∙ copy-right t (first-pressed .valid) key
-        ∙ ap (λ (u : Terminal). copyOf (keyStep 266 u .terminal)) (sym before-changed)
-        ∙ ap copyOf (sym (third-pressed .terminal))
-        ∙ ap (λ (o : Outcome). copyOf (o .terminal)) (sym (keys .third))
+        ∙ copy-right t (first-pressed .valid) key (two t (first-pressed .valid) key .message) refl
+        ∙ ap (λ (u : Terminal). blockHere true (keyStep 266 u .terminal)) (sym before-changed)
+        ∙ ap (blockHere true) (sym (third-pressed .terminal))
+        ∙ ap (λ (o : Outcome). blockHere true (o .terminal)) (sym (keys .third))
 
     pub copy-made : (lent : List ℕ) {output : List ℕ} {answer : Laid} →
         record { answer = answer; output = output } ≡ laying (lay (take (replies .changed .sent) changed) (take (replies .full .sent) full)) lent →
@@ -201,9 +214,9 @@ module _ {t : Terminal} {key : ℕ} {lentFull lentTyped lentChanged : List ℕ} 
     unfolding copying
     copy-made lent made =
         let as-copy = made ∙ ap (λ (bytes : List ℕ). laying bytes lent) laid-right in
-        record { keys = keys; is-copy = (λ i. record { copy = Made (as-copy i .answer); output = as-copy i .output }) ∙ ap (λ (all : Bool). copying all (copyOf (record { state = replies .changed .state; page = page })) lent) (sym answered) }
+        record { keys = keys; is-copy = (λ i. record { copy = Made (as-copy i .answer); output = as-copy i .output }) ∙ ap (λ (all : Bool). copying all (blockHere true (record { state = replies .changed .state; page = page })) lent) (sym answered) }
 
   pub copy-not-made : (lent : List ℕ) → allAnswered replies ≡ false → CopyKept t key lentFull lentTyped lentChanged lent (record { replies = replies; copy = NotSent }) page full typed changed lent
   unfolding copying
   copy-not-made lent refused =
-      record { keys = keys; is-copy = ap (λ (all : Bool). copying all (copyOf (record { state = replies .changed .state; page = page })) lent) (sym refused) }
+      record { keys = keys; is-copy = ap (λ (all : Bool). copying all (blockHere true (record { state = replies .changed .state; page = page })) lent) (sym refused) }

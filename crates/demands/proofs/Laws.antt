@@ -1,5 +1,6 @@
 -- What the functions' calls give, put together.
 use mathlib.Core.Path.{_≡_, sym, ap, _∙_, subst}
+use mathlib.Core.Bool.{true}
 use mathlib.Core.List.{List, [], _∷_, _++_, append-nil}
 use Prim.Native.Nat.{ℕ, _+_, _-_, _<_, _≤_}
 use native.Mathlib.Nat.{add-zero}
@@ -8,7 +9,8 @@ use lib.ListN.{length, take, drop, length-drop, take-append-drop, drop-of-length
 use lib.Seq.{take-all}
 use Rattle.words.proofs.Output.{placed-length}
 use Rattle.page.specs.Page.{Page}
-use Rattle.steps.specs.Steps.{Terminal, bytesOf}
+use Rattle.steps.specs.Steps.{Terminal, Message, bytesOf, blockMessage, Valid}
+use Rattle.steps.specs.Seen.{blockHere}
 use Rattle.steps.specs.Keys.{keyStep}
 use Rattle.terminal.specs.declared.Reply.{Reply}
 use Rattle.terminal.specs.Runs.{sentBy}
@@ -16,10 +18,13 @@ use Rattle.terminal.specs.Answers.{Outcome, given, unchanged, did, bytesSent}
 use Rattle.terminal.specs.Calls.{hostCall, keyCall}
 use Rattle.terminal.proofs.Cases.{KeyCase, key-case}
 use Rattle.terminal.proofs.Cases as Cases
-use Rattle.terminal.proofs.Theorems.{host-done, bytes-sent}
-use Rattle.promises.specs.Streams.{ours, outcomeOf, outcomes, Total, total, AllDone, no-more, done, joinedBytes}
-use Rattle.promises.specs.Promises.{WroteFullBlock, by-key, Receives}
-use Rattle.promises.proofs.Theorems.{cutting, feeding-back}
+use Rattle.terminal.proofs.Theorems.{host-done, key-done, key-found-valid, bytes-sent}
+use Rattle.promises.specs.Rules.{ourRules, press, stepOf, byteSteps, Total, totalOf}
+use Rattle.promises.specs.Entries.{outcomeOf, outcomes, total, AllDone, no-more, done, joinedBytes}
+use Rattle.promises.specs.FeedingBack.{Receives}
+use Rattle.promises.specs.Further.{full-by-267}
+use Rattle.promises.proofs.Asking.{block-asked}
+use Rattle.promises.proofs.Theorems.{demand-2}
 use Rattle.demands.specs.Demands.{InTwoReads, Restored, SentOn}
 
 -- A cut past the end is one at the end.
@@ -53,16 +58,15 @@ module _ (t : Terminal) (bytes : List ℕ) (cut : ℕ) (lent lentLater : List �
   abbrev second-call : Outcome
   second-call = hostCall (first-call .terminal) (drop cut bytes) lentLater
 
-  cut-anywhere : first-call .number ≡ 0 → second-call .number ≡ 0 → (enough : List ℕ) → hostCall t bytes enough .number ≡ 0 → together first-call second-call ≡ total t (hostCall t bytes enough ∷ [])
+  cut-anywhere : first-call .number ≡ 0 → second-call .number ≡ 0 → together first-call second-call ≡ totalOf t (byteSteps ourRules t bytes)
   unfolding outcomes outcomeOf joinedBytes
-  cut-anywhere one two enough whole =
+  cut-anywhere one two =
+      let whole : take cut bytes ++ (drop cut bytes ++ []) ≡ bytes = rw (append-nil (drop cut bytes)) (take-append-drop cut bytes) in
       together-is t first-call second-call
-      ∙ cutting t
+      ∙ demand-2 .cutting t
       (record { bytes = take cut bytes; output = lent } ∷ record { bytes = drop cut bytes; output = lentLater } ∷ [])
-      (record { bytes = bytes; output = enough } ∷ [])
-      (rw (append-nil (drop cut bytes), append-nil bytes) (take-append-drop cut bytes))
       (done first-call _ one (done second-call _ two no-more))
-      (done (hostCall t bytes enough) _ whole no-more)
+      ∙ ap (λ (stream : List ℕ). totalOf t (byteSteps ourRules t stream)) whole
 
   pub in-two : {first second : Reply} {between page : Page} {part rest output outputLater : List ℕ} →
       part ≡ take cut bytes → rest ≡ drop cut bytes →
@@ -76,9 +80,9 @@ module _ (t : Terminal) (bytes : List ℕ) (cut : ℕ) (lent lentLater : List �
       record {
         first = (λ i. given first (sym left i .page) output) ∙ one;
         second = two;
-        as-one = λ first-done second-done enough whole.
+        as-one = λ first-done second-done.
             (λ i. together (one i) (two i))
-            ∙ cut-anywhere (sym (ap (λ (o : Outcome). o .number) one) ∙ first-done) (sym (ap (λ (o : Outcome). o .number) two) ∙ second-done) enough whole;
+            ∙ cut-anywhere (sym (ap (λ (o : Outcome). o .number) one) ∙ first-done) (sym (ap (λ (o : Outcome). o .number) two) ∙ second-done);
       }
 
 -- A key's bytes fit the output, whatever it is given.
@@ -99,22 +103,31 @@ sent-fits t key lent is = subst (λ (o : Outcome). o .sent ≤ length (o .output
 first-done : {outcome : Outcome} {later : List Outcome} → AllDone (outcome ∷ later) → outcome .number ≡ 0
 first-done (done outcome later number further) = number
 
-restored : (sender receiver : Terminal) (block lentThere : List ℕ) → WroteFullBlock ours sender block → Receives sender receiver → Restored sender receiver block (hostCall receiver block lentThere)
-unfolding outcomes outcomeOf total joinedBytes
-restored sender receiver block lentThere wrote receives =
-    let outcome = hostCall receiver block lentThere in
-    let fed = feeding-back sender receiver block (record { bytes = block; output = lentThere } ∷ []) wrote receives (append-nil block) in
-    let number : outcome .number ≡ 0 = first-done (fed .answered) in
-    let steps-done = host-done receiver block lentThere number in
-    record {
-      answered = number;
-      nothing-sent = steps-done .sent ∙ ap length (sym (bytes-sent steps-done) ∙ sym (append-nil (bytesSent outcome)) ∙ fed .nothing-sent);
-      nothing-refused = fed .nothing-refused;
-      characters = fed .characters;
-      protected-character = fed .protected-character;
-      protection = fed .protection;
-      protected-mark = fed .protected-mark;
-    }
+module _ (sender receiver : Terminal) (lentThere : List ℕ) (valid : Valid sender) (receives : Receives sender receiver) where
+  abbrev block : List ℕ
+  block = blockHere true sender
+
+  restored : Restored sender receiver block (hostCall receiver block lentThere)
+  unfolding outcomes outcomeOf total joinedBytes stepOf blockMessage
+  restored =
+      let outcome = hostCall receiver block lentThere in
+      let fed = demand-2 .feeding-back sender receiver (press 267) block (record { bytes = block; output = lentThere } ∷ []) valid (block-asked sender true (press 267) full-by-267) receives (append-nil block) in
+      let number : outcome .number ≡ 0 = first-done (fed .answered) in
+      let steps-done = host-done receiver block lentThere number in
+      record {
+        answered = number;
+        nothing-sent = steps-done .sent ∙ ap length (sym (bytes-sent steps-done) ∙ sym (append-nil (bytesSent outcome)) ∙ fed .nothing-sent);
+        nothing-refused = fed .nothing-refused;
+        characters = fed .characters;
+        protected-cells = fed .protected-cells;
+        protection = fed .protection;
+      }
+
+-- What 267 sends where it is given 0: the full block of the page.
+full-bytes-sent : (sender : Terminal) (lent : List ℕ) → keyCall sender 267 lent .number ≡ 0 → bytesSent (keyCall sender 267 lent) ≡ blockHere true sender
+unfolding sentBy bytesOf stepOf blockMessage
+full-bytes-sent sender lent is-done =
+    bytes-sent (key-done sender 267 lent is-done) ∙ ap (λ (message : Message). bytesOf message ++ []) (block-asked sender true (press 267) full-by-267) ∙ append-nil _
 
 pub sent-on : (sender receiver : Terminal) (lent lentThere : List ℕ) {sends gets : Outcome} → sends ≡ keyCall sender 267 lent → gets ≡ hostCall receiver (bytesSent sends) lentThere → SentOn sender receiver lent lentThere sends gets
 sent-on sender receiver lent lentThere {sends} one two =
@@ -122,7 +135,9 @@ sent-on sender receiver lent lentThere {sends} one two =
       first = one;
       second = two;
       fed-back = λ is-done receives.
-          let wrote = by-key lent (sym (ap (λ (o : Outcome). o .number) one) ∙ is-done) in
-          let same = subst (λ (o : Outcome). WroteFullBlock ours sender (bytesSent o)) (sym one) wrote in
-          subst (Restored sender receiver (bytesSent sends)) (sym two) (restored sender receiver (bytesSent sends) lentThere same receives);
+          let zero-given = sym (ap (λ (o : Outcome). o .number) one) ∙ is-done in
+          let bytes = ap bytesSent one ∙ full-bytes-sent sender lent zero-given in
+          subst (Restored sender receiver (bytesSent sends)) (sym two)
+          (subst (λ (block : List ℕ). Restored sender receiver block (hostCall receiver block lentThere)) (sym bytes)
+          (restored sender receiver lentThere (key-found-valid sender 267 lent zero-given) receives));
     }

@@ -1,19 +1,19 @@
 -- The demands, said of calls that run: what each function gives and leaves is that of its calls, and then the promise.
 use mathlib.Core.Path.{_≡_}
 use mathlib.Core.Bool.{Bool, true, false}
-use mathlib.Core.List.{List, [], _∷_, _++_, map, List·Memᴰ}
+use mathlib.Core.List.{List, _++_, List·Memᴰ}
 use Prim.Native.Nat.{ℕ, _+_, _<_}
 use lib.Dec.{eqb}
-use lib.ListN.{length, take, drop, getD}
+use lib.ListN.{take, drop}
 use Rattle.words.specs.Choice.{_and_}
-use Rattle.page.specs.Marks.{unprotected}
 use Rattle.page.specs.Page.{Page}
 use Rattle.steps.specs.Steps.{Terminal, Stepped}
+use Rattle.steps.specs.Seen.{cellsHere, characterAt, free, blockHere}
+use Rattle.steps.specs.Claims.{ProtectedKept}
 use Rattle.terminal.specs.Answers.{Outcome, numberOf, given, bytesSent}
 use Rattle.terminal.specs.Calls.{hostCall, keyCall}
-use Rattle.promises.specs.Streams.{ours, byte, steps, total}
-use Rattle.promises.specs.Promises.{Receives}
-use Rattle.promises.specs.Copying.{copyOf}
+use Rattle.promises.specs.Rules.{ourRules, byteSteps, totalOf}
+use Rattle.promises.specs.FeedingBack.{Receives}
 use Rattle.laying.specs.Laying.{laying}
 use Rattle.demands.specs.declared.Replies.{Replies}
 use Rattle.demands.specs.declared.KeyReplies.{KeyReplies}
@@ -21,27 +21,27 @@ use Rattle.demands.specs.declared.Copy.{Copy}
 use Rattle.demands.specs.declared.Copy.the-variants.{Made, NotSent}
 use Rattle.demands.specs.declared.Copied.{Copied}
 
--- Demand 2, cutting: host bytes in two reads, each with an output of its own. The page between them is the first call's.
+-- Demand 2, cutting: host bytes in two reads, each with an output of its own. The page between them is the first call's. If neither
+-- is refused, they leave, send and store what the rules' steps of all the bytes do.
 pub record InTwoReads (t : Terminal) (bytes : List ℕ) (cut : ℕ) (lent lentLater : List ℕ) (replies : Replies) (page : Page) (output outputLater : List ℕ) : Type 0 where
   pub first : given (replies .first) (hostCall t (take cut bytes) lent .terminal .page) output ≡ hostCall t (take cut bytes) lent
   pub second : given (replies .second) page outputLater ≡ hostCall (hostCall t (take cut bytes) lent .terminal) (drop cut bytes) lentLater
   pub as-one : numberOf (replies .first .answer) ≡ 0 → numberOf (replies .second .answer) ≡ 0 →
-      (enough : List ℕ) → hostCall t bytes enough .number ≡ 0 →
       record {
         terminal = record { state = replies .second .state; page = page };
         sent = take (replies .first .sent) output ++ take (replies .second .sent) outputLater;
         stored = replies .first .stored + replies .second .stored;
-      } ≡ total t (hostCall t bytes enough ∷ [])
+      } ≡ totalOf t (byteSteps ourRules t bytes)
 
 -- Demand 2, feeding back: what a receiver's call gave and left that was fed the sender's full block.
 pub record Restored (sender receiver : Terminal) (block : List ℕ) (outcome : Outcome) : Type 0 where
   pub answered : outcome .number ≡ 0
   pub nothing-sent : outcome .sent ≡ 0
-  pub nothing-refused : (step : Stepped) → List·Memᴰ step (steps ours receiver (map byte block)) → step .wasRefused ≡ false
-  pub characters : (cell : ℕ) → cell < length (sender .page .marks) → unprotected (sender .page .marks) cell ≡ true → getD (outcome .terminal .page .characters) cell 0 ≡ getD (sender .page .characters) cell 0
-  pub protected-character : (cell : ℕ) → unprotected (sender .page .marks) cell ≡ false → getD (outcome .terminal .page .characters) cell 0 ≡ getD (receiver .page .characters) cell 0
-  pub protection : (cell : ℕ) → cell < length (sender .page .marks) → unprotected (outcome .terminal .page .marks) cell ≡ unprotected (sender .page .marks) cell
-  pub protected-mark : (cell : ℕ) → unprotected (sender .page .marks) cell ≡ false → getD (outcome .terminal .page .marks) cell 0 ≡ getD (receiver .page .marks) cell 0
+  pub nothing-refused : (step : Stepped) → List·Memᴰ step (byteSteps ourRules receiver block) → step .wasRefused ≡ false
+  pub characters : (cell : ℕ) → cell < cellsHere sender → free sender cell ≡ true →
+      characterAt (outcome .terminal) cell ≡ characterAt sender cell
+  pub protected-cells : (cell : ℕ) → free sender cell ≡ false → ProtectedKept (receiver .page) (outcome .terminal .page) cell
+  pub protection : (cell : ℕ) → cell < cellsHere sender → free (outcome .terminal) cell ≡ free sender cell
 
 -- Key 267 at the sender, and the bytes that it sent as host bytes to the receiver.
 pub record SentOn (sender receiver : Terminal) (lent lentThere : List ℕ) (sends gets : Outcome) : Type 0 where
@@ -81,4 +81,4 @@ copying false bytes lent = record { copy = NotSent; output = lent }
 -- The bytes that the host laid are the full block of the page as it then stands.
 pub record CopyKept (t : Terminal) (key : ℕ) (lentFull lentTyped lentChanged lent : List ℕ) (copied : Copied) (page : Page) (full typed changed output : List ℕ) : Type 0 where
   pub keys : ThreeKeys t key lentFull lentTyped lentChanged (copied .replies) page full typed changed
-  pub is-copy : record { copy = copied .copy; output = output } ≡ copying (allAnswered (copied .replies)) (copyOf (record { state = copied .replies .changed .state; page = page })) lent
+  pub is-copy : record { copy = copied .copy; output = output } ≡ copying (allAnswered (copied .replies)) (blockHere true (record { state = copied .replies .changed .state; page = page })) lent
