@@ -6,4 +6,6 @@ pub mod Theorems
 pub mod Silent
 pub mod Finals
 pub mod Stepping
+pub mod Streams
 pub mod Examples
+pub mod Cells
