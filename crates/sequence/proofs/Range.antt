@@ -8,11 +8,11 @@ use native.Mathlib.Omega.{arith}
 use borrow.Author.Tests.{ltb-true, ltb-false, leb-true, leb-false, eqb-true, eqb-false}
 use lib.Dec.{ltb, leb, eqb}
 use lib.ListN.{getD}
-use Rattle.words.specs.Choice.{if_then_else_, _and_, _is_to_}
+use Rattle.words.specs.Choice.{_and_, _is_to_}
 use Rattle.words.proofs.Choosing.{true-is-not-false, either-line, both, one-fails, range-holds, range-fails, refuted, le-or-lt, not-both}
 use Rattle.sequence.specs.declared.HalfRead.{HalfRead}
 use Rattle.sequence.specs.Record.{largestArgument, argumentsFit, validHalfRead}
-use Rattle.sequence.specs.Range.{argumentOf, HalfReadOutOfRange, no-such-kind, arguments-counted, argument-unused, spoilt-unused, no-argument, more-than-eight, argument-above-9999, argument-not-reached, spoilt-not-one, spoilt-not-0}
+use Rattle.sequence.specs.Range.{argumentOf, HalfReadOutOfRange, no-such-kind, count-unused, argument-unused, spoilt-unused, no-argument, more-than-eight, argument-above-9999, argument-not-reached, spoilt-not-one, spoilt-not-0}
 
 -- The largest that an argument may be, as a bound: at most 9,999, and 0 where it isn't reached.
 largest-at-most : (i reached : ℕ) → largestArgument i reached ≤ 9999
@@ -82,7 +82,7 @@ module _ (half : HalfRead) where
       ⊎-elim
       (λ q. no-such-kind (past-2 (half .kind) (leb-false (half .kind) 2 q) k))
       (λ q. ⊎-elim
-      (λ r. arguments-counted k (eqb-false _ _ r))
+      (λ r. count-unused k (eqb-false _ _ r))
       (λ r. let found = one-too-large 0 0 (half .arguments) r in argument-unused k (found .0) (λ e. omega arith))
       (one-fails q))
       (one-fails p)
@@ -164,7 +164,7 @@ module _ (half : HalfRead) (v : validHalfRead half ≡ true) where
 
   not-out : HalfReadOutOfRange half → ⊥
   not-out (no-such-kind high) = omega (arith, kind-known)
-  not-out (arguments-counted other some) = some (counts-none other)
+  not-out (count-unused other some) = some (counts-none other)
   not-out (argument-unused other i some) = some (uses-none other i)
   not-out (spoilt-unused other t) = not-both t (unspoilt other)
   not-out (no-argument three none) = omega (arith, one-to-eight three .0)

@@ -13,7 +13,7 @@ pub data HalfReadOutOfRange (half : HalfRead) : Type 0 where
   -- none, after ESC, after ESC and an intermediate, after ESC [: kinds 0 to 3
   no-such-kind : 3 < half .kind → HalfReadOutOfRange half
   -- the first three kinds have no arguments and no spoilt flag: parts the kind doesn't use are 0
-  arguments-counted : (half .kind ≡ 3 → ⊥) → (half .count ≡ 0 → ⊥) → HalfReadOutOfRange half
+  count-unused : (half .kind ≡ 3 → ⊥) → (half .count ≡ 0 → ⊥) → HalfReadOutOfRange half
   argument-unused : (half .kind ≡ 3 → ⊥) → (i : ℕ) → (argumentOf half i ≡ 0 → ⊥) → HalfReadOutOfRange half
   spoilt-unused : (half .kind ≡ 3 → ⊥) → half .spoilt ≡ true → HalfReadOutOfRange half
   -- after ESC [ there are 1 to 8 arguments
