@@ -7,4 +7,6 @@ pub mod Silent
 pub mod Lengths
 pub mod Finals
 pub mod Stepping
+pub mod Streams
 pub mod Examples
+pub mod Cells

@@ -4,3 +4,4 @@ pub mod Claims
 pub mod Always
 pub mod Tables
 pub mod Theorems
+pub mod Examples

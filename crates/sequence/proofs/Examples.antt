@@ -1,13 +1,13 @@
 -- The definitions of reading, computed on bytes worked out by hand from document 01: the events, and the record left half read.
 use mathlib.Core.Path.{_≡_, refl}
 use mathlib.Core.List.{List, [], _∷_, map}
-use mathlib.Core.Bool.{false}
+use mathlib.Core.Bool.{Bool, true, false}
 use Prim.Native.Nat.{ℕ}
 use Rattle.words.specs.Choice.{if_then_else_, _and_, _or_, _is_to_}
 use Rattle.sequence.specs.declared.HalfRead.{HalfRead}
 use Rattle.sequence.specs.declared.Event.{Event}
 use Rattle.sequence.specs.declared.Event.the-variants.{Nothing, Text, Control, EscCommand, BracketCommand, Refused}
-use Rattle.sequence.specs.Record.{nothingRead, escRead, intermediateRead, bracketRead, spoiltRead, withDigit, withNextArgument}
+use Rattle.sequence.specs.Record.{nothingRead, escRead, intermediateRead, bracketRead, spoiltRead, largestArgument, argumentsFit, validHalfRead, withDigit, withNextArgument}
 use Rattle.sequence.specs.Reading.{isControl, isCancel, outsideSequence, afterEsc, afterIntermediate, afterBracket, insideSequence, advanceOf}
 
 record Read : Type 0 where
@@ -75,3 +75,43 @@ examples =
 as-worked-out : map (λ (e : Example). reading nothingRead (e .bytes)) examples ≡ map (λ (e : Example). e .read) examples
 unfolding if_then_else_ _and_ _or_ _is_to_ withDigit withNextArgument isControl isCancel outsideSequence afterEsc afterIntermediate afterBracket insideSequence advanceOf noted reading gives bracket examples
 as-worked-out = refl
+
+-- Records in range: one of each of the first three kinds, eight arguments of 9,999, an argument being read, a spoilt one.
+record-of : ℕ → List ℕ → ℕ → Bool → HalfRead
+record-of kind arguments count spoilt = record { kind = kind; arguments = arguments; count = count; spoilt = spoilt }
+
+zeros : List ℕ
+zeros = 0 ∷ 0 ∷ 0 ∷ 0 ∷ 0 ∷ 0 ∷ 0 ∷ 0 ∷ []
+
+inRange : List HalfRead
+inRange =
+    record-of 0 zeros 0 false
+    ∷ record-of 1 zeros 0 false
+    ∷ record-of 2 zeros 0 false
+    ∷ record-of 3 (9999 ∷ 9999 ∷ 9999 ∷ 9999 ∷ 9999 ∷ 9999 ∷ 9999 ∷ 9999 ∷ []) 8 false
+    ∷ record-of 3 (24 ∷ 8 ∷ 0 ∷ 0 ∷ 0 ∷ 0 ∷ 0 ∷ 0 ∷ []) 2 false
+    ∷ record-of 3 zeros 1 true
+    ∷ []
+
+-- And out of range, one for each clause of `HalfReadOutOfRange`, in its order.
+outOfRange : List HalfRead
+outOfRange =
+    record-of 4 zeros 0 false
+    ∷ record-of 1 zeros 1 false
+    ∷ record-of 2 (0 ∷ 0 ∷ 0 ∷ 0 ∷ 0 ∷ 0 ∷ 0 ∷ 1 ∷ []) 0 false
+    ∷ record-of 0 zeros 0 true
+    ∷ record-of 3 zeros 0 false
+    ∷ record-of 3 zeros 9 false
+    ∷ record-of 3 (5 ∷ 10000 ∷ 0 ∷ 0 ∷ 0 ∷ 0 ∷ 0 ∷ 0 ∷ []) 2 false
+    ∷ record-of 3 (5 ∷ 6 ∷ 7 ∷ 0 ∷ 0 ∷ 0 ∷ 0 ∷ 0 ∷ []) 2 false
+    ∷ record-of 3 zeros 2 true
+    ∷ record-of 3 (5 ∷ 0 ∷ 0 ∷ 0 ∷ 0 ∷ 0 ∷ 0 ∷ 0 ∷ []) 1 true
+    ∷ []
+
+pass : map validHalfRead inRange ≡ map (λ (half : HalfRead). true) inRange
+unfolding record-of zeros inRange if_then_else_ _and_ _is_to_ largestArgument argumentsFit validHalfRead
+pass = refl
+
+fail : map validHalfRead outOfRange ≡ map (λ (half : HalfRead). false) outOfRange
+unfolding record-of zeros outOfRange if_then_else_ _and_ _is_to_ largestArgument argumentsFit validHalfRead
+fail = refl

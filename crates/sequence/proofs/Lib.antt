@@ -2,3 +2,4 @@ pub mod Laws
 pub mod Keeping
 pub mod Events
 pub mod Examples
+pub mod Range

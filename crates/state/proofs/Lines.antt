@@ -2,17 +2,19 @@
 use mathlib.Core.Path.{_≡_, refl, sym, _∙_}
 use mathlib.Core.Bool.{Bool, true, false, not}
 use mathlib.Core.List.{List, [], _∷_}
-use mathlib.Core.Logic.{_⊎_, inl, inr, ⊎-elim, _↔_}
+use mathlib.Core.Logic.{⊎-elim, _↔_}
 use Prim.Native.Nat.{ℕ, zero, suc, _+_, _-_, _/_, _%_, _<_, _≤_}
 use native.Mathlib.Omega.{arith}
 use borrow.Author.Tests.{ltb-true, ltb-false, leb-true, leb-false, eqb-true, eqb-false, not-true, not-false}
 use lib.Dec.{leb, eqb}
 use lib.ListN.{length, getD, drop}
 use lib.Seq.{getD-drop}
-use Rattle.words.specs.Choice.{_and_, _or_, _is_to_}
+use Rattle.words.specs.Choice.{_and_, _or_}
 use Rattle.words.specs.Lists.{every}
-use Rattle.words.proofs.Choosing.{true-is-not-false, both, neither, one-fails, range-holds}
+use Rattle.words.proofs.Choosing.{true-is-not-false, both, neither, one-fails, range-holds, range-fails, refuted}
 use Rattle.words.proofs.Passing.{passes}
+use Rattle.sequence.specs.Record.{validHalfRead}
+use Rattle.sequence.proofs.Range.{out-of-range}
 use Rattle.page.specs.Marks.{validCharacter, validMark}
 use Rattle.page.specs.Page.{Page, validPage}
 use Rattle.state.specs.declared.Size.{Size}
@@ -28,10 +30,6 @@ none-of : (n a b c : ℕ) → (eqb n a or eqb n b or eqb n c) ≡ false → (n �
 none-of n a b c p =
     let later = neither (neither p .1) in
     (eqb-false n a (neither p .0), eqb-false n b (later .0), eqb-false n c (later .1))
-
-out-of-range : (n low high : ℕ) → (n is low to high) ≡ false → (n < low) ⊎ (high < n)
-unfolding _is_to_
-out-of-range n low high p = ⊎-elim (λ q. inl (leb-false low n q)) (λ q. inr (leb-false n high q)) (one-fails p)
 
 some-fails : {A : Type 0} (test : A → Bool) (other : A) (list : List A) → every test list ≡ false → (k : ℕ) × (k < length list) × (test (getD list k other) ≡ false)
 unfolding every
@@ -49,10 +47,6 @@ no-stop-past columns stops p k h =
     every-stop [] p k = refl
     every-stop (x ∷ rest) p zero = both p .0
     every-stop (x ∷ rest) p (suc k) = every-stop rest (both p .1) k
-
-refuted : (test : Bool) → (test ≡ true → ⊥) → test ≡ false
-refuted true p = absurd (p refl)
-refuted false p = refl
 
 -- Line 1.
 module _ (size : Size) (page : Page) where
@@ -83,8 +77,8 @@ module _ (s : State) (page : Page) where
   unfolding cursorFits
   cursor-off p =
       ⊎-elim
-      (λ q. ⊎-elim above-first-row below-last-row (out-of-range _ _ _ q))
-      (λ q. ⊎-elim before-first-column past-last-column (out-of-range _ _ _ q))
+      (λ q. ⊎-elim above-first-row below-last-row (range-fails _ _ _ q))
+      (λ q. ⊎-elim before-first-column past-last-column (range-fails _ _ _ q))
       (one-fails p)
 
   stop-past : stopsFit (s .size .columns) (s .stops) ≡ false → Line2 s page
@@ -105,10 +99,13 @@ module _ (s : State) (page : Page) where
   cell-out : every validCharacter (page .characters) ≡ false → Line2 s page
   cell-out p =
       let found = some-fails validCharacter 0 (page .characters) p in
-      ⊎-elim (cell-too-low (found .0) (found .1)) (cell-too-high (found .0) (found .1)) (out-of-range _ _ _ (found .2))
+      ⊎-elim (cell-too-low (found .0) (found .1)) (cell-too-high (found .0) (found .1)) (range-fails _ _ _ (found .2))
 
   marks-out : every validMark (page .marks) ≡ false → Line2 s page
   marks-out p = let found = some-fails validMark 0 (page .marks) p in marks-bit-7 (found .0) (found .1) (ltb-false _ _ (found .2))
+
+  half-out : validHalfRead (s .half) ≡ false → Line2 s page
+  half-out p = half-read-out-of-range (out-of-range (s .half) .0 p)
 
   line-2-holds : (validState s and validPage page) ≡ false → Line2 s page
   unfolding validState validPage
@@ -117,7 +114,7 @@ module _ (s : State) (page : Page) where
       (λ q. ⊎-elim cursor-off
       (λ r. ⊎-elim stop-past
       (λ t. ⊎-elim pen-out
-      (λ u. ⊎-elim message-out half-read-out-of-range (one-fails u))
+      (λ u. ⊎-elim message-out half-out (one-fails u))
       (one-fails t))
       (one-fails r))
       (one-fails q))
@@ -155,7 +152,7 @@ module _ (s : State) (page : Page) (valid : validState s ≡ true) (fine : valid
   not-line-2 (pen-bit-7 high) = omega (arith, pen-is .0)
   not-line-2 (pen-modified set) = omega (arith, pen-is .1, eqb-true (s .modes .pen / 2 % 2) 1 set)
   not-line-2 (message-neither-0-nor-1 not-0 not-1) = let most = leb-true (s .locks .message) 1 (parts s valid .message) in omega arith
-  not-line-2 (half-read-out-of-range out) = true-is-not-false (sym (parts s valid .half) ∙ out)
+  not-line-2 (half-read-out-of-range out) = true-is-not-false (sym (parts s valid .half) ∙ out-of-range (s .half) .1 out)
 
 pub line-2 : (s : State) (page : Page) → ((validState s and validPage page) ≡ false) ↔ Line2 s page
 line-2 s page = (line-2-holds s page, λ line. refuted _ (λ p. not-line-2 s page (both p .0) (both p .1) line))

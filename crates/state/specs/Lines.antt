@@ -1,11 +1,11 @@
 -- Document 01, "Numbers a call gives back": lines 1 and 2 in the table's words, a constructor for each clause.
 use mathlib.Core.Path.{_≡_}
-use mathlib.Core.Bool.{true, false}
+use mathlib.Core.Bool.{true}
 use Prim.Native.Nat.{ℕ, _*_, _<_, _≤_}
 use lib.ListN.{length, getD}
 use Rattle.page.specs.Marks.{isModified}
 use Rattle.page.specs.Page.{Page}
-use Rattle.sequence.specs.Record.{validHalfRead}
+use Rattle.sequence.specs.Range.{HalfReadOutOfRange}
 use Rattle.state.specs.declared.Size.{Size}
 use Rattle.state.specs.declared.State.{State}
 use Rattle.state.specs.Tabs.{stopAt}
@@ -34,5 +34,5 @@ pub data Line2 (s : State) (page : Page) : Type 0 where
   pen-bit-7 : 0x80 ≤ s .modes .pen → Line2 s page
   pen-modified : isModified (s .modes .pen) ≡ true → Line2 s page
   message-neither-0-nor-1 : (s .locks .message ≡ 0 → ⊥) → (s .locks .message ≡ 1 → ⊥) → Line2 s page
-  -- (the record's range is told in sequence/specs/Record.antt)
-  half-read-out-of-range : validHalfRead (s .half) ≡ false → Line2 s page
+  -- the half-read record's clauses have a table of their own
+  half-read-out-of-range : HalfReadOutOfRange (s .half) → Line2 s page

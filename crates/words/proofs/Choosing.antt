@@ -1,11 +1,11 @@
 -- Laws of tests and choices, for proofs that follow a table.
 use mathlib.Core.Path.{_≡_, refl, sym, _∙_}
 use mathlib.Core.Bool.{Bool, true, false}
-use mathlib.Core.Logic.{_⊎_, inl, inr}
+use mathlib.Core.Logic.{_⊎_, inl, inr, ⊎-elim}
 use Prim.Native.Nat.{ℕ, _≤_, _<_}
 use native.Mathlib.Omega.{arith}
 use lib.Dec.{ltb}
-use borrow.Author.Tests.{lt-ltb, le-ltb, le-leb, lt-leb, eq-eqb, ne-eqb, leb-true, ltb-true, ltb-false}
+use borrow.Author.Tests.{lt-ltb, le-ltb, le-leb, lt-leb, eq-eqb, ne-eqb, leb-true, leb-false, ltb-true, ltb-false}
 use Rattle.words.specs.Choice.{if_then_else_, _and_, _or_, _is_to_}
 
 pub true-is-not-false : true ≡ false → ⊥
@@ -98,6 +98,15 @@ range-holds n low high p = let h = both p in (leb-true low n (h .0), leb-true n 
 pub range-is : (n low high : ℕ) → low ≤ n → n ≤ high → (n is low to high) ≡ true
 unfolding _is_to_
 range-is n low high p q = both-hold _ _ (le-leb low n p) (le-leb n high q)
+
+pub range-fails : (n low high : ℕ) → (n is low to high) ≡ false → (n < low) ⊎ (high < n)
+unfolding _is_to_
+range-fails n low high p = ⊎-elim (λ q. inl (leb-false low n q)) (λ q. inr (leb-false n high q)) (one-fails p)
+
+-- A test that can't hold fails.
+pub refuted : (test : Bool) → (test ≡ true → ⊥) → test ≡ false
+refuted true p = absurd (p refl)
+refuted false p = refl
 
 -- A test that a function answered.
 module _ (n low high : ℕ) (answer : Bool) (told : answer ≡ (n is low to high)) where

@@ -1,0 +1,229 @@
+-- The definitions of the keys, computed on keys worked out by hand from document 01.
+use mathlib.Core.Path.{_≡_, refl}
+use mathlib.Core.List.{List, [], _∷_, map}
+use mathlib.Core.Bool.{Bool, true, false}
+use Prim.Native.Nat.{ℕ}
+use lib.ListN.{length}
+use Rattle.words.specs.Choice.{if_then_else_, _and_, _or_, _is_to_}
+use Rattle.words.specs.Lists.{within, eachFrom, numbersFrom, onPart, selected}
+use Rattle.page.specs.Marks.{unprotected}
+use Rattle.page.specs.Page.{Page, pageOf, typed, tagged, blanked, closedUp, movedRight, sentMark, modifiedCleared}
+use Rattle.places.specs.Places.{placeOf}
+use Rattle.output.specs.Decimal.{decimal, placeBytes}
+use Rattle.fields.specs.Fields.{opensStretch, joined, startsField, fieldStart, endFrom, fieldEnd, fieldsFrom, fieldsOf}
+use Rattle.fields.specs.Searches.{orElse, firstField, lastField, firstAfter, lastBefore, nextField, previousField, firstFree, firstUnprotected, nextUnprotected}
+use Rattle.blocks.specs.Blocks.{entryBytes, encode, entryOf, someModified, isSent, entriesSent, block}
+use Rattle.state.specs.State.{freshState, withCursor, withLocks, unlocked}
+use Rattle.state.specs.Moves.{backBy, onBy, upBy, downBy, rightBy, leftBy}
+use Rattle.steps.specs.Steps.{Terminal, bytesOf, blockMessage}
+use Rattle.steps.specs.Commands.{sendBlock}
+use Rattle.steps.specs.Keys.{isTyping, isEditing, isFieldMove, isKnown, isLocked, isLockedOut, noField, lacksCell, goneTo, typedStep, toNextField, toPreviousField, toFirstUnprotected, fieldBlanked, restShifted, keyStep}
+
+-- A page of 2 rows by 8 columns, small enough to be shown whole. No call takes its size, which line 1 refuses; the steps go by
+-- the same rules on any R and C.
+--     # A B C D E # F     protected, -, bold, underline, reverse, -, protected and modified, -
+--     G H . I : J K L     modified, blink, protected, concealed, the rest protected
+-- Its fields: A to E at 1;2, F at 1;8, G and H at 2;1, which the row's end parts from F, and I at 2;4.
+characters : List ℕ
+characters =
+    0x23 ∷ 0x41 ∷ 0x42 ∷ 0x43 ∷ 0x44 ∷ 0x45 ∷ 0x23 ∷ 0x46
+    ∷ 0x47 ∷ 0x48 ∷ 0x2E ∷ 0x49 ∷ 0x3A ∷ 0x4A ∷ 0x4B ∷ 0x4C ∷ []
+
+marks : List ℕ
+marks =
+    1 ∷ 0 ∷ 4 ∷ 8 ∷ 32 ∷ 0 ∷ 3 ∷ 0
+    ∷ 2 ∷ 16 ∷ 1 ∷ 64 ∷ 1 ∷ 1 ∷ 1 ∷ 1 ∷ []
+
+-- The cursor at a row and a column, nothing locked.
+on : Page → ℕ → ℕ → Terminal
+on page row column = record { state = withCursor (freshState (record { rows = 2; columns = 8 })) row column; page = page }
+
+-- What a key leaves, the cells that it stores and the bytes that it sends.
+record Seen : Type 0 where
+  row : ℕ
+  column : ℕ
+  count : ℕ
+  sent : List ℕ
+  page : Page
+
+record Example : Type 0 where
+  start : Terminal
+  key : ℕ
+  seen : Seen
+
+asRun : Example → Seen
+asRun e =
+    let step = keyStep (e .key) (e .start) in
+    record {
+      row = step .terminal .state .cursor .row;
+      column = step .terminal .state .cursor .column;
+      count = length (step .cells);
+      sent = bytesOf (step .message);
+      page = step .terminal .page;
+    }
+
+-- From a row and a column a key goes to a row and a column, and does nothing else.
+goes : ℕ → ℕ → ℕ → ℕ → ℕ → Example
+goes row column key toRow toColumn =
+    record {
+      start = on (pageOf characters marks) row column;
+      key = key;
+      seen = record { row = toRow; column = toColumn; count = 0; sent = []; page = pageOf characters marks };
+    }
+
+-- There, it stores so many cells, which leaves these characters and marks.
+stored : ℕ → ℕ → ℕ → ℕ → ℕ → ℕ → List ℕ → List ℕ → Example
+stored row column key toRow toColumn count charactersAfter marksAfter =
+    record {
+      start = on (pageOf characters marks) row column;
+      key = key;
+      seen = record { row = toRow; column = toColumn; count = count; sent = []; page = pageOf charactersAfter marksAfter };
+    }
+
+-- It sends a block, which leaves these marks; the cursor stays.
+sent : ℕ → ℕ → ℕ → List ℕ → List ℕ → Example
+sent row column key bytes marksAfter =
+    record {
+      start = on (pageOf characters marks) row column;
+      key = key;
+      seen = record { row = row; column = column; count = 0; sent = bytes; page = pageOf characters marksAfter };
+    }
+
+-- A page with no unprotected cell; three cells are enough.
+closed : Page
+closed = pageOf (0x41 ∷ 0x42 ∷ 0x43 ∷ []) (1 ∷ 5 ∷ 3 ∷ [])
+
+goesOnClosed : ℕ → ℕ → ℕ → ℕ → ℕ → Example
+goesOnClosed row column key toRow toColumn =
+    record {
+      start = on closed row column;
+      key = key;
+      seen = record { row = toRow; column = toColumn; count = 0; sent = []; page = closed };
+    }
+
+examples : List Example
+examples =
+    -- X typed on B, which is bold: bold stays, and the cell becomes modified; the same where B is typed on B
+    stored 1 3 0x58 1 4 1
+    (0x23 ∷ 0x41 ∷ 0x58 ∷ 0x43 ∷ 0x44 ∷ 0x45 ∷ 0x23 ∷ 0x46 ∷ 0x47 ∷ 0x48 ∷ 0x2E ∷ 0x49 ∷ 0x3A ∷ 0x4A ∷ 0x4B ∷ 0x4C ∷ [])
+    (1 ∷ 0 ∷ 6 ∷ 8 ∷ 32 ∷ 0 ∷ 3 ∷ 0 ∷ 2 ∷ 16 ∷ 1 ∷ 64 ∷ 1 ∷ 1 ∷ 1 ∷ 1 ∷ [])
+    ∷ stored 1 3 0x42 1 4 1 characters
+    (1 ∷ 0 ∷ 6 ∷ 8 ∷ 32 ∷ 0 ∷ 3 ∷ 0 ∷ 2 ∷ 16 ∷ 1 ∷ 64 ∷ 1 ∷ 1 ∷ 1 ∷ 1 ∷ [])
+    -- on E: the cursor passes the protected cell by; on F: into the next row; on G, modified already
+    ∷ stored 1 6 0x58 1 8 1
+    (0x23 ∷ 0x41 ∷ 0x42 ∷ 0x43 ∷ 0x44 ∷ 0x58 ∷ 0x23 ∷ 0x46 ∷ 0x47 ∷ 0x48 ∷ 0x2E ∷ 0x49 ∷ 0x3A ∷ 0x4A ∷ 0x4B ∷ 0x4C ∷ [])
+    (1 ∷ 0 ∷ 4 ∷ 8 ∷ 32 ∷ 2 ∷ 3 ∷ 0 ∷ 2 ∷ 16 ∷ 1 ∷ 64 ∷ 1 ∷ 1 ∷ 1 ∷ 1 ∷ [])
+    ∷ stored 1 8 0x58 2 1 1
+    (0x23 ∷ 0x41 ∷ 0x42 ∷ 0x43 ∷ 0x44 ∷ 0x45 ∷ 0x23 ∷ 0x58 ∷ 0x47 ∷ 0x48 ∷ 0x2E ∷ 0x49 ∷ 0x3A ∷ 0x4A ∷ 0x4B ∷ 0x4C ∷ [])
+    (1 ∷ 0 ∷ 4 ∷ 8 ∷ 32 ∷ 0 ∷ 3 ∷ 2 ∷ 2 ∷ 16 ∷ 1 ∷ 64 ∷ 1 ∷ 1 ∷ 1 ∷ 1 ∷ [])
+    ∷ stored 2 1 0x7E 2 2 1
+    (0x23 ∷ 0x41 ∷ 0x42 ∷ 0x43 ∷ 0x44 ∷ 0x45 ∷ 0x23 ∷ 0x46 ∷ 0x7E ∷ 0x48 ∷ 0x2E ∷ 0x49 ∷ 0x3A ∷ 0x4A ∷ 0x4B ∷ 0x4C ∷ [])
+    marks
+    -- on I, the last unprotected cell: the cursor goes round the page
+    ∷ stored 2 4 0x20 1 2 1
+    (0x23 ∷ 0x41 ∷ 0x42 ∷ 0x43 ∷ 0x44 ∷ 0x45 ∷ 0x23 ∷ 0x46 ∷ 0x47 ∷ 0x48 ∷ 0x2E ∷ 0x20 ∷ 0x3A ∷ 0x4A ∷ 0x4B ∷ 0x4C ∷ [])
+    (1 ∷ 0 ∷ 4 ∷ 8 ∷ 32 ∷ 0 ∷ 3 ∷ 0 ∷ 2 ∷ 16 ∷ 1 ∷ 66 ∷ 1 ∷ 1 ∷ 1 ∷ 1 ∷ [])
+    -- 263 on C: A to E become 20s, each modified, visual marks stay; the cursor goes to 1;2. On F: that cell alone
+    ∷ stored 1 4 263 1 2 5
+    (0x23 ∷ 0x20 ∷ 0x20 ∷ 0x20 ∷ 0x20 ∷ 0x20 ∷ 0x23 ∷ 0x46 ∷ 0x47 ∷ 0x48 ∷ 0x2E ∷ 0x49 ∷ 0x3A ∷ 0x4A ∷ 0x4B ∷ 0x4C ∷ [])
+    (1 ∷ 2 ∷ 6 ∷ 10 ∷ 34 ∷ 2 ∷ 3 ∷ 0 ∷ 2 ∷ 16 ∷ 1 ∷ 64 ∷ 1 ∷ 1 ∷ 1 ∷ 1 ∷ [])
+    ∷ stored 1 8 263 1 8 1
+    (0x23 ∷ 0x41 ∷ 0x42 ∷ 0x43 ∷ 0x44 ∷ 0x45 ∷ 0x23 ∷ 0x20 ∷ 0x47 ∷ 0x48 ∷ 0x2E ∷ 0x49 ∷ 0x3A ∷ 0x4A ∷ 0x4B ∷ 0x4C ∷ [])
+    (1 ∷ 0 ∷ 4 ∷ 8 ∷ 32 ∷ 0 ∷ 3 ∷ 2 ∷ 2 ∷ 16 ∷ 1 ∷ 64 ∷ 1 ∷ 1 ∷ 1 ∷ 1 ∷ [])
+    -- 264 on B: C to E close up, a 20 at the end; A is not touched, visual marks stay in their cells. On E: a 20
+    ∷ stored 1 3 264 1 3 4
+    (0x23 ∷ 0x41 ∷ 0x43 ∷ 0x44 ∷ 0x45 ∷ 0x20 ∷ 0x23 ∷ 0x46 ∷ 0x47 ∷ 0x48 ∷ 0x2E ∷ 0x49 ∷ 0x3A ∷ 0x4A ∷ 0x4B ∷ 0x4C ∷ [])
+    (1 ∷ 0 ∷ 6 ∷ 10 ∷ 34 ∷ 2 ∷ 3 ∷ 0 ∷ 2 ∷ 16 ∷ 1 ∷ 64 ∷ 1 ∷ 1 ∷ 1 ∷ 1 ∷ [])
+    ∷ stored 1 6 264 1 6 1
+    (0x23 ∷ 0x41 ∷ 0x42 ∷ 0x43 ∷ 0x44 ∷ 0x20 ∷ 0x23 ∷ 0x46 ∷ 0x47 ∷ 0x48 ∷ 0x2E ∷ 0x49 ∷ 0x3A ∷ 0x4A ∷ 0x4B ∷ 0x4C ∷ [])
+    (1 ∷ 0 ∷ 4 ∷ 8 ∷ 32 ∷ 2 ∷ 3 ∷ 0 ∷ 2 ∷ 16 ∷ 1 ∷ 64 ∷ 1 ∷ 1 ∷ 1 ∷ 1 ∷ [])
+    -- 265 on B: a 20 there, B to D move right, E is lost. On G: the field is G and H alone
+    ∷ stored 1 3 265 1 3 4
+    (0x23 ∷ 0x41 ∷ 0x20 ∷ 0x42 ∷ 0x43 ∷ 0x44 ∷ 0x23 ∷ 0x46 ∷ 0x47 ∷ 0x48 ∷ 0x2E ∷ 0x49 ∷ 0x3A ∷ 0x4A ∷ 0x4B ∷ 0x4C ∷ [])
+    (1 ∷ 0 ∷ 6 ∷ 10 ∷ 34 ∷ 2 ∷ 3 ∷ 0 ∷ 2 ∷ 16 ∷ 1 ∷ 64 ∷ 1 ∷ 1 ∷ 1 ∷ 1 ∷ [])
+    ∷ stored 2 1 265 2 1 2
+    (0x23 ∷ 0x41 ∷ 0x42 ∷ 0x43 ∷ 0x44 ∷ 0x45 ∷ 0x23 ∷ 0x46 ∷ 0x20 ∷ 0x47 ∷ 0x2E ∷ 0x49 ∷ 0x3A ∷ 0x4A ∷ 0x4B ∷ 0x4C ∷ [])
+    (1 ∷ 0 ∷ 4 ∷ 8 ∷ 32 ∷ 0 ∷ 3 ∷ 0 ∷ 2 ∷ 18 ∷ 1 ∷ 64 ∷ 1 ∷ 1 ∷ 1 ∷ 1 ∷ [])
+    -- on a protected cell none of these does anything
+    ∷ goes 1 1 0x58 1 1
+    ∷ goes 1 7 263 1 7
+    ∷ goes 1 7 264 1 7
+    ∷ goes 2 3 265 2 3
+    -- 256 to 259, up, down, left and right: a step, and at the edge none
+    ∷ goes 2 8 256 1 8
+    ∷ goes 1 8 256 1 8
+    ∷ goes 1 8 257 2 8
+    ∷ goes 2 8 257 2 8
+    ∷ goes 2 2 258 2 1
+    ∷ goes 2 1 258 2 1
+    ∷ goes 1 7 259 1 8
+    ∷ goes 1 8 259 1 8
+    -- 260: a field that starts at the cursor doesn't start after it; past the last field the first
+    ∷ goes 1 1 260 1 2
+    ∷ goes 1 2 260 1 8
+    ∷ goes 1 4 260 1 8
+    ∷ goes 1 8 260 2 1
+    ∷ goes 2 4 260 1 2
+    -- 261: within a field its own start; at or before the first field's start the last
+    ∷ goes 2 8 261 2 4
+    ∷ goes 2 1 261 1 8
+    ∷ goes 1 4 261 1 2
+    ∷ goes 1 2 261 2 4
+    -- 262
+    ∷ goes 2 8 262 1 2
+    -- no unprotected cell: 260 and 261 do nothing, 262 goes to 1;1
+    ∷ goesOnClosed 1 3 260 1 3
+    ∷ goesOnClosed 1 3 261 1 3
+    ∷ goesOnClosed 1 3 262 1 1
+    -- 266 sends ESC [ 2 ; 1 f G H 03, the one field with a modified cell; the protected cell stays modified
+    ∷ sent 1 4 266
+    (0x1B ∷ 0x5B ∷ 0x32 ∷ 0x3B ∷ 0x31 ∷ 0x66 ∷ 0x47 ∷ 0x48 ∷ 0x03 ∷ [])
+    (1 ∷ 0 ∷ 4 ∷ 8 ∷ 32 ∷ 0 ∷ 3 ∷ 0 ∷ 0 ∷ 16 ∷ 1 ∷ 64 ∷ 1 ∷ 1 ∷ 1 ∷ 1 ∷ [])
+    -- 267 sends all four
+    ∷ sent 1 4 267
+    (0x1B ∷ 0x5B ∷ 0x31 ∷ 0x3B ∷ 0x32 ∷ 0x66 ∷ 0x41 ∷ 0x42 ∷ 0x43 ∷ 0x44 ∷ 0x45
+    ∷ 0x1B ∷ 0x5B ∷ 0x31 ∷ 0x3B ∷ 0x38 ∷ 0x66 ∷ 0x46
+    ∷ 0x1B ∷ 0x5B ∷ 0x32 ∷ 0x3B ∷ 0x31 ∷ 0x66 ∷ 0x47 ∷ 0x48
+    ∷ 0x1B ∷ 0x5B ∷ 0x32 ∷ 0x3B ∷ 0x34 ∷ 0x66 ∷ 0x49
+    ∷ 0x03 ∷ [])
+    (1 ∷ 0 ∷ 4 ∷ 8 ∷ 32 ∷ 0 ∷ 3 ∷ 0 ∷ 0 ∷ 16 ∷ 1 ∷ 64 ∷ 1 ∷ 1 ∷ 1 ∷ 1 ∷ [])
+    -- 127 and 269 are no keys
+    ∷ goes 1 3 127 1 3
+    ∷ goes 1 3 269 1 3
+    ∷ []
+
+-- Each key leaves what the example says.
+as-worked-out : map asRun examples ≡ map (λ (e : Example). e .seen) examples
+unfolding characters marks on asRun goes stored sent closed goesOnClosed examples if_then_else_ _and_ _or_ _is_to_ within eachFrom numbersFrom onPart selected unprotected typed tagged blanked closedUp movedRight sentMark modifiedCleared placeOf decimal placeBytes opensStretch joined startsField fieldStart endFrom fieldEnd fieldsFrom fieldsOf orElse firstField lastField firstAfter lastBefore nextField previousField firstFree firstUnprotected nextUnprotected entryBytes encode entryOf someModified isSent entriesSent block unlocked backBy onBy upBy downBy rightBy leftBy bytesOf blockMessage sendBlock isTyping goneTo typedStep toNextField toPreviousField toFirstUnprotected fieldBlanked restShifted keyStep
+as-worked-out = refl
+
+-- 268: soft lock and message are cleared; the manual lock, and all else, stays. It is the one key that a lock lets pass.
+locked : Bool → Bool → ℕ → Terminal
+locked manual soft message =
+    let t = on (pageOf characters marks) 1 3 in
+    record { state = withLocks (t .state) manual soft message; page = t .page }
+
+unlocks : map (λ (t : Terminal). keyStep 268 t .terminal) (locked false true 1 ∷ locked true true 1 ∷ locked true false 0 ∷ []) ≡ (locked false false 0 ∷ locked true false 0 ∷ locked true false 0 ∷ [])
+unfolding characters marks on locked if_then_else_ _and_ _is_to_ isTyping unlocked keyStep
+unlocks = refl
+
+lockedOut : Terminal → List Bool
+lockedOut t = map (λ (key : ℕ). isLockedOut key (t .state)) (0x41 ∷ 256 ∷ 267 ∷ 268 ∷ [])
+
+-- Either lock keeps the other keys out.
+locks-out : map lockedOut (locked false true 1 ∷ locked true false 0 ∷ locked false false 0 ∷ []) ≡ ((true ∷ true ∷ true ∷ false ∷ []) ∷ (true ∷ true ∷ true ∷ false ∷ []) ∷ (false ∷ false ∷ false ∷ false ∷ []) ∷ [])
+unfolding characters marks on locked lockedOut _and_ _or_ isLocked isLockedOut
+locks-out = refl
+
+-- Line 4: the numbers beside each edge of the known ones.
+known : map isKnown (31 ∷ 32 ∷ 126 ∷ 127 ∷ 255 ∷ 256 ∷ 268 ∷ 269 ∷ []) ≡ (false ∷ true ∷ true ∷ false ∷ false ∷ true ∷ true ∷ false ∷ [])
+unfolding _and_ _or_ _is_to_ isTyping isKnown
+known = refl
+
+-- Line 7, for A, 263, 264, 265, then 260, 261, then 256, 262 and 266: on a protected cell, on an unprotected one, and with no field.
+lacking : Terminal → List Bool
+lacking t = map (λ (key : ℕ). lacksCell key t) (0x41 ∷ 263 ∷ 264 ∷ 265 ∷ 260 ∷ 261 ∷ 256 ∷ 262 ∷ 266 ∷ [])
+
+lacks : map lacking (on (pageOf characters marks) 1 1 ∷ on (pageOf characters marks) 1 3 ∷ on closed 1 1 ∷ []) ≡ ((true ∷ true ∷ true ∷ true ∷ false ∷ false ∷ false ∷ false ∷ false ∷ []) ∷ (false ∷ false ∷ false ∷ false ∷ false ∷ false ∷ false ∷ false ∷ false ∷ []) ∷ (true ∷ true ∷ true ∷ true ∷ true ∷ true ∷ false ∷ false ∷ false ∷ []) ∷ [])
+unfolding characters marks on closed lacking if_then_else_ _and_ _or_ _is_to_ unprotected placeOf opensStretch joined startsField endFrom fieldEnd fieldsFrom fieldsOf isTyping isEditing isFieldMove noField lacksCell
+lacks = refl
