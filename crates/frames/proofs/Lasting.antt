@@ -5,9 +5,8 @@ use mathlib.Core.List.{List, [], _∷_, _++_}
 use Prim.Native.Nat.{ℕ, zero, suc, _+_, _<_, _≤_}
 use native.Mathlib.Omega.{arith}
 use borrow.Author.Tests.{eqb-true, leb-true, ltb-true, ltb-false}
-use lib.Dec.{eqb, ltb}
+use lib.Dec.{ltb}
 use lib.ListN.{length, length-drop}
-use Rattle.words.specs.Choice.{if_then_else_}
 use Rattle.words.proofs.Choosing.{true-is-not-false, then-case, else-case, either-line, either-way, both}
 use Rattle.state.specs.Validity.{sizeFits}
 use Rattle.steps.specs.Steps.{Terminal, Stepped, bytesOf}

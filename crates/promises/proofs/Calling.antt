@@ -1,8 +1,8 @@
 -- Calls are steps, however a stream is cut: demand 2, cutting, from demand 1 and Follows alone.
-use mathlib.Core.Path.{_≡_, refl, sym, ap, _∙_, subst}
+use mathlib.Core.Path.{_≡_, refl, sym, ap, _∙_}
 use mathlib.Core.List.{List, [], _∷_, _++_, map, map-append, append-assoc}
 use Prim.Native.Nat.{ℕ, _+_}
-use lib.ListN.{length, take, drop, length-append, take-append-drop}
+use lib.ListN.{take, drop, length-append, take-append-drop}
 use Rattle.steps.specs.Steps.{Terminal, Stepped, Valid}
 use Rattle.terminal.specs.Answers.{Outcome, bytesSent}
 use Rattle.terminal.specs.Runs.{after, sentBy, storedBy}

@@ -1,10 +1,10 @@
 -- Demand 3 carried to calls: what they sent is the messages of the steps that they did, and the host finds their blocks in it.
-use mathlib.Core.Path.{_≡_, refl, sym, ap, _∙_}
+use mathlib.Core.Path.{_≡_, refl, ap, _∙_}
 use mathlib.Core.List.{List, [], _∷_, _++_}
 use Prim.Native.Nat.{ℕ}
 use Rattle.blocks.specs.Finding.{blocksIn}
 use Rattle.steps.specs.Steps.{Terminal, fullBlock, Message, Valid}
-use Rattle.terminal.specs.Runs.{after, sentBy}
+use Rattle.terminal.specs.Runs.{after}
 use Rattle.promises.specs.Rules.{Rules, Input, stepOf, steps, Total}
 use Rattle.promises.specs.Entries.{Entries, Call, inputsDone, callAll}
 use Rattle.promises.specs.Copying.{blockIn, blocksSent}

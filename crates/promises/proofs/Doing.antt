@@ -1,6 +1,5 @@
 -- A call does the steps of the bytes that it took or of its key, and a refused one does none: by demand 1 and Follows alone.
 use mathlib.Core.Path.{_≡_, refl, sym, ap, _∙_, subst}
-use mathlib.Core.Bool.{true}
 use mathlib.Core.List.{List, [], _∷_, _++_, map}
 use mathlib.Core.Logic.{_⊎_, inl, inr, ⊎-elim}
 use Prim.Native.Nat.{ℕ, zero, suc}
@@ -21,7 +20,7 @@ use Rattle.terminal.specs.Claims.{Leaves, Did}
 use Rattle.terminal.specs.Table.{TableLine, _when_, Decides, this-holds, not-this}
 use Rattle.terminal.proofs.Deciding.{is-valid}
 use Rattle.terminal.proofs.Theorems.{bytes-sent}
-use Rattle.promises.specs.Rules.{Rules, Input, byte, press, stepOf, steps, byteSteps}
+use Rattle.promises.specs.Rules.{Rules, Input, byte, stepOf, steps, byteSteps}
 use Rattle.promises.specs.Entries.{Entries, Call, read, keyPress, outcomeOf, inputsOf, inputsDone}
 use Rattle.promises.proofs.Laws.{Keeps, DidSteps}
 

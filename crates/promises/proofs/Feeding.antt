@@ -13,7 +13,7 @@ use Rattle.blocks.specs.Blocks.{block, encode}
 use Rattle.blocks.proofs.Claims.{fieldsOn}
 use Rattle.blocks.proofs.Pages.{all-sent}
 use Rattle.steps.specs.Steps.{Terminal, bytesOf, fullBlock, Message, Valid}
-use Rattle.steps.specs.Seen.{blockHere, free}
+use Rattle.steps.specs.Seen.{free}
 use Rattle.steps.proofs.Measuring.{measured}
 use Rattle.promises.specs.Rules.{ourRules, Input, stepOf}
 use Rattle.promises.specs.Entries.{ourEntries, Read, joinedBytes, readAll}

@@ -17,7 +17,7 @@ use Rattle.blocks.proofs.Pages.{all-sent}
 use Rattle.blocks.proofs.Laying.{same-fields}
 use Rattle.state.proofs.Keeping.{size-bounds}
 use Rattle.steps.specs.Steps.{Terminal, Message, silent, report, fullBlock, changedBlock, Stepped, Valid}
-use Rattle.steps.specs.Seen.{free, modifiedAt, blockHere}
+use Rattle.steps.specs.Seen.{free, blockHere}
 use Rattle.steps.specs.Claims.{markLeft, TouchesOnly, ProtectedKept, KeepsProtection}
 use Rattle.steps.proofs.Naming.{all-stay-protected, same-characters}
 use Rattle.steps.proofs.Soundness.{Sized, sized}

@@ -1,15 +1,14 @@
 -- What every block leaves, how long it is, and that a call stopped for room has sent something: by the laws alone.
-use mathlib.Core.Path.{_≡_, refl, sym, ap, _∙_}
+use mathlib.Core.Path.{_≡_, refl, ap, _∙_}
 use mathlib.Core.Bool.{Bool, true, false}
 use mathlib.Core.List.{List, [], _∷_, _++_, List·Memᴰ·not-nil}
-use Prim.Native.Nat.{ℕ, _<_, _≤_}
+use Prim.Native.Nat.{ℕ, _≤_}
 use native.Mathlib.Omega.{arith}
 use lib.ListN.{length}
 use Rattle.page.specs.Page.{sentMark}
 use Rattle.steps.specs.Steps.{Terminal, Message, bytesOf, blockMessage, Stepped, Valid}
 use Rattle.steps.specs.Claims.{markLeft}
-use Rattle.terminal.specs.Runs.{sentBy}
-use Rattle.promises.specs.Rules.{Rules, Input, byte, stepOf, steps}
+use Rattle.promises.specs.Rules.{Rules, Input, stepOf, steps}
 use Rattle.promises.specs.Entries.{Entries}
 use Rattle.promises.specs.Further.{BlocksKeep, Bounded, Progress}
 use Rattle.promises.proofs.Laws.{BlockOfPage, StepLaw, StepLaws, Keeps}

@@ -1,14 +1,13 @@
 -- Validity through calls, and that no key changes a protected cell: by the laws alone.
 use mathlib.Core.Path.{_≡_, refl, sym, ap, _∙_, subst}
 use mathlib.Core.Bool.{true, false}
-use mathlib.Core.List.{List, [], _∷_, List·Memᴰ}
-use Prim.Native.Nat.{ℕ, _≤_}
+use mathlib.Core.List.{List, []}
+use Prim.Native.Nat.{ℕ}
 use native.Mathlib.Omega.{arith}
 use borrow.Author.Tests.{eqb-true, eqb-false}
 use lib.Dec.{eqb}
 use lib.ListN.{length, replicate, length-replicate}
 use Rattle.words.proofs.Choosing.{not-both, either-way, less-or-not}
-use Rattle.page.specs.Marks.{unprotected}
 use Rattle.page.specs.Page.{Page, pageOf}
 use Rattle.state.specs.declared.Size.{Size}
 use Rattle.state.specs.State.{freshState}
@@ -21,13 +20,12 @@ use Rattle.steps.specs.Claims.{ProtectedKept}
 use Rattle.steps.proofs.Soundness.{sized, still-fits}
 use Rattle.steps.proofs.Storing.{blank-page-valid}
 use Rattle.terminal.specs.Runs.{after}
-use Rattle.terminal.specs.Answers.{Outcome}
-use Rattle.terminal.specs.Table.{TableLine, startTable, Decides, this-holds, not-this}
-use Rattle.promises.specs.Rules.{Rules, press, stepOf, steps, Total}
-use Rattle.promises.specs.Entries.{Entries, Call, inputsDone, callAll}
+use Rattle.terminal.specs.Table.{startTable, Decides, this-holds, not-this}
+use Rattle.promises.specs.Rules.{Rules, press, stepOf, Total}
+use Rattle.promises.specs.Entries.{Entries, inputsDone}
 use Rattle.promises.specs.Demands.{KeysKeep}
 use Rattle.promises.specs.Further.{StaysValid}
-use Rattle.promises.proofs.Laws.{StepLaw, KeyLaw, StepLaws, Keeps}
+use Rattle.promises.proofs.Laws.{StepLaws, Keeps}
 use Rattle.promises.proofs.Keeping.{same-size, protected-kept, past-free}
 use Rattle.promises.proofs.Doing.{key-valid}
 use Rattle.promises.proofs.Calling.{steps-keep-valid, calls-are-steps-of}

@@ -1,34 +1,29 @@
--- What is proved of start, host and key: demand 1, and that a valid terminal stays valid.
+-- What is proved of start, host and key: their numbers, what they leave, and that a contract allows one result.
 use mathlib.Core.Path.{_≡_, refl, sym, ap, _∙_, subst}
 use mathlib.Core.Bool.{Bool, true, false, not}
 use mathlib.Core.List.{List, [], _∷_, append-nil}
 use mathlib.Core.Logic.{_↔_}
-use Prim.Native.Nat.{ℕ, _-_}
+use Prim.Native.Nat.{ℕ}
 use native.Mathlib.Omega.{arith}
 use borrow.Author.Tests.{lt-ltb, ltb-true, not-true}
 use lib.Dec.{eqb}
-use lib.ListN.{length, take, drop, replicate, length-replicate}
+use lib.ListN.{length, take, drop, replicate}
 use Rattle.words.specs.Choice.{if_then_else_}
 use Rattle.words.specs.Output.{placed}
 use Rattle.words.proofs.Output.{placed-before, placed-past}
 use Rattle.words.proofs.Elements.{run-length}
-use Rattle.words.proofs.Choosing.{either-line}
-use Rattle.page.specs.Page.{Page, pageOf}
+use Rattle.page.specs.Page.{Page}
 use Rattle.state.specs.declared.Size.{Size}
 use Rattle.state.proofs.Lines.{line-1, line-2}
-use Rattle.state.proofs.Keeping.{fresh-valid}
 use Rattle.steps.specs.Steps.{Terminal, Stepped, bytesOf, allCells, Valid}
 use Rattle.steps.specs.Commands.{freshStep}
-use Rattle.steps.specs.Host.{hostStep}
 use Rattle.steps.specs.Keys.{keyStep}
-use Rattle.steps.proofs.Soundness.{sized, still-fits}
-use Rattle.steps.proofs.Storing.{blank-page-valid}
-use Rattle.commands.proofs.Theorems.{step-keeps-valid}
+use Rattle.steps.proofs.Soundness.{sized}
 use Rattle.keys.proofs.Theorems as Keys
 use Rattle.terminal.specs.declared.Answer.{Answer}
 use Rattle.terminal.specs.declared.Answer.the-variants.{Done, WrongSize, WrongState, NoRoom, UnknownKey, Locked, TooLong, NoCell}
 use Rattle.terminal.specs.declared.Reply.{Reply}
-use Rattle.terminal.specs.Runs.{stepsOf, fitting, after, sentBy, storedBy}
+use Rattle.terminal.specs.Runs.{stepsOf, after, sentBy, storedBy}
 use Rattle.terminal.specs.Answers.{numberOf, Outcome, given, unchanged, did, gives}
 use Rattle.terminal.specs.Lines.{passesLine2, firstOf, startLines, hostLines, keyLines}
 use Rattle.terminal.specs.Calls.{unstarted, startStep, startCall, hostCall, keyCall}
@@ -187,15 +182,6 @@ module _ (t : Terminal) (bytes output : List ℕ) where
       go (Cases.stopped valid line is) = absurd (omega (arith, sym (did-number _ _ _ _ _ is) ∙ is-done))
       go (Cases.done valid fits is) = did-so _ _ _ _ _ is
 
-  -- Only a valid terminal is given 0.
-  pub host-found-valid : hostCall t bytes output .number ≡ 0 → Valid t
-  host-found-valid is-done = go (host-case t bytes output)
-    where
-      go : HostCase t bytes output → Valid t
-      go (Cases.refused answer a b is) = absurd (a (sym (numbered _ _ _ is) ∙ is-done))
-      go (Cases.stopped valid line is) = valid
-      go (Cases.done valid fits is) = valid
-
 module _ (t : Terminal) (key : ℕ) (output : List ℕ) where
   -- Key: every refusal changes nothing, 3 too.
   pub key-refused : (keyCall t key output .number ≡ 0 → ⊥) → Leaves t output (keyCall t key output)
@@ -214,6 +200,7 @@ module _ (t : Terminal) (key : ℕ) (output : List ℕ) where
       go (Cases.refused answer a is) = absurd (a (sym (numbered _ _ _ is) ∙ is-done))
       go (Cases.pressed valid known free has fits is) = did-so _ _ _ _ _ is
 
+  -- Only a valid terminal is given 0.
   pub key-found-valid : keyCall t key output .number ≡ 0 → Valid t
   key-found-valid is-done = go (key-case t key output)
     where
@@ -253,48 +240,6 @@ one-result {one} {other} a b =
       pages = ap (λ (o : Outcome). o .terminal .page) same;
       outputs = ap (λ (o : Outcome). o .output) same;
     }
-
--- A call on a valid terminal leaves a valid one, whatever it is given; a start given 0 leaves a valid one.
-steps-keep-valid : (room : ℕ) (t : Terminal) (bytes : List ℕ) → Valid t → Valid (after t (fitting room (stepsOf t bytes)))
-unfolding after fitting stepsOf
-steps-keep-valid room t [] valid = valid
-steps-keep-valid room t (byte ∷ later) valid =
-    let step = hostStep byte t in
-    let rest = steps-keep-valid (room - length (bytesOf (step .message))) (step .terminal) later (step-keeps-valid byte t valid) in
-    either-line (λ (steps : List Stepped). Valid (after t steps)) _ _ _ (λ _. rest) (λ _. valid)
-
-gives-valid : (answer : Answer) (taken : ℕ) (t : Terminal) (output : List ℕ) (steps : List Stepped) → Valid t → Valid (after t steps) → Valid (gives answer taken t output steps .terminal)
-unfolding gives did unchanged
-gives-valid Done taken t output steps before later = later
-gives-valid WrongSize taken t output steps before later = before
-gives-valid WrongState taken t output steps before later = before
-gives-valid NoRoom taken t output steps before later = later
-gives-valid UnknownKey taken t output steps before later = before
-gives-valid Locked taken t output steps before later = before
-gives-valid TooLong taken t output steps before later = before
-gives-valid NoCell taken t output steps before later = before
-
-pub host-call-keeps-valid : (t : Terminal) (bytes output : List ℕ) → Valid t → Valid (hostCall t bytes output .terminal)
-unfolding hostCall
-host-call-keeps-valid t bytes output valid = gives-valid _ _ t output _ valid (steps-keep-valid (length output) t bytes valid)
-
-pub key-call-keeps-valid : (t : Terminal) (key : ℕ) (output : List ℕ) → Valid t → Valid (keyCall t key output .terminal)
-unfolding keyCall after fitting
-key-call-keeps-valid t key output valid =
-    gives-valid _ _ t output _ valid
-    (either-line (λ (steps : List Stepped). Valid (after t steps)) _ _ _ (λ _. Keys.key-keeps-valid key t valid) (λ _. valid))
-
-pub start-gives-valid : (size : Size) (page : Page) → startCall size page .number ≡ 0 → Valid (startCall size page .terminal)
-unfolding numberOf after startStep freshStep
-start-gives-valid size page is-done = go (start-case size page)
-  where
-    go : StartCase size page → Valid (startCall size page .terminal)
-    go (Cases.refused wrong is) = absurd (omega (arith, sym (numbered _ _ _ is) ∙ is-done))
-    go (Cases.started fits is) = subst Valid (sym (did-so _ _ _ _ _ is .terminal)) (record {
-      size = still-fits size size page (pageOf (replicate (length (page .characters)) 0x20) (replicate (length (page .marks)) 0)) fits refl (record { characters = length-replicate (length (page .characters)) 0x20; marks = length-replicate (length (page .marks)) 0 });
-      state = fresh-valid size (sized size page fits .listed);
-      page = blank-page-valid (length (page .characters)) (length (page .marks));
-    })
 
 -- The bytes sent stand at the output's start, and what is past them is unchanged.
 pub bytes-sent : {taken : ℕ} {t : Terminal} {lent : List ℕ} {steps : List Stepped} {outcome : Outcome} → Did taken t lent steps outcome → take (outcome .sent) (outcome .output) ≡ sentBy steps

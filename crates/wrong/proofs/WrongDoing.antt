@@ -1,6 +1,6 @@
 -- What a call given 0 did besides, or left undone, is caught by demand 2, Follows.
 use mathlib.Core.Path.{refl, ap}
-use mathlib.Core.List.{List, [], _∷_}
+use mathlib.Core.List.{List, []}
 use Prim.Native.Nat.{ℕ}
 use borrow.Author.Tests.{eqb-false}
 use lib.ListN.{getD, replicate}

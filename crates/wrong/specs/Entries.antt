@@ -1,6 +1,6 @@
 -- Wrong entries: ours with one fault each, under the promise that it breaks (proofs/).
 use mathlib.Core.Bool.{Bool, false}
-use mathlib.Core.List.{List, [], _∷_, _++_, reverse}
+use mathlib.Core.List.{List, [], _∷_, reverse}
 use Prim.Native.Nat.{ℕ, _+_}
 use lib.Dec.{ltb, eqb}
 use lib.ListN.{length, take, getD, set, replicate}
@@ -17,7 +17,7 @@ use Rattle.terminal.specs.declared.Answer.the-variants.{Done, NoRoom, Locked, T
 use Rattle.terminal.specs.Runs.{stepsOf, sentBy}
 use Rattle.terminal.specs.Answers.{Outcome, unchanged, did}
 use Rattle.terminal.specs.Calls.{startCall, hostCall, keyCall}
-use Rattle.promises.specs.Entries.{Entries, ourEntries}
+use Rattle.promises.specs.Entries.{Entries}
 
 -- Ours with another function for one of the three.
 abbrev withStart : (Size → Page → Outcome) → Entries

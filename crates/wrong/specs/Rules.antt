@@ -4,7 +4,7 @@ use mathlib.Core.Bool.{Bool, true, false}
 use mathlib.Core.List.{List, [], _∷_, _++_, map}
 use Prim.Native.Nat.{ℕ}
 use lib.Dec.{eqb}
-use lib.ListN.{length, take, getD, set, replicate}
+use lib.ListN.{length, take, set, replicate}
 use Rattle.words.specs.Choice.{if_then_else_, _and_}
 use Rattle.words.specs.Lists.{selected}
 use Rattle.page.specs.Marks.{withoutModified}
@@ -19,7 +19,6 @@ use Rattle.terminal.specs.declared.Answer.the-variants.{NoRoom}
 use Rattle.terminal.specs.Runs.{fitting}
 use Rattle.terminal.specs.Answers.{Outcome, gives}
 use Rattle.terminal.specs.Lines.{_answers_, firstOf, exceedsRoom, keyLines}
-use Rattle.terminal.specs.Calls.{startCall, hostCall}
 use Rattle.promises.specs.Rules.{Rules}
 use Rattle.promises.specs.Entries.{Entries}
 use Rattle.wrong.specs.Entries.{withKey, withPage, withTagsCleared}
