@@ -1,4 +1,4 @@
-"""The stack that the named functions take, and the chain of calls that takes it: `NAME BYTES CHAIN`.
+"""The stack that the named functions take, and the chain of calls that takes it, each with its own part: `NAME BYTES CHAIN`.
 
 Reads what `objdump -r` and then `objdump -dr --no-show-raw-insn -M intel` print of x86-64 objects in which each function has a
 section of its own. Along every path from a function's start the depth of the stack is followed: the return address (8 bytes),

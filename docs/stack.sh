@@ -1,14 +1,22 @@
 #!/usr/bin/env bash
-# Measures the stack that `start`, `host` and `key` take, from the object code, and shows that the code below them has no
-# recursion and no indirect call. Prints `ENTRY BYTES CHAIN` for each entry; status 1 where that can't be told.
-# No crate exports a C function, so a small crate is made below target/stack that hands the entries on to C, and `rt staticlib`
-# proves and compiles it: what its functions take for their own, a copy of the state there and back, is counted too.
+# Measures the stack that `start`, `host` and `key` take, from the object code, and shows that the code below them, as written and
+# as compiled, has no recursion and no indirect call. Prints `ENTRY BYTES CHAIN` for each; status 1 where that can't be shown.
+# No crate exports a C function, so a small one is made below target/stack that hands the entries on to C, and `rt staticlib`
+# proves and compiles it; what its functions take themselves, to copy the state in and out, is counted.
 # The code is for x86-64, whatever this machine is.
 set -eu -o pipefail
 cd "$(dirname "$0")/.."
 objdump=x86_64-linux-gnu-objdump
 command -v $objdump >/dev/null || apt-get install -y -qq binutils-x86-64-linux-gnu >/dev/null
 command -v python3 >/dev/null || apt-get install -y -qq python3 >/dev/null
+
+# as written, before the compiler makes loops of what it can: each function, then what it calls
+rt mir terminal 2>/dev/null | grep -oE 'fn-def "[^"]*"|\(call \([a-z]+( \(fnRef "[^"]*")?' | awk -F '"' '
+    /^fn-def/ { caller = $2; functions++; next }
+    !/^\(call \(direct \(fnRef/ { print "stack: " caller " has an indirect call, as written"; bad = 1 }
+    $2 == caller { print "stack: recursion, as written: " caller " calls itself"; bad = 1 }
+    { print caller, $2 | "tsort >/dev/null" }
+    END { if (!functions) print "stack: no code of terminal was seen"; exit bad || !functions || close("tsort >/dev/null") != 0 }' >&2
 
 room=target/stack
 rm -rf $room
