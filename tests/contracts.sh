@@ -1,5 +1,6 @@
 #!/usr/bin/env bash
-# Every `pub fn` has an ensures; each one with a requires stands in docs/CONTRACTS.md as `crate::function`.
+# Every `pub fn` has an ensures; each one with a requires stands in docs/CONTRACTS.md as `crate::function`. The three entries
+# promise what the definitions allow a call, each its own, and ask nothing: docs/PROMISES.md leans on that.
 set -u
 bad=0
 for file in crates/*/src/*.rt; do
@@ -26,5 +27,20 @@ for file in crates/*/src/*.rt; do
             bad=1
         fi
     done <<<"$functions"
+done
+entries=crates/terminal/src/lib.rt
+for entry in start:StartAllows host:HostAllows key:KeyAllows; do
+    name=${entry%:*}
+    allows=${entry#*:}
+    # from the function's name to its body
+    contract=$(sed 's|//.*||' $entries | awk -v name="$name" '
+        $0 ~ "^pub (extern \"C\" )?fn " name "\\(" { inside = 1 }
+        inside && /^{/ { exit }
+        inside')
+    [ -n "$contract" ] || { printf '%s: there is no pub fn %s\n' $entries "$name"; bad=1; }
+    # the whole fact, not a part of one: neither what it is assumed for nor one of two
+    grep -qE "^ *ensures \{ λ r\. ⌜ $allows [^→⊎↔]* ⌝ \}$" <<<"$contract" || { printf '%s: %s does not ensure %s\n' $entries "$name" "$allows"; bad=1; }
+    grep -qE "^ghost use Rattle\.terminal\.specs\.Calls\.\{(.*, )?$allows[,}]" $entries || { printf '%s: %s is not that of specs/Calls.antt\n' $entries "$allows"; bad=1; }
+    ! grep -q requires <<<"$contract" || { printf '%s: %s has a requires\n' $entries "$name"; bad=1; }
 done
 exit $bad
