@@ -21,8 +21,8 @@ use Rattle.demands.specs.declared.Copy.{Copy}
 use Rattle.demands.specs.declared.Copy.the-variants.{Made, NotSent}
 use Rattle.demands.specs.declared.Copied.{Copied}
 
--- Demand 2, cutting: host bytes in two reads, each with an output of its own. The page between them is the first call's. If neither
--- is refused, they leave, send and store what the rules' steps of all the bytes do.
+-- Demand 2, cutting: host bytes in two reads, each with an output of its own. The page between them is the first
+-- call's. If neither is refused, they leave, send and store what the rules' steps of all the bytes do.
 pub record InTwoReads (t : Terminal) (bytes : List ℕ) (cut : ℕ) (lent lentLater : List ℕ) (replies : Replies) (page : Page) (output outputLater : List ℕ) : Type 0 where
   pub first : given (replies .first) (hostCall t (take cut bytes) lent .terminal .page) output ≡ hostCall t (take cut bytes) lent
   pub second : given (replies .second) page outputLater ≡ hostCall (hostCall t (take cut bytes) lent .terminal) (drop cut bytes) lentLater

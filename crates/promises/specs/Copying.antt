@@ -68,18 +68,19 @@ storedSince (report bytes) stored cells = stored ++ cells
 storedSince (fullBlock bytes) stored cells = []
 storedSince (changedBlock bytes) stored cells = []
 
--- So it is with each changed block among these steps, from a terminal, where `stored` was stored since the block before.
+-- So it is with each changed block among these steps, from a terminal, where `stored` was stored since the block
+-- before.
 unfoldable pub OmissionHolds : Terminal → List ℕ → List Stepped → Type 0
 OmissionHolds t stored [] = Unit {0}
 OmissionHolds t stored (step ∷ later) =
     OmitsExactly (step .message) t stored
     × OmissionHolds (step .terminal) (storedSince (step .message) stored (step .cells)) later
 
--- What the host finds in all the bytes sent: the blocks of the steps before, this block, and the later ones. It has this block for
--- its copy, and with each later one laid over it what is then a full block of the page as it stands; and omission holds.
--- `there` is the terminal that this block's step left.
-pub record CopyHolds (finds : List ℕ → List (List ℕ)) (rules : Rules) (t : Terminal) (sent : List ℕ) (before : List Input)
-    (block : List ℕ) (there : Terminal) (later : List Input) : Type 0 where
+-- What the host finds in all the bytes sent: the blocks of the steps before, this block, and the later ones. It has
+-- this block for its copy, and with each later one laid over it what is then a full block of the page as it stands; and
+-- omission holds. `there` is the terminal that this block's step left.
+pub record CopyHolds (finds : List ℕ → List (List ℕ)) (rules : Rules) (t : Terminal) (sent : List ℕ)
+    (before : List Input) (block : List ℕ) (there : Terminal) (later : List Input) : Type 0 where
   pub found-later : List (List ℕ)
   pub found : finds sent ≡ blocksSent (steps rules t before) ++ (block ∷ found-later)
   pub as-sent : found-later ≡ blocksSent (steps rules there later)

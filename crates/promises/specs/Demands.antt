@@ -16,7 +16,8 @@ use Rattle.terminal.specs.Calls.{unstarted}
 use Rattle.terminal.specs.Table.{startTable, hostTable, keyTable}
 use Rattle.terminal.specs.Claims.{NumberedBy, Refused, Leaves, StopsShort, Did, Started}
 use Rattle.promises.specs.Rules.{Rules, Input, stepOf, steps, byteSteps, totalOf}
-use Rattle.promises.specs.Entries.{Entries, Call, outcomes, callAll, inputsDone, AllDone, Read, reads, joinedBytes, readAll}
+use Rattle.promises.specs.Entries.{Entries, Call, outcomes, callAll, inputsDone, AllDone, Read, reads}
+use Rattle.promises.specs.Entries.{joinedBytes, readAll}
 use Rattle.promises.specs.FeedingBack.{Receives, FedBack}
 use Rattle.promises.specs.Copying.{HostStoresNothing, CopyHolds}
 
@@ -28,8 +29,8 @@ pub record Numbers (rules : Rules) (entries : Entries) : Type 1 where
   pub of-key : (t : Terminal) (key : ℕ) (lent : List ℕ) →
       NumberedBy (keyTable t key (length lent) (rules .onKey key t)) (entries .key t key lent)
 
--- Page, marks, output and state after each refusal: as they were, counts 0; a refused start hands back all zeros; 3 has done the
--- commands before the one that lacks room, and nothing else.
+-- Page, marks, output and state after each refusal: as they were, counts 0; a refused start hands back all zeros; 3 has
+-- done the commands before the one that lacks room, and nothing else.
 pub record Refusals (rules : Rules) (entries : Entries) : Type 0 where
   pub of-start : (size : Size) (page : Page) → Refused (entries .start size page) →
       Leaves (unstarted page) [] (entries .start size page)
@@ -44,7 +45,7 @@ pub record Demand1 (rules : Rules) (entries : Entries) : Type 1 where
   pub numbers : Numbers rules entries
   pub refusals : Refusals rules entries
 
--- Demand 2. Cells, cursor, modes and bytes sent are document 01's: a call given 0 did the rules' steps, and nothing else.
+-- Demand 2. Cells, cursor, modes and bytes sent are document 01's: a call given 0 did the rules' steps and no more.
 pub record Follows (rules : Rules) (entries : Entries) : Type 0 where
   pub of-start : (size : Size) (page : Page) → entries .start size page .number ≡ 0 →
       Started size (entries .start size page)
@@ -60,9 +61,9 @@ Cutting rules entries = (t : Terminal) (cut : List Read) → AllDone (outcomes e
 
 -- A full block, whatever asked for it, is fed to a terminal of equal size and equal protected cells.
 abbrev pub FeedingBack : Rules → Entries → Type 0
-FeedingBack rules entries = (sender receiver : Terminal) (asks : Input) (block : List ℕ) (cut : List Read) → Valid sender →
-    stepOf rules asks sender .message ≡ fullBlock block → Receives sender receiver → joinedBytes cut ≡ block →
-    FedBack rules entries sender receiver block cut
+FeedingBack rules entries = (sender receiver : Terminal) (asks : Input) (block : List ℕ) (cut : List Read) →
+    Valid sender → stepOf rules asks sender .message ≡ fullBlock block → Receives sender receiver →
+    joinedBytes cut ≡ block → FedBack rules entries sender receiver block cut
 
 -- No key ever changes a protected cell, nor which cells are protected: in any state, with any slices and room.
 pub record KeysKeep (entries : Entries) : Type 0 where
@@ -77,9 +78,10 @@ pub record Demand2 (rules : Rules) (entries : Entries) : Type 0 where
   pub feeding-back : FeedingBack rules entries
   pub keys-keep : KeysKeep entries
 
--- Demand 3. The calls did some inputs, then one that had a full block sent, then keys and host bytes that store in no cell. The
--- host finds the blocks in the bytes that the calls sent (`finds`) and lays each later one over its copy: right after each block
--- the copy is the full block of the page as it stands; a changed block omits a field exactly when no key has stored in it since.
+-- Demand 3. The calls did some inputs, then one that had a full block sent, then keys and host bytes that store in no
+-- cell. The host finds the blocks in the bytes that the calls sent (`finds`) and lays each later one over its copy:
+-- right after each block the copy is the full block of the page as it stands; and a changed block omits a field exactly
+-- when no key has stored in it since the block before.
 abbrev pub Copying : (List ℕ → List (List ℕ)) → Rules → Entries → Type 0
 Copying finds rules entries =
     (t : Terminal) (calls : List Call) (before : List Input) (asks : Input) (later : List Input) (block : List ℕ) →

@@ -42,12 +42,17 @@ unfoldable pub total : Terminal → List Outcome → Total
 total t [] = record { terminal = t; sent = []; stored = 0 }
 total t (outcome ∷ later) =
     let rest = total (outcome .terminal) later in
-    record { terminal = rest .terminal; sent = bytesSent outcome ++ rest .sent; stored = outcome .stored + rest .stored }
+    record {
+      terminal = rest .terminal;
+      sent = bytesSent outcome ++ rest .sent;
+      stored = outcome .stored + rest .stored;
+    }
 
 abbrev pub callAll : Entries → Terminal → List Call → Total
 callAll entries t calls = total t (outcomes entries t calls)
 
--- The inputs that a call did: the bytes taken, also of a call given 3; the key of a call given 0. A refused call did none.
+-- The inputs that a call did: the bytes taken, also of a call given 3; the key of a call given 0. A refused call did
+-- none.
 unfoldable pub inputsOf : Call → Outcome → List Input
 inputsOf (read bytes output) outcome = map byte (take (outcome .taken) bytes)
 inputsOf (keyPress key output) outcome =
@@ -80,15 +85,16 @@ joinedBytes (r ∷ later) = r .bytes ++ joinedBytes later
 abbrev pub readAll : Entries → Terminal → List Read → Total
 readAll entries t list = callAll entries t (reads list)
 
--- One read; and reads that carry a stream: one given 0 took its bytes; after one given 3 the others carry on with the bytes that
--- it didn't take.
+-- One read; and reads that carry a stream: one given 0 took its bytes; after one given 3 the others carry on with the
+-- bytes that it didn't take.
 abbrev pub readOne : Entries → Terminal → Read → Outcome
 readOne entries t r = entries .host t (r .bytes) (r .output)
 
 pub data Carries (entries : Entries) : Terminal → List ℕ → List Read → Type 0 where
   ended : {t : Terminal} → Carries entries t [] []
   taken : {t : Terminal} (r : Read) {later : List ℕ} {further : List Read} → readOne entries t r .number ≡ 0
-      → Carries entries (readOne entries t r .terminal) later further → Carries entries t (r .bytes ++ later) (r ∷ further)
+      → Carries entries (readOne entries t r .terminal) later further
+      → Carries entries t (r .bytes ++ later) (r ∷ further)
   stopped : {t : Terminal} (r : Read) (later : List ℕ) {further : List Read} → readOne entries t r .number ≡ 3
       → Carries entries (readOne entries t r .terminal) (drop (readOne entries t r .taken) (r .bytes) ++ later) further
       → Carries entries t (r .bytes ++ later) (r ∷ further)

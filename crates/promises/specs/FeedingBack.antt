@@ -11,7 +11,8 @@ use Rattle.steps.specs.Claims.{ProtectedKept}
 use Rattle.promises.specs.Rules.{Rules, byteSteps}
 use Rattle.promises.specs.Entries.{Entries, outcomes, AllDone, Read, reads, readAll}
 
--- A receiver of equal size and equal protected cells (at the same places; D-48), with nothing half read and an unprotected pen.
+-- A receiver of equal size and equal protected cells (at the same places; D-48), with nothing half read and an
+-- unprotected pen.
 pub record Receives (sender receiver : Terminal) : Type 0 where
   pub valid : Valid receiver
   pub size : receiver .state .size ≡ sender .state .size
@@ -19,9 +20,10 @@ pub record Receives (sender receiver : Terminal) : Type 0 where
   pub nothing-half-read : receiver .state .half ≡ nothingRead
   pub unprotected-pen : isProtected (receiver .state .modes .pen) ≡ false
 
--- The block, cut into reads anyhow, is taken and none of it refused; it writes the sender's unprotected characters there and
--- changes no protected cell, nor which cells are protected.
-pub record FedBack (rules : Rules) (entries : Entries) (sender receiver : Terminal) (block : List ℕ) (cut : List Read) : Type 0 where
+-- The block, cut into reads anyhow, is taken and none of it refused; it writes the sender's unprotected characters
+-- there and changes no protected cell, nor which cells are protected.
+pub record FedBack (rules : Rules) (entries : Entries) (sender receiver : Terminal) (block : List ℕ) (cut : List Read)
+    : Type 0 where
   pub answered : AllDone (outcomes entries receiver (reads cut))
   pub nothing-sent : readAll entries receiver cut .sent ≡ []
   pub nothing-refused : (step : Stepped) → List·Memᴰ step (byteSteps rules receiver block) → step .wasRefused ≡ false
@@ -29,4 +31,5 @@ pub record FedBack (rules : Rules) (entries : Entries) (sender receiver : Termin
       characterAt (readAll entries receiver cut .terminal) cell ≡ characterAt sender cell
   pub protected-cells : (cell : ℕ) → free sender cell ≡ false →
       ProtectedKept (receiver .page) (readAll entries receiver cut .terminal .page) cell
-  pub protection : (cell : ℕ) → cell < cellsHere sender → free (readAll entries receiver cut .terminal) cell ≡ free sender cell
+  pub protection : (cell : ℕ) → cell < cellsHere sender →
+      free (readAll entries receiver cut .terminal) cell ≡ free sender cell

@@ -1,5 +1,6 @@
--- What else is promised, beside the three demands: of contracts, of entries with the rules that they follow, and of rules alone.
--- The theorems are in proofs/Theorems.antt; the proofs of the wrong terminals (proofs/Wrong*.antt) show that none is empty.
+-- What else is promised, beside the three demands: of contracts, of entries with the rules that they follow, and of
+-- rules alone. The theorems are in proofs/Theorems.antt; the proofs of the wrong terminals (proofs/Wrong*.antt) show
+-- that none is empty.
 use mathlib.Core.Path.{_≡_}
 use mathlib.Core.Bool.{Bool, true, false}
 use mathlib.Core.List.{List, [], _∷_, map}
@@ -14,7 +15,8 @@ use Rattle.steps.specs.Claims.{ProtectedKept}
 use Rattle.terminal.specs.declared.Reply.{Reply}
 use Rattle.terminal.specs.Claims.{SameResult}
 use Rattle.promises.specs.Rules.{Rules, Input, byte, press, stepOf, steps, byteSteps, totalOf}
-use Rattle.promises.specs.Entries.{Entries, Call, outcomes, callAll, inputsDone, AllDone, Read, reads, joinedBytes, readAll, Carries}
+use Rattle.promises.specs.Entries.{Entries, Call, outcomes, callAll, inputsDone, AllDone, Read, reads}
+use Rattle.promises.specs.Entries.{joinedBytes, readAll, Carries}
 use Rattle.promises.specs.Contracts.{Results, Contracts}
 use Rattle.promises.specs.Copying.{HostStoresNothing, blocksSent, standings, copies, OmissionHolds}
 use Rattle.promises.specs.Demands.{Demand1, Follows}
@@ -22,7 +24,8 @@ use Rattle.promises.specs.Demands.{Demand1, Follows}
 -- One result: whatever comes in, any two results that the contract of an entry allows are the same.
 abbrev pub AllSame : Results → Type 0
 AllSame allowed =
-    (one other : Reply) (page there : Page) (output lent : List ℕ) → allowed one page output → allowed other there lent →
+    (one other : Reply) (page there : Page) (output lent : List ℕ) →
+    allowed one page output → allowed other there lent →
     SameResult one other page there output lent
 
 pub record OneResult (contracts : Contracts) : Type 0 where
@@ -43,7 +46,8 @@ OneTerminal rules =
 
 -- Validity: a start given 0 leaves a valid terminal, and calls leave a valid one valid, so that they never meet 1 or 2.
 pub record StaysValid (entries : Entries) : Type 0 where
-  pub from-start : (size : Size) (page : Page) → entries .start size page .number ≡ 0 → Valid (entries .start size page .terminal)
+  pub from-start : (size : Size) (page : Page) → entries .start size page .number ≡ 0 →
+      Valid (entries .start size page .terminal)
   pub through-calls : (t : Terminal) → Valid t → (calls : List Call) → Valid (callAll entries t calls .terminal)
 
 -- Two ways to cut a stream into reads, none of them refused, leave, send and store the same.
@@ -53,24 +57,29 @@ SameHoweverCut entries =
     AllDone (outcomes entries t (reads one)) → AllDone (outcomes entries t (reads other)) →
     readAll entries t one ≡ readAll entries t other
 
--- Calls given 3: reads that carry a stream, stopped for room wherever and however often, did the steps of the whole stream.
+-- Calls given 3: reads that carry a stream, stopped for room wherever and however often, did the steps of the whole
+-- stream.
 abbrev pub Continuing : Rules → Entries → Type 0
 Continuing rules entries =
     (t : Terminal) (stream : List ℕ) (list : List Read) → Carries entries t stream list →
     readAll entries t list ≡ totalOf t (byteSteps rules t stream)
 
--- With room for 35,185 bytes or more, a host call given 3 has sent something: calling again with the rest comes to an end.
+-- With room for 35,185 bytes or more, a host call given 3 has sent something: calling again with the rest comes to an
+-- end.
 abbrev pub Progress : Entries → Type 0
 Progress entries =
     (t : Terminal) (bytes lent : List ℕ) → 35185 ≤ length lent → entries .host t bytes lent .number ≡ 3 →
     0 < entries .host t bytes lent .sent
 
--- Calls are the steps of what they did: their bytes are those messages joined, their count the cells that those steps name.
+-- Calls are the steps of what they did: their bytes are those messages joined, their count the cells that those steps
+-- name.
 abbrev pub CallsAreSteps : Rules → Entries → Type 0
 CallsAreSteps rules entries =
-    (t : Terminal) (calls : List Call) → callAll entries t calls ≡ totalOf t (steps rules t (inputsDone entries t calls))
+    (t : Terminal) (calls : List Call) →
+    callAll entries t calls ≡ totalOf t (steps rules t (inputsDone entries t calls))
 
--- What a block leaves: every character; protected cells with their marks, modified too; and no unprotected cell modified.
+-- What a block leaves: every character; protected cells with their marks, modified too; and no unprotected cell
+-- modified.
 pub record LeftByBlock (before after : Terminal) : Type 0 where
   pub characters : (cell : ℕ) → cell < cellsHere before → characterAt after cell ≡ characterAt before cell
   pub protected-cells : (cell : ℕ) → free before cell ≡ false → ProtectedKept (before .page) (after .page) cell
@@ -81,8 +90,8 @@ BlocksKeep rules =
     (t : Terminal) → Valid t → (asks : Input) (full : Bool) (bytes : List ℕ) →
     stepOf rules asks t .message ≡ blockMessage full bytes → LeftByBlock t (stepOf rules asks t .terminal)
 
--- What asks for a block, full or changed: 266, 267, and S after ESC. A step sends one exactly when it is asked for, and it is that
--- of the page as it stands.
+-- What asks for a block, full or changed: 266, 267, and S after ESC. A step sends one exactly when it is asked for, and
+-- it is that of the page as it stands.
 pub data Asks (t : Terminal) : Bool → Input → Type 0 where
   changed-by-266 : Asks t false (press 266)
   full-by-267 : Asks t true (press 267)

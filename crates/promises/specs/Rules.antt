@@ -1,5 +1,5 @@
--- A kind of terminal by its rules: what one host byte does, and one key. What was stored, sent and refused is told by the rules
--- alone, never by what runs.
+-- A kind of terminal by its rules: what one host byte does, and one key. What was stored, sent and refused is told by
+-- the rules alone, never by what runs.
 use mathlib.Core.List.{List, [], _∷_, map}
 use Prim.Native.Nat.{ℕ}
 use lib.ListN.{length}

@@ -1,4 +1,5 @@
--- The page as it counts: fields, keys, blocks and promises go by what is seen of a terminal, and by nothing else of its page.
+-- The page as it counts: fields, keys, blocks and promises go by what is seen of a terminal, and by nothing else of its
+-- page.
 use mathlib.Core.Bool.{Bool}
 use mathlib.Core.List.{List}
 use Prim.Native.Nat.{ℕ}

@@ -19,7 +19,6 @@ use Rattle.steps.specs.Steps.{Terminal, Stepped, bytesOf, allCells, Valid}
 use Rattle.steps.specs.Commands.{freshStep}
 use Rattle.steps.specs.Keys.{keyStep}
 use Rattle.steps.proofs.Soundness.{sized}
-use Rattle.keys.proofs.Theorems as Keys
 use Rattle.terminal.specs.declared.Answer.{Answer}
 use Rattle.terminal.specs.declared.Answer.the-variants.{Done, WrongSize, WrongState, NoRoom, UnknownKey, Locked, TooLong, NoCell}
 use Rattle.terminal.specs.declared.Reply.{Reply}

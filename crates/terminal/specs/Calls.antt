@@ -34,8 +34,8 @@ hostCall t bytes output =
 unfoldable pub keyCall : Terminal → ℕ → List ℕ → Outcome
 keyCall t key output = gives (firstOf (keyLines t key output)) 0 t output (fitting (length output) (keyStep key t ∷ []))
 
--- What the contract of an entry allows, from all that came in: what is handed back, with the page and the output that are left.
--- (A start is lent no output: what it leaves there is [].)
+-- What the contract of an entry allows, from all that came in: what is handed back, with the page and the output that
+-- are left. (A start is lent no output: what it leaves there is [].)
 abbrev pub StartAllows : Size → Page → Reply → Page → List ℕ → Type 0
 StartAllows size page reply left output = given reply left output ≡ startCall size page
 

@@ -1,4 +1,5 @@
--- What is claimed of a call: its number, that it changed nothing, that it did some steps, that two results are the same.
+-- What is claimed of a call: its number, that it changed nothing, that it did some steps, that two results are the
+-- same.
 use mathlib.Core.List.{List, []}
 use mathlib.Core.Logic.{_↔_}
 use mathlib.Core.Path.{_≡_}
@@ -37,7 +38,8 @@ pub record Did (taken : ℕ) (t : Terminal) (lent : List ℕ) (steps : List Step
   pub terminal : outcome .terminal ≡ after t steps
   pub output : outcome .output ≡ placed 0 (sentBy steps) lent
 
--- What a host call given 3 leaves: it did the steps before the one whose message exceeds the room left, and took their bytes only.
+-- What a host call given 3 leaves: it did the steps before the one whose message exceeds the room left, and took their
+-- bytes only.
 abbrev pub StopsShort : Terminal → List ℕ → List Stepped → Outcome → Type 0
 StopsShort t lent steps outcome =
     (line : Line3 (length lent) steps) × Did (length (line .before)) t lent (line .before) outcome

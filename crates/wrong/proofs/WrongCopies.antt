@@ -89,19 +89,19 @@ second-copy same = ap copyAfter same
 abbrev pub typeX : List Input
 typeX = press 0x58 ∷ press 266 ∷ []
 
-pub looksAtFirstCells-breaks-copying : CopyingSteps looksAtFirstCells → ⊥
+pub looksAtFirstCells-breaks-copying-steps : CopyingSteps looksAtFirstCells → ⊥
 unfolding keySteps streams HostStoresNothing blockIn blocksSent standings copies
-looksAtFirstCells-breaks-copying kept =
+looksAtFirstCells-breaks-copying-steps kept =
     copy-is-stale (by-first-cells 0x58) (second-copy (kept (before 0x42 clear) B-valid (press 267) firstBlock refl typeX tt))
 
-pub feignsChangedBlocks-breaks-copying : CopyingSteps feignsChangedBlocks → ⊥
+pub feignsChangedBlocks-breaks-copying-steps : CopyingSteps feignsChangedBlocks → ⊥
 unfolding keySteps streams HostStoresNothing blockIn blocksSent standings copies
-feignsChangedBlocks-breaks-copying kept =
+feignsChangedBlocks-breaks-copying-steps kept =
     copy-is-stale refl (second-copy (kept (before 0x42 clear) B-valid (press 267) firstBlock refl typeX tt))
 
-pub neverTags-breaks-copying : CopyingSteps neverTags → ⊥
+pub neverTags-breaks-copying-steps : CopyingSteps neverTags → ⊥
 unfolding keySteps streams HostStoresNothing blockIn blocksSent standings copies
-neverTags-breaks-copying kept =
+neverTags-breaks-copying-steps kept =
     copy-is-stale (untagged-block 0x58) (second-copy (kept (before 0x42 clear) B-valid (press 267) firstBlock refl typeX tt))
 
 -- Omission. The field; and a changed block that omits it, though its second cell was stored.
@@ -122,15 +122,15 @@ wrongly-omitted marks changed listed empty exactly =
 abbrev pub typeB : List Input
 typeB = press 0x42 ∷ press 266 ∷ []
 
-pub looksAtFirstCells-breaks-omission : OmissionSteps looksAtFirstCells → ⊥
+pub looksAtFirstCells-breaks-omission-steps : OmissionSteps looksAtFirstCells → ⊥
 unfolding blockBytes keySteps streams HostStoresNothing OmissionHolds OmitsExactly storedSince
-looksAtFirstCells-breaks-omission kept =
+looksAtFirstCells-breaks-omission-steps kept =
     wrongly-omitted secondTagged (firstCellBlock (after 0x42 secondTagged)) (field-listed secondTagged refl refl) (by-first-cells 0x42)
     (kept (before 0x42 clear) B-valid (press 267) firstBlock refl typeB tt .1 .0)
 
-pub tagsOnlyChanges-breaks-omission : OmissionSteps tagsOnlyChanges → ⊥
+pub tagsOnlyChanges-breaks-omission-steps : OmissionSteps tagsOnlyChanges → ⊥
 unfolding blockBytes keySteps streams HostStoresNothing OmissionHolds OmitsExactly storedSince
-tagsOnlyChanges-breaks-omission kept =
+tagsOnlyChanges-breaks-omission-steps kept =
     wrongly-omitted clear (block false 80 (sheet (texts 0x42) clear)) (field-listed clear refl refl) (untagged-block 0x42)
     (kept (before 0x42 clear) B-valid (press 267) firstBlock refl typeB tt .1 .0)
 
@@ -150,7 +150,7 @@ wrongly-sent exactly =
     let entry : Entry = record { row = 1; column = 1; characters = 0x41 ∷ 0x42 ∷ 0x43 ∷ [] } in
     omitted .no-entry entry (subst (λ (bytes : List ℕ). List·Memᴰ entry (decode bytes)) (sym first-tagged-block) (List·Memᴰ·head refl)) refl refl
 
-pub keepsTags-breaks-omission : OmissionSteps keepsTags → ⊥
+pub keepsTags-breaks-omission-steps : OmissionSteps keepsTags → ⊥
 unfolding keySteps streams isBlock HostStoresNothing OmissionHolds OmitsExactly storedSince
-keepsTags-breaks-omission kept =
+keepsTags-breaks-omission-steps kept =
     wrongly-sent (kept (before 0x42 firstTagged) first-tagged-valid (press 267) (block true 80 (sheet (texts 0x42) firstTagged)) refl (press 266 ∷ []) tt .0)

@@ -108,7 +108,8 @@ startsOtherSize = withStart (λ size page.
     if eqb (size .rows) 48 and eqb (size .columns) 80 then startCall (record { rows = 24; columns = 160 }) page
     else startCall size page)
 
--- With that start, some keys are given what ours are given and move the cursor as ours do, and nothing is stored, counted or tagged:
+-- With that start, some keys are given what ours are given and move the cursor as ours do, and nothing is stored,
+-- counted or tagged:
 abbrev feigned : Terminal → ℕ → Outcome → Outcome
 feigned t key o =
     record { number = o .number; taken = 0; sent = 0; stored = 0; terminal = withState t (keyStep key t .terminal .state); output = o .output }

@@ -1,5 +1,5 @@
--- Wrong rules: document 01's with one fault each, and entries that follow them. What they do, they tell: so only what is promised of
--- rules, and demand 3, can tell them from ours.
+-- Wrong rules: document 01's with one fault each, and entries that follow them. What they do, they tell: so only what
+-- is promised of rules, and demand 3, can tell them from ours.
 use mathlib.Core.Bool.{Bool, true, false}
 use mathlib.Core.List.{List, [], _∷_, _++_, map}
 use Prim.Native.Nat.{ℕ}
@@ -11,7 +11,8 @@ use Rattle.page.specs.Marks.{withoutModified}
 use Rattle.page.specs.Page.{Page, pageOf}
 use Rattle.fields.specs.Fields.{Field}
 use Rattle.blocks.specs.Blocks.{encode}
-use Rattle.steps.specs.Steps.{Terminal, Message, silent, report, fullBlock, changedBlock, Stepped, stores, sends, cursorCell}
+use Rattle.steps.specs.Steps.{Terminal, Message, silent, report, fullBlock, changedBlock, Stepped, stores, sends}
+use Rattle.steps.specs.Steps.{cursorCell}
 use Rattle.steps.specs.Seen.{characterAt, modifiedAt, fieldsHere, entryHere, blockHere}
 use Rattle.steps.specs.Host.{hostStep}
 use Rattle.steps.specs.Keys.{isTyping, keyStep}
