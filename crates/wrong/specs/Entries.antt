@@ -29,18 +29,22 @@ withHost host = record { start = startCall; host = host; key = keyCall }
 abbrev pub withKey : (Terminal → ℕ → List ℕ → Outcome) → Entries
 withKey key = record { start = startCall; host = hostCall; key = key }
 
--- An outcome with another terminal, other bytes taken, another count, another output.
+-- An outcome by its parts; one with another terminal, other bytes taken, another count, another output.
+abbrev outcomeWith : ℕ → ℕ → ℕ → ℕ → Terminal → List ℕ → Outcome
+outcomeWith number taken sent stored t output =
+    record { number = number; taken = taken; sent = sent; stored = stored; terminal = t; output = output }
+
 abbrev leaving : Terminal → Outcome → Outcome
-leaving t o = record { number = o .number; taken = o .taken; sent = o .sent; stored = o .stored; terminal = t; output = o .output }
+leaving t o = outcomeWith (o .number) (o .taken) (o .sent) (o .stored) t (o .output)
 
 abbrev taking : ℕ → Outcome → Outcome
-taking taken o = record { number = o .number; taken = taken; sent = o .sent; stored = o .stored; terminal = o .terminal; output = o .output }
+taking taken o = outcomeWith (o .number) taken (o .sent) (o .stored) (o .terminal) (o .output)
 
 abbrev pub counting : ℕ → Outcome → Outcome
-counting stored o = record { number = o .number; taken = o .taken; sent = o .sent; stored = stored; terminal = o .terminal; output = o .output }
+counting stored o = outcomeWith (o .number) (o .taken) (o .sent) stored (o .terminal) (o .output)
 
 abbrev pub showing : List ℕ → Outcome → Outcome
-showing output o = record { number = o .number; taken = o .taken; sent = o .sent; stored = o .stored; terminal = o .terminal; output = output }
+showing output o = outcomeWith (o .number) (o .taken) (o .sent) (o .stored) (o .terminal) output
 
 -- A terminal with another page, with nothing half read, with no cell modified.
 abbrev pub withPage : Page → Terminal → Terminal
@@ -81,8 +85,9 @@ lockedBeforeUnknown = withKey (λ t key output.
 abbrev pub blanksRefusedStart : Entries
 blanksRefusedStart = withStart (λ size page.
     let outcome = startCall size page in
+    let blank = pageOf (replicate (length (page .characters)) 0x20) (page .marks) in
     if eqb (outcome .number) 0 then outcome
-    else leaving (withPage (pageOf (replicate (length (page .characters)) 0x20) (page .marks)) (outcome .terminal)) outcome)
+    else leaving (withPage blank (outcome .terminal)) outcome)
 
 -- 266 or 267 given 3 clears modified all the same.
 abbrev pub clearsTagsRefused : Entries
@@ -97,7 +102,7 @@ abbrev paintedOver : Terminal → Terminal
 paintedOver t = hostStep 0x60 (hostStep 0x1B (hostStep 0x58 t .terminal) .terminal) .terminal
 
 abbrev inventing : Outcome → Outcome
-inventing o = record { number = o .number; taken = 9; sent = 9; stored = 0; terminal = paintedOver (o .terminal); output = o .output }
+inventing o = outcomeWith (o .number) 9 9 0 (paintedOver (o .terminal)) (o .output)
 
 abbrev pub paintsStart : Entries
 paintsStart = withStart (λ size page. on0 inventing (startCall size page))
@@ -111,8 +116,7 @@ startsOtherSize = withStart (λ size page.
 -- With that start, some keys are given what ours are given and move the cursor as ours do, and nothing is stored,
 -- counted or tagged:
 abbrev feigned : Terminal → ℕ → Outcome → Outcome
-feigned t key o =
-    record { number = o .number; taken = 0; sent = 0; stored = 0; terminal = withState t (keyStep key t .terminal .state); output = o .output }
+feigned t key o = outcomeWith (o .number) 0 0 0 (withState t (keyStep key t .terminal .state)) (o .output)
 
 abbrev muting : (ℕ → Terminal → Bool) → Entries
 muting which = record {
@@ -147,7 +151,9 @@ actsOnFirstByte = withHost (λ t bytes output. taking (length bytes) (hostCall t
 
 -- Demand 2, feeding back. It stores nothing that the host sends.
 abbrev pub storesNoText : Entries
-storesNoText = withHost (λ t bytes output. let outcome = hostCall t bytes output in leaving (withPage (t .page) (outcome .terminal)) outcome)
+storesNoText = withHost (λ t bytes output.
+    let outcome = hostCall t bytes output in
+    leaving (withPage (t .page) (outcome .terminal)) outcome)
 
 -- It has a fixed answer: all input is taken, and nothing is done.
 abbrev pub fixedAnswer : Entries
@@ -155,7 +161,9 @@ fixedAnswer = withHost (λ t bytes output. taking (length bytes) (unchanged Done
 
 -- It gives 6 to more than 16 host bytes in a call.
 abbrev pub refusesLongReads : Entries
-refusesLongReads = withHost (λ t bytes output. if ltb 16 (length bytes) then unchanged TooLong t output else hostCall t bytes output)
+refusesLongReads = withHost (λ t bytes output.
+    if ltb 16 (length bytes) then unchanged TooLong t output
+    else hostCall t bytes output)
 
 -- Demand 2, keys. 263 makes the cursor's whole row 20s, protected cells too.
 abbrev rowBlanked : Terminal → Stepped
@@ -174,19 +182,23 @@ blanksRow = withKey (λ t key output.
 abbrev pub typesOnProtected : Entries
 typesOnProtected = withKey (λ t key output.
     let outcome = keyCall t key output in
+    let cell = cursorCell (t .state) in
     if isTyping key and eqb (outcome .number) 7 then
-    did Done 0 t output (stores (cursorCell (t .state) ∷ []) false (t .state) (typed (cursorCell (t .state)) key (t .page)) ∷ [])
+    did Done 0 t output (stores (cell ∷ []) false (t .state) (typed cell key (t .page)) ∷ [])
     else outcome)
 
 -- Validity. A host call leaves the cursor in row 0.
 abbrev pub leavesRow0 : Entries
-leavesRow0 = changingHost (λ o. leaving (withState (o .terminal) (withCursor (o .terminal .state) 0 (o .terminal .state .cursor .column))) o)
+leavesRow0 = changingHost (λ o.
+    let s = o .terminal .state in
+    leaving (withState (o .terminal) (withCursor s 0 (s .cursor .column))) o)
 
 -- A key sets message 2.
 abbrev pub setsMessage2 : Entries
 setsMessage2 = withKey (λ t key output.
     let outcome = keyCall t key output in
-    leaving (withState (outcome .terminal) (withLocks (outcome .terminal .state) (outcome .terminal .state .locks .manual) (outcome .terminal .state .locks .soft) 2)) outcome)
+    let s = outcome .terminal .state in
+    leaving (withState (outcome .terminal) (withLocks s (s .locks .manual) (s .locks .soft) 2)) outcome)
 
 -- Continuing. A call given 3 tells of no cells stored, though commands before it were done.
 abbrev pub forgetsCountOn3 : Entries
@@ -202,7 +214,7 @@ stopsAtOnce = withHost (λ t bytes output. unchanged NoRoom t output)
 
 -- It hides that it has sent something.
 abbrev pub hidesSent : Entries
-hidesSent = changingHost (λ o. record { number = 3; taken = o .taken; sent = 0; stored = o .stored; terminal = o .terminal; output = o .output })
+hidesSent = changingHost (λ o. outcomeWith 3 (o .taken) 0 (o .stored) (o .terminal) (o .output))
 
 -- Calls are steps. An invented count of cells stored.
 abbrev pub inventsCount : Entries

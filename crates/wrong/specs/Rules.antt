@@ -35,7 +35,8 @@ abbrev pub keyCallBy : (ℕ → Terminal → Stepped) → Terminal → ℕ → L
 keyCallBy onKey t key output =
     let room = length output in
     let pressed = onKey key t ∷ [] in
-    gives (firstOf (take 5 (keyLines t key output) ++ (exceedsRoom room pressed answers NoRoom ∷ []))) 0 t output (fitting room pressed)
+    let lines = take 5 (keyLines t key output) ++ (exceedsRoom room pressed answers NoRoom ∷ []) in
+    gives (firstOf lines) 0 t output (fitting room pressed)
 
 abbrev pub keysBy : Rules → Entries
 keysBy rules = withKey (keyCallBy (rules .onKey))
@@ -67,11 +68,14 @@ pageAfterBlock change step =
 
 -- Sending clears modified on protected cells too.
 abbrev pub clearsAllTags : Rules
-clearsAllTags = withOnKey (λ key t. pageAfterBlock (λ page. pageOf (page .characters) (map (λ mark. withoutModified mark) (page .marks))) (keyStep key t))
+clearsAllTags = withOnKey (λ key t.
+    let clears = map (λ mark. withoutModified mark) in
+    pageAfterBlock (λ page. pageOf (page .characters) (clears (page .marks))) (keyStep key t))
 
 -- ESC S unprotects the first cell.
 abbrev pub unprotectsFirst : Rules
-unprotectsFirst = withOnByte (λ b t. pageAfterBlock (λ page. pageOf (page .characters) (set (page .marks) 0 0)) (hostStep b t))
+unprotectsFirst = withOnByte (λ b t.
+    pageAfterBlock (λ page. pageOf (page .characters) (set (page .marks) 0 0)) (hostStep b t))
 
 -- Blocks asked for. 266 clears modified and sends nothing.
 abbrev pub withholdsChanged : Rules
@@ -98,7 +102,9 @@ feignsChangedBlocks = sendingOn 266 (λ t. changedBlock (0x03 ∷ []))
 
 -- A typed character leaves the tag clear, always,
 abbrev untagged : Terminal → Stepped → Stepped
-untagged t step = stores (step .cells) (step .protection) (step .terminal .state) (pageOf (step .terminal .page .characters) (t .page .marks))
+untagged t step =
+    let page = pageOf (step .terminal .page .characters) (t .page .marks) in
+    stores (step .cells) (step .protection) (step .terminal .state) page
 
 abbrev pub neverTags : Rules
 neverTags = withOnKey (λ key t. if isTyping key then untagged t (keyStep key t) else keyStep key t)
