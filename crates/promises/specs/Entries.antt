@@ -51,8 +51,8 @@ total t (outcome ∷ later) =
 abbrev pub callAll : Entries → Terminal → List Call → Total
 callAll entries t calls = total t (outcomes entries t calls)
 
--- The inputs that a call did: the bytes taken, also of a call given 3; the key of a call given 0. A refused call did
--- none.
+-- The inputs that a call did: the bytes taken, also of a host call given 3; the key of a call given 0. Any other call
+-- did none.
 unfoldable pub inputsOf : Call → Outcome → List Input
 inputsOf (read bytes output) outcome = map byte (take (outcome .taken) bytes)
 inputsOf (keyPress key output) outcome =
@@ -70,7 +70,7 @@ pub data AllDone : List Outcome → Type 0 where
   no-more : AllDone []
   done : (outcome : Outcome) (later : List Outcome) → outcome .number ≡ 0 → AllDone later → AllDone (outcome ∷ later)
 
--- Reads: the host calls among which a stream is cut. The bytes of all of them, joined; what they leave together.
+-- Reads: the host calls into which a stream is cut. The bytes of all of them, joined; what they leave together.
 pub record Read : Type 0 where
   pub bytes : List ℕ
   pub output : List ℕ

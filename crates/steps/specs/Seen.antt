@@ -1,5 +1,5 @@
--- The page as it counts: fields, keys, blocks and promises go by what is seen of a terminal, and by nothing else of its
--- page.
+-- The page as it counts: fields, keys, blocks and promises ask what is seen of a terminal which cells are unprotected
+-- or modified, and what they hold. What is stored goes into its page.
 use mathlib.Core.Bool.{Bool}
 use mathlib.Core.List.{List}
 use Prim.Native.Nat.{ℕ}

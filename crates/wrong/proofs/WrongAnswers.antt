@@ -1,4 +1,4 @@
--- Wrong answers and refusals are caught by demand 1.
+-- Wrong answers and refusals are caught by demand 1, states out of range by validity through calls.
 use mathlib.Core.Path.{_≡_, refl, sym, ap, _∙_}
 use mathlib.Core.Bool.{true, false}
 use mathlib.Core.List.{List, [], _∷_}

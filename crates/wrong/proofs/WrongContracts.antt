@@ -1,4 +1,4 @@
--- Contracts that leave something open allow two results for one call, which demand 1 rules out.
+-- Contracts that leave something open allow two results for one call, which OneResult rules out.
 use mathlib.Core.Path.{refl, ap}
 use mathlib.Core.List.{List, [], _∷_}
 use Prim.Native.Nat.{ℕ}

@@ -1,4 +1,4 @@
--- Blocks that leave out what was stored, or have what wasn't, are caught by demand 3.
+-- Blocks that leave out what was stored, or have what wasn't, are caught by demand 3 over steps.
 use mathlib.Core.Path.{_≡_, refl, sym, ap, _∙_, subst}
 use mathlib.Core.Bool.{true, false}
 use mathlib.Core.List.{List, [], _∷_, _++_, map, List·Memᴰ, List·Memᴰ·head, List·Memᴰ·not-nil}

@@ -24,7 +24,7 @@ receives : Receives start receiver
 unfolding validity
 receives = record { valid = record { size = refl; state = refl; page = refl }; size = refl; protection = λ cell. refl; nothing-half-read = refl; unprotected-pen = refl }
 
--- Whatever reads host bytes is to be fed what 267 sends there, in one read with no room.
+-- What 267 sends at the sender is fed in one read with no room.
 abbrev sent : List ℕ
 sent = fullBytes 0x41 0x43
 

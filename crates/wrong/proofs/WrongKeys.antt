@@ -1,4 +1,4 @@
--- Keys and blocks that change protected cells are caught by demand 2.
+-- Keys that change protected cells are caught by demand 2; blocks that clear too much or too little, by what a block leaves.
 use mathlib.Core.Path.{refl}
 use mathlib.Core.Bool.{true}
 use mathlib.Core.List.{[], _∷_}

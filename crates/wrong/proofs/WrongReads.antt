@@ -1,4 +1,4 @@
--- What goes wrong where a stream is cut, stopped or counted is caught by demand 2, and by calls being steps.
+-- What goes wrong where a stream is cut, stopped or counted is caught by cutting, continuing, progress, and by calls being steps.
 use mathlib.Core.Path.{refl, sym, ap}
 use mathlib.Core.List.{List, [], _∷_}
 use Prim.Native.Nat.{ℕ, _≤_}
@@ -36,7 +36,7 @@ actsOnFirstByte-breaks-cutting kept =
     let same = kept form (bytes (0x41 ∷ 0x42 ∷ []) ∷ []) (done _ _ refl no-more) in
     eqb-false 1 2 refl (ap (λ (left : Total). left .stored) same)
 
--- And so two ways to cut ESC ` in two, or in one, don't leave the same.
+-- So ESC ` in one read and in two don't leave the same, nor do the two texts.
 pub dropsHalfRead-breaks-same-however-cut : SameHoweverCut dropsHalfRead → ⊥
 unfolding calls hostSteps streams
 dropsHalfRead-breaks-same-however-cut kept =

@@ -1,4 +1,4 @@
--- Wrong entries: ours with one fault each, under the promise that it breaks (proofs/).
+-- Wrong entries: each is ours with a fault, under the promise that it breaks (proofs/).
 use mathlib.Core.Bool.{Bool, false}
 use mathlib.Core.List.{List, [], _∷_, reverse}
 use Prim.Native.Nat.{ℕ, _+_}
@@ -113,8 +113,8 @@ startsOtherSize = withStart (λ size page.
     if eqb (size .rows) 48 and eqb (size .columns) 80 then startCall (record { rows = 24; columns = 160 }) page
     else startCall size page)
 
--- With that start, some keys are given what ours are given and move the cursor as ours do, and nothing is stored,
--- counted or tagged:
+-- With the start of `paintsStart`, some keys are given what ours are given and move the cursor as ours do, and nothing
+-- is stored, counted or tagged:
 abbrev feigned : Terminal → ℕ → Outcome → Outcome
 feigned t key o = outcomeWith (o .number) 0 0 0 (withState t (keyStep key t .terminal .state)) (o .output)
 
@@ -208,11 +208,11 @@ forgetsCountOn3 = changingHost (on3 (counting 0))
 abbrev pub takesLastByteOn3 : Entries
 takesLastByteOn3 = changingHost (on3 (λ o. taking (o .taken + 1) o))
 
--- Progress. A host call with much room is given 3 and does nothing, once and again.
+-- Progress. Every host call is given 3 and does nothing, however much room it has.
 abbrev pub stopsAtOnce : Entries
 stopsAtOnce = withHost (λ t bytes output. unchanged NoRoom t output)
 
--- It hides that it has sent something.
+-- It does its steps, is given 3, and tells of no bytes sent.
 abbrev pub hidesSent : Entries
 hidesSent = changingHost (λ o. outcomeWith 3 (o .taken) 0 (o .stored) (o .terminal) (o .output))
 

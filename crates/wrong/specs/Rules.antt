@@ -1,4 +1,4 @@
--- Wrong rules: document 01's with one fault each, and entries that follow them. What they do, they tell: so only what
+-- Wrong rules, each document 01's with a fault, and entries that follow them. What they do, they tell: so only what
 -- is promised of rules, and demand 3, can tell them from ours.
 use mathlib.Core.Bool.{Bool, true, false}
 use mathlib.Core.List.{List, [], _∷_, _++_, map}

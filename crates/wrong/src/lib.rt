@@ -1,1 +1,1 @@
-// Wrong terminals: each is ours with one fault (specs/), and breaks the promise under which it stands (proofs/).
+// Wrong terminals: each is ours with a fault (specs/), and breaks the promise under which it stands (proofs/).
