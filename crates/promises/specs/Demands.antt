@@ -80,8 +80,8 @@ pub record Demand2 (rules : Rules) (entries : Entries) : Type 0 where
 
 -- Demand 3. The calls did some inputs, then one that had a full block sent, then keys and host bytes that store in no
 -- cell. The host finds the blocks in the bytes that the calls sent (`finds`) and lays each later one over its copy:
--- right after each block the copy is the full block of the page as it stands; and a changed block omits a field exactly
--- when no key has stored in it since the block before.
+-- right after each block the copy is the full block of the page; and a changed block omits a field exactly when keys
+-- have stored in none of its cells since the block before.
 abbrev pub Copying : (List ℕ → List (List ℕ)) → Rules → Entries → Type 0
 Copying finds rules entries =
     (t : Terminal) (calls : List Call) (before : List Input) (asks : Input) (later : List Input) (block : List ℕ) →

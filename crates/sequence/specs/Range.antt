@@ -22,6 +22,6 @@ pub data HalfReadOutOfRange (half : HalfRead) : Type 0 where
   -- of 0 to 9,999, and those not reached are 0
   argument-above-9999 : (i : ℕ) → 9999 < argumentOf half i → HalfReadOutOfRange half
   argument-not-reached : (i : ℕ) → half .count ≤ i → (argumentOf half i ≡ 0 → ⊥) → HalfReadOutOfRange half
-  -- spoiling sets one argument of 0, and nothing adds to it
+  -- a spoilt record has one argument, and that is 0
   spoilt-not-one : half .spoilt ≡ true → (half .count ≡ 1 → ⊥) → HalfReadOutOfRange half
   spoilt-not-0 : half .spoilt ≡ true → (i : ℕ) → (argumentOf half i ≡ 0 → ⊥) → HalfReadOutOfRange half
