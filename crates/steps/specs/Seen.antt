@@ -21,7 +21,7 @@ cellsHere t = length (seen t .marks)
 abbrev pub characterAt : Terminal → ℕ → ℕ
 characterAt t cell = getD (seen t .characters) cell 0
 
--- Whether a cell is unprotected: the one test for it.
+-- Whether a cell is unprotected.
 abbrev pub free : Terminal → ℕ → Bool
 free t cell = unprotected (seen t .marks) cell
 
