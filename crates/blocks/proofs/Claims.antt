@@ -1,7 +1,7 @@
 -- The words in which the theorems on blocks are stated.
 use mathlib.Core.Path.{_≡_}
-use mathlib.Core.Bool.{Bool, true, false}
-use mathlib.Core.List.{List}
+use mathlib.Core.Bool.{Bool, true, false, not}
+use mathlib.Core.List.{List, [], _∷_, _++_}
 use Prim.Native.Nat.{ℕ, _*_, _%_, _<_, _≤_}
 use lib.Dec.{eqb}
 use lib.ListN.{length, getD, replicate}
@@ -13,6 +13,7 @@ use Rattle.page.proofs.Keeping.{SameSize}
 use Rattle.places.specs.Places.{placeOf}
 use Rattle.fields.specs.Fields.{Field, fieldsOf}
 use Rattle.blocks.specs.Blocks.{entriesSent}
+use Rattle.blocks.specs.Finding.{endsReport, endsHead}
 
 -- A page of no more than 48 rows of no more than 160 columns, with characters 20 to 7E.
 pub record Sendable (columns : ℕ) (page : Page) : Type 0 where
@@ -61,3 +62,15 @@ blankForm free cells =
 -- Of 160 columns, the first and the even ones.
 unfoldable pub firstAndEven : ℕ → Bool
 firstAndEven cell = eqb (placeOf 160 cell .column) 1 or eqb (placeOf 160 cell .column % 2) 0
+
+-- A byte that ends no sequence.
+unfoldable pub readsOn : ℕ → Bool
+readsOn byte = not (endsReport byte or endsHead byte)
+
+-- A report: ESC, bytes that end no sequence, then n or R.
+pub record IsReport (bytes : List ℕ) : Type 0 where
+  pub between : List ℕ
+  pub final : ℕ
+  pub whole : bytes ≡ 0x1B ∷ (between ++ (final ∷ []))
+  pub between-reads-on : every readsOn between ≡ true
+  pub final-ends : endsReport final ≡ true

@@ -14,9 +14,9 @@ use Rattle.page.specs.Page.{Page}
 use Rattle.output.specs.Decimal.{decimal, placeBytes}
 use Rattle.blocks.specs.Blocks.{Entry, headBytes, entryBytes, encode, block}
 use Rattle.blocks.specs.Decode.{validEntry}
-use Rattle.blocks.specs.Finding.{endsReport, endsHead, readsOn, holding, outside, inside, afterByte}
-use Rattle.blocks.specs.Finding.{blocksFrom, blocksIn, IsReport}
-use Rattle.blocks.proofs.Claims.{Sendable}
+use Rattle.blocks.specs.Finding.{endsReport, endsHead, holding, outside, inside, afterByte}
+use Rattle.blocks.specs.Finding.{blocksFrom, blocksIn}
+use Rattle.blocks.proofs.Claims.{Sendable, readsOn, IsReport}
 use Rattle.blocks.proofs.Decoding.{digits, valid}
 use Rattle.blocks.proofs.Pages.{valid-entries}
 

@@ -9,9 +9,9 @@ use Rattle.page.specs.Page.{Page}
 use Rattle.blocks.specs.Blocks.{Entry, encode, entriesSent, block}
 use Rattle.blocks.specs.Decode.{decode, validEntry}
 use Rattle.blocks.specs.Lay.{lay}
-use Rattle.blocks.specs.Finding.{blocksIn, IsReport}
+use Rattle.blocks.specs.Finding.{blocksIn}
 use Rattle.page.proofs.Keeping.{SameSize}
-use Rattle.blocks.proofs.Claims.{Sendable, Whole, SameForm, FilledAlike, NothingModified, UnmodifiedKept, blankForm, firstAndEven}
+use Rattle.blocks.proofs.Claims.{Sendable, Whole, IsReport, SameForm, FilledAlike, NothingModified, UnmodifiedKept, blankForm, firstAndEven}
 use Rattle.blocks.proofs.Decoding
 use Rattle.blocks.proofs.Pages
 use Rattle.blocks.proofs.Recovering

@@ -1,11 +1,9 @@
 -- The blocks in a stream of blocks and reports, found from its bytes alone, one by one. Any bytes can be read.
-use mathlib.Core.Path.{_≡_}
-use mathlib.Core.Bool.{Bool, true, not}
+use mathlib.Core.Bool.{Bool}
 use mathlib.Core.List.{List, [], _∷_, _++_}
 use Prim.Native.Nat.{ℕ}
 use lib.Dec.{eqb}
 use Rattle.words.specs.Choice.{if_then_else_, _or_}
-use Rattle.words.specs.Lists.{every}
 
 -- n or R ends a report, f a field's head. A sequence is read on to the first of these.
 unfoldable pub endsReport : ℕ → Bool
@@ -13,9 +11,6 @@ endsReport byte = eqb byte 0x6E or eqb byte 0x52
 
 unfoldable pub endsHead : ℕ → Bool
 endsHead byte = eqb byte 0x66
-
-unfoldable pub readsOn : ℕ → Bool
-readsOn byte = not (endsReport byte or endsHead byte)
 
 -- What the host holds after a byte: the block that is going on; the sequence being read, from its ESC on, and []
 -- outside one; the block that the byte ended, if it ended one.
@@ -54,11 +49,3 @@ blocksFrom held (byte ∷ later) =
 
 abbrev pub blocksIn : List ℕ → List (List ℕ)
 blocksIn bytes = blocksFrom (holding [] []) bytes
-
--- A report: ESC, bytes that end no sequence, then n or R.
-pub record IsReport (bytes : List ℕ) : Type 0 where
-  pub between : List ℕ
-  pub final : ℕ
-  pub whole : bytes ≡ 0x1B ∷ (between ++ (final ∷ []))
-  pub between-reads-on : every readsOn between ≡ true
-  pub final-ends : endsReport final ≡ true

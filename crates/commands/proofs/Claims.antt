@@ -5,7 +5,7 @@ use mathlib.Core.Path.{_≡_}
 use Prim.Native.Nat.{ℕ}
 use Rattle.sequence.specs.declared.HalfRead.{HalfRead}
 use Rattle.page.specs.Page.{cellsErased}
-use Rattle.blocks.specs.Finding.{IsReport}
+use Rattle.blocks.proofs.Claims.{IsReport}
 use Rattle.steps.specs.Steps.{Terminal, report, fullBlock, changedBlock, Stepped, cursorCell, allCells}
 use Rattle.steps.specs.Claims.{SendsBlock, Sound}
 

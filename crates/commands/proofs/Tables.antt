@@ -18,7 +18,7 @@ use Rattle.sequence.proofs.Keeping.{advance-keeps}
 use Rattle.page.specs.Marks.{validCharacter}
 use Rattle.page.specs.Page.{Page}
 use Rattle.blocks.specs.Blocks.{block}
-use Rattle.blocks.specs.Finding.{IsReport}
+use Rattle.blocks.proofs.Claims.{IsReport}
 use Rattle.blocks.proofs.Finding.{ready-is-report, cursor-is-report}
 use Rattle.state.specs.declared.State.{State}
 use Rattle.state.specs.State.{OnPage, withHalf}

@@ -10,7 +10,7 @@ use lib.ListN.{length}
 use Rattle.words.specs.Choice.{if_then_else_}
 use Rattle.words.proofs.Elements.{place-passes, place-listed, run-length}
 use Rattle.page.specs.Page.{Page, erasable, cellsErased}
-use Rattle.blocks.specs.Finding.{IsReport}
+use Rattle.blocks.proofs.Claims.{IsReport}
 use Rattle.state.specs.declared.State.{State}
 use Rattle.state.specs.Moves.{toMargin}
 use Rattle.steps.specs.Steps.{Terminal, Message, report, fullBlock, changedBlock, Stepped, goesTo, sends, refusing, allCells, Valid}

@@ -2,14 +2,14 @@
 use mathlib.Core.Path.{_≡_}
 use mathlib.Core.Bool.{Bool, true, false}
 use mathlib.Core.List.{List, _++_, List·Memᴰ}
-use Prim.Native.Nat.{ℕ, _+_, _<_}
+use Prim.Native.Nat.{ℕ, _+_}
 use lib.Dec.{eqb}
 use lib.ListN.{take, drop}
 use Rattle.words.specs.Choice.{_and_}
 use Rattle.page.specs.Page.{Page}
 use Rattle.steps.specs.Steps.{Terminal, Stepped}
-use Rattle.steps.specs.Seen.{cellsHere, characterAt, free, blockHere}
-use Rattle.steps.specs.Claims.{ProtectedKept}
+use Rattle.steps.specs.Seen.{characterAt, free, blockHere}
+use Rattle.steps.specs.Claims.{CellKept}
 use Rattle.terminal.specs.Answers.{Outcome, numberOf, given, bytesSent}
 use Rattle.terminal.specs.Calls.{hostCall, keyCall}
 use Rattle.promises.specs.Rules.{ourRules, byteSteps, totalOf}
@@ -38,10 +38,10 @@ pub record Restored (sender receiver : Terminal) (block : List ℕ) (outcome : O
   pub answered : outcome .number ≡ 0
   pub nothing-sent : outcome .sent ≡ 0
   pub nothing-refused : (step : Stepped) → List·Memᴰ step (byteSteps ourRules receiver block) → step .wasRefused ≡ false
-  pub characters : (cell : ℕ) → cell < cellsHere sender → free sender cell ≡ true →
+  pub characters : (cell : ℕ) → free sender cell ≡ true →
       characterAt (outcome .terminal) cell ≡ characterAt sender cell
-  pub protected-cells : (cell : ℕ) → free sender cell ≡ false → ProtectedKept (receiver .page) (outcome .terminal .page) cell
-  pub protection : (cell : ℕ) → cell < cellsHere sender → free (outcome .terminal) cell ≡ free sender cell
+  pub protected-cells : (cell : ℕ) → free sender cell ≡ false → CellKept (receiver .page) (outcome .terminal .page) cell
+  pub protection : (cell : ℕ) → free (outcome .terminal) cell ≡ free sender cell
 
 -- Key 267 at the sender, and the bytes that it sent as host bytes to the receiver.
 pub record SentOn (sender receiver : Terminal) (lent lentThere : List ℕ) (sends gets : Outcome) : Type 0 where

@@ -13,9 +13,9 @@ use Rattle.blocks.proofs.Claims.{Sendable, SameForm, UnmodifiedKept}
 use Rattle.blocks.proofs.Theorems.{copy-changed, copy-replaced}
 use Rattle.steps.specs.Steps.{Terminal, Message, silent, report, fullBlock, changedBlock, Stepped, Valid}
 use Rattle.steps.specs.Seen.{blockHere}
-use Rattle.steps.specs.Claims.{markLeft}
+use Rattle.steps.specs.Claims.{StoresNoCell, markLeft}
 use Rattle.promises.specs.Rules.{Rules, stepOf}
-use Rattle.promises.specs.Copying.{StoresNoCell, blockIn, blocksSent, standings, copies}
+use Rattle.promises.specs.Copying.{blockIn, blocksSent, standings, copies}
 use Rattle.promises.proofs.Laws.{StepLaw, TagLaw, StepLaws}
 use Rattle.promises.specs.Further.{CopyingSteps}
 use Rattle.promises.proofs.Keeping.{sendable, leaves, was-on-page, same-form, same-full-block}

@@ -2,13 +2,13 @@
 use mathlib.Core.Path.{_≡_, refl, ap, _∙_}
 use mathlib.Core.List.{List, [], _∷_, _++_}
 use Prim.Native.Nat.{ℕ}
-use Rattle.blocks.specs.Finding.{blocksIn}
-use Rattle.steps.specs.Steps.{Terminal, fullBlock, Message, Valid}
-use Rattle.terminal.specs.Runs.{after}
+use Rattle.blocks.specs.Finding.{blocksFrom, blocksIn}
+use Rattle.steps.specs.Steps.{Terminal, fullBlock, Message}
+use Rattle.terminal.specs.Runs.{after, sentBy}
 use Rattle.promises.specs.Rules.{Rules, Input, stepOf, steps, Total}
-use Rattle.promises.specs.Entries.{Entries, Call, inputsDone, callAll}
+use Rattle.promises.specs.Entries.{Entries, Call, inputsDone}
 use Rattle.promises.specs.Copying.{blockIn, blocksSent}
-use Rattle.promises.specs.Demands.{Copying}
+use Rattle.promises.specs.Demands.{Finding, Copying}
 use Rattle.promises.proofs.Laws.{StepLaws, Keeps}
 use Rattle.promises.proofs.Doing.{found-valid}
 use Rattle.promises.proofs.Calling.{steps-joined, steps-keep-valid, calls-are-steps-of}
@@ -27,10 +27,15 @@ first-input [] asks later = (asks, later, refl)
 first-input (input ∷ before) asks later = (input, before ++ (asks ∷ later), refl)
 
 module _ (rules : Rules) (laws : StepLaws rules) (entries : Entries) (kept : Keeps rules entries) where
-  -- In all that calls wrote, the host finds the blocks of the steps that they did.
-  found-in-calls : (t : Terminal) → Valid t → (calls : List Call) → blocksIn (callAll entries t calls .sent) ≡ blocksSent (steps rules t (inputsDone entries t calls))
-  found-in-calls t valid calls =
-      ap (λ (all : Total). blocksIn (all .sent)) (calls-are-steps-of rules entries kept t calls) ∙ blocks-found rules laws t valid (inputsDone entries t calls)
+  -- In all that calls wrote, the host finds the blocks of the steps that they did. Calls that did nothing wrote nothing.
+  found-by : (t : Terminal) (calls : List Call) (inputs : List Input) → inputsDone entries t calls ≡ inputs → blocksIn (sentBy (steps rules t inputs)) ≡ blocksSent (steps rules t inputs)
+  unfolding steps sentBy blocksSent blocksFrom
+  found-by t calls [] did = refl
+  found-by t calls (input ∷ later) did = blocks-found rules laws t (found-valid rules entries kept t calls input later did) (input ∷ later)
+
+  pub finding-of : Finding blocksIn rules entries
+  finding-of t calls =
+      ap (λ (all : Total). blocksIn (all .sent)) (calls-are-steps-of rules entries kept t calls) ∙ found-by t calls (inputsDone entries t calls) refl
 
   pub copying-calls-of : Copying blocksIn rules entries
   copying-calls-of t calls before asks later block did sends nothing =
@@ -40,14 +45,12 @@ module _ (rules : Rules) (laws : StepLaws rules) (entries : Entries) (kept : Kee
       let here-valid = steps-keep-valid rules laws t valid before in
       let there = stepOf rules asks here .terminal in
       record {
-        found-later = blocksSent (steps rules there later);
         found =
-            found-in-calls t valid calls
+            finding-of t calls
             ∙ ap (λ (inputs : List Input). blocksSent (steps rules t inputs)) did
             ∙ ap blocksSent (steps-joined rules t before (asks ∷ later))
             ∙ blocks-joined (steps rules t before) (steps rules here (asks ∷ later))
             ∙ ap (λ (blocks : List (List ℕ)). blocksSent (steps rules t before) ++ blocks) (block-first rules here asks later block sends);
-        as-sent = refl;
         copy = copying-of rules laws here here-valid asks block sends later nothing;
         omission = omission-of rules laws here here-valid asks block sends later nothing;
       }

@@ -2,16 +2,17 @@
 use mathlib.Core.Path.{_≡_, sym, ap, _∙_, subst}
 use mathlib.Core.Bool.{true, false, not}
 use mathlib.Core.List.{List}
-use Prim.Native.Nat.{ℕ, _<_, _≤_}
+use Prim.Native.Nat.{ℕ, _*_, _<_, _≤_}
 use native.Mathlib.Omega.{arith}
-use lib.ListN.{length, getD}
-use Rattle.words.proofs.Choosing.{not-both, either-way}
+use lib.ListN.{length, getD, List·getD-eq-default}
+use Rattle.words.proofs.Choosing.{not-both, either-way, less-or-not}
 use Rattle.page.specs.Marks.{isProtected, unprotected}
 use Rattle.page.specs.Page.{Page}
 use Rattle.fields.proofs.Theorems.{all-fields-listed}
 use Rattle.blocks.specs.Blocks.{block, encode}
 use Rattle.blocks.proofs.Claims.{fieldsOn}
 use Rattle.blocks.proofs.Pages.{all-sent}
+use Rattle.state.specs.declared.Size.{Size}
 use Rattle.steps.specs.Steps.{Terminal, bytesOf, fullBlock, Message, Valid}
 use Rattle.steps.specs.Seen.{free}
 use Rattle.steps.proofs.Measuring.{measured}
@@ -20,7 +21,8 @@ use Rattle.promises.specs.Entries.{ourEntries, Read, joinedBytes, readAl
 use Rattle.promises.specs.FeedingBack.{Receives, FedBack}
 use Rattle.promises.specs.Demands.{FeedingBack}
 use Rattle.promises.proofs.OurLaws.{our-step-laws}
-use Rattle.promises.proofs.FeedingRuns.{Leads, none-refused}
+use Rattle.promises.proofs.Keeping.{past-free}
+use Rattle.promises.proofs.FeedingRuns.{Leads, leads-validly, leads-sized, none-refused}
 use Rattle.promises.proofs.FeedingReads.{ReadThrough, read-through}
 use Rattle.promises.proofs.FeedingCells.{Filled, Kept}
 use Rattle.promises.proofs.FeedingFields.{fields-feed}
@@ -70,26 +72,51 @@ module _ (sender receiver : Terminal) (asks : Input) (bytes : List ℕ) (cut : L
   left-mark : (cell : ℕ) → getD (left .marks) cell 0 ≡ getD (reached .end .page .marks) cell 0
   left-mark cell = ap (λ (t : Terminal). getD (t .page .marks) cell 0) (through .terminal)
 
+  -- It has as many cells as the sender.
+  end-valid : Valid (reached .end)
+  end-valid = leads-validly (reached .leads) (receives .valid)
+
+  as-many-marks : length (reached .end .page .marks) ≡ length (sender .page .marks)
+  as-many-marks =
+      measured end-valid .all-cells
+      ∙ ap (λ (size : Size). size .rows * size .columns) (leads-sized (reached .leads) (receives .valid) ∙ receives .size)
+      ∙ sym (measured valid .all-cells)
+
+  fed-characters : (cell : ℕ) → free sender cell ≡ true → getD (left .characters) cell 0 ≡ getD (sender .page .characters) cell 0
+  fed-characters cell is-free =
+      left-character cell
+      ∙ less-or-not cell (length (sender .page .marks))
+      (λ here. reached .filled cell here is-free .character)
+      (λ past.
+      List·getD-eq-default (reached .end .page .characters) 0 (omega (arith, as-many-marks, measured end-valid .as-many))
+      ∙ sym (List·getD-eq-default (sender .page .characters) 0 (omega (arith, measured valid .as-many))))
+
   -- Since the pen is unprotected, and the two were protected at the same places, they are so still.
-  feeding-keeps-protection : (cell : ℕ) → cell < length (sender .page .marks) → unprotected (left .marks) cell ≡ unprotected (sender .page .marks) cell
+  end-protection : (cell : ℕ) → cell < length (sender .page .marks) → unprotected (reached .end .page .marks) cell ≡ unprotected (sender .page .marks) cell
   unfolding unprotected
-  feeding-keeps-protection cell here =
-      ap (λ (mark : ℕ). not (isProtected mark)) (left-mark cell)
-      ∙ either-way (unprotected (sender .page .marks) cell)
+  end-protection cell here =
+      either-way (unprotected (sender .page .marks) cell)
       (λ free. reached .filled cell here free .free ∙ sym free)
       (λ protected. ap (λ (mark : ℕ). not (isProtected mark)) (reached .kept cell protected .mark) ∙ receives .protection cell)
+
+  fed-protection : (cell : ℕ) → unprotected (left .marks) cell ≡ unprotected (sender .page .marks) cell
+  fed-protection cell =
+      ap (λ (t : Terminal). unprotected (t .page .marks) cell) (through .terminal)
+      ∙ less-or-not cell (length (sender .page .marks))
+      (λ here. end-protection cell here)
+      (λ past. past-free (reached .end .page .marks) cell (omega (arith, as-many-marks)) ∙ sym (past-free (sender .page .marks) cell past))
 
   is-fed-back : FedBack ourRules ourEntries sender receiver bytes cut
   is-fed-back = record {
     answered = through .answered;
     nothing-sent = through .nothing-sent;
     nothing-refused = none-refused (reached .leads);
-    characters = λ cell here free. left-character cell ∙ reached .filled cell here free .character;
+    characters = fed-characters;
     protected-cells = λ cell protected. record {
-      character = λ _. left-character cell ∙ reached .kept cell protected .character;
+      character = left-character cell ∙ reached .kept cell protected .character;
       mark = left-mark cell ∙ reached .kept cell protected .mark;
     };
-    protection = feeding-keeps-protection;
+    protection = fed-protection;
   }
 
 pub our-feeding-back : FeedingBack ourRules ourEntries

@@ -18,7 +18,7 @@ use Rattle.blocks.proofs.Laying.{same-fields}
 use Rattle.state.proofs.Keeping.{size-bounds}
 use Rattle.steps.specs.Steps.{Terminal, Message, silent, report, fullBlock, changedBlock, Stepped, Valid}
 use Rattle.steps.specs.Seen.{free, blockHere}
-use Rattle.steps.specs.Claims.{markLeft, TouchesOnly, ProtectedKept, KeepsProtection}
+use Rattle.steps.specs.Claims.{markLeft, TouchesOnly, CellKept, KeepsProtection}
 use Rattle.steps.proofs.Naming.{all-stay-protected, same-characters}
 use Rattle.steps.proofs.Soundness.{Sized, sized}
 use Rattle.promises.proofs.Laws.{StepLaw, TagLaw}
@@ -85,10 +85,10 @@ module _ (t : Terminal) (valid : Valid t) (step : Stepped) (law : StepLaw t step
   was-on-page cell here = omega (arith, same-size .marks)
 
   -- A protected cell that isn't named is kept.
-  pub protected-kept : (cell : ℕ) → free t cell ≡ false → (List·Memᴰ cell (step .cells) → ⊥) → ProtectedKept (t .page) (step .terminal .page) cell
+  pub protected-kept : (cell : ℕ) → free t cell ≡ false → (List·Memᴰ cell (step .cells) → ⊥) → CellKept (t .page) (step .terminal .page) cell
   protected-kept cell protected unnamed =
       let stays = law .touches cell (protected-on-page (t .page .marks) cell protected) unnamed in
-      record { character = λ _. stays .character; mark = stays .mark ∙ left-protected (step .message) (t .page .marks) cell protected }
+      record { character = stays .character; mark = stays .mark ∙ left-protected (step .message) (t .page .marks) cell protected }
 
   pub same-form : KeepsProtection (t .page) (step .terminal .page) → SameForm (t .page) (step .terminal .page)
   same-form protection = record { size = same-size; unprotected-cells = λ cell here. sym (protection cell (was-on-page cell here)) }

@@ -5,15 +5,14 @@ use mathlib.Core.Bool.{Bool, true, false}
 use mathlib.Core.List.{List, [], List·Memᴰ}
 use Prim.Native.Nat.{ℕ, _≤_}
 use lib.ListN.{length}
-use Rattle.blocks.specs.Finding.{IsReport}
+use Rattle.blocks.proofs.Claims.{IsReport}
 use Rattle.steps.specs.Steps.{Terminal, report, fullBlock, changedBlock, Stepped, bytesOf, Valid}
 use Rattle.steps.specs.Seen.{seen, free, modifiedAt, blockHere}
-use Rattle.steps.specs.Claims.{TouchesOnly, KeepsProtection}
+use Rattle.steps.specs.Claims.{StoresNoCell, TouchesOnly, KeepsProtection}
 use Rattle.terminal.specs.Answers.{Outcome, bytesSent}
 use Rattle.terminal.specs.Runs.{after, sentBy, storedBy}
 use Rattle.promises.specs.Rules.{Rules, Input, stepOf}
 use Rattle.promises.specs.Entries.{Entries}
-use Rattle.promises.specs.Copying.{StoresNoCell}
 use Rattle.promises.specs.Demands.{Numbers, Refusals, Follows}
 
 -- A block, full or changed, is that of the page as it was, and its step stores in no cell.

@@ -1,18 +1,22 @@
 -- What every block leaves, how long it is, and that a call stopped for room has sent something: by the laws alone.
-use mathlib.Core.Path.{_≡_, refl, ap, _∙_}
+use mathlib.Core.Path.{_≡_, refl, sym, ap, _∙_}
 use mathlib.Core.Bool.{Bool, true, false}
 use mathlib.Core.List.{List, [], _∷_, _++_, List·Memᴰ·not-nil}
 use Prim.Native.Nat.{ℕ, _≤_}
 use native.Mathlib.Omega.{arith}
-use lib.ListN.{length}
+use lib.ListN.{length, getD, List·getD-eq-default}
+use Rattle.words.specs.Choice.{if_then_else_}
+use Rattle.words.proofs.Choosing.{less-or-not}
+use Rattle.page.specs.Marks.{isModified}
 use Rattle.page.specs.Page.{sentMark}
 use Rattle.steps.specs.Steps.{Terminal, Message, bytesOf, blockMessage, Stepped, Valid}
-use Rattle.steps.specs.Claims.{markLeft}
+use Rattle.steps.specs.Claims.{markLeft, TouchesOnly}
+use Rattle.steps.proofs.Measuring.{measured}
 use Rattle.promises.specs.Rules.{Rules, Input, stepOf, steps}
 use Rattle.promises.specs.Entries.{Entries}
 use Rattle.promises.specs.Further.{BlocksKeep, Bounded, Progress}
 use Rattle.promises.proofs.Laws.{BlockOfPage, StepLaw, StepLaws, Keeps}
-use Rattle.promises.proofs.Keeping.{leaves, protected-kept, nothing-modified}
+use Rattle.promises.proofs.Keeping.{leaves, same-size, protected-kept, nothing-modified}
 use Rattle.promises.proofs.Doing.{host-valid}
 
 -- A block of either kind.
@@ -31,6 +35,14 @@ unfolding blockMessage bytesOf
 block-bytes true bytes = refl
 block-bytes false bytes = refl
 
+-- Past the page there is no cell: its character and its mark are told as 0.
+past-alike : (after before : List ℕ) (cell : ℕ) → length after ≤ cell → length before ≤ cell → getD after cell 0 ≡ getD before cell 0
+past-alike after before cell past past-too = List·getD-eq-default after 0 past ∙ sym (List·getD-eq-default before 0 past-too)
+
+past-unmarked : (after before : List ℕ) (cell : ℕ) → length after ≤ cell → length before ≤ cell → getD after cell 0 ≡ sentMark (getD before cell 0)
+unfolding sentMark if_then_else_
+past-unmarked after before cell past past-too = List·getD-eq-default after 0 past ∙ sym (ap sentMark (List·getD-eq-default before 0 past-too))
+
 -- Of a run: how many bytes the first step sends (0 where there is none), and the other steps.
 unfoldable firstSent : List Stepped → ℕ
 firstSent [] = 0
@@ -46,10 +58,24 @@ module _ (rules : Rules) (laws : StepLaws rules) where
       let step = stepOf rules asks t in
       let law = laws .every-step asks t valid in
       let sent = is-block t step law full bytes sends in
+      let touches : TouchesOnly [] (step .message) (t .page) (step .terminal .page) = rw (sent .no-cell) at (law .touches) in
+      let same = same-size t valid step law in
+      let clears : (mark : ℕ) → markLeft (step .message) mark ≡ sentMark mark = λ mark. leaves step sends mark ∙ block-clears full bytes mark in
+      let cells = measured valid .as-many in
       record {
-        characters = λ cell here. (rw (sent .no-cell) at (law .touches)) cell here List·Memᴰ·not-nil .character;
+        characters = λ cell.
+            less-or-not cell (length (t .page .marks))
+            (λ here. touches cell here List·Memᴰ·not-nil .character)
+            (λ past. past-alike (step .terminal .page .characters) (t .page .characters) cell (omega (arith, same .characters, cells)) (omega (arith, cells)));
+        marks = λ cell.
+            less-or-not cell (length (t .page .marks))
+            (λ here. touches cell here List·Memᴰ·not-nil .mark ∙ clears (getD (t .page .marks) cell 0))
+            (λ past. past-unmarked (step .terminal .page .marks) (t .page .marks) cell (omega (arith, same .marks)) past);
+        none-modified = λ cell is-free.
+            less-or-not cell (length (step .terminal .page .marks))
+            (λ here. nothing-modified t valid step law (sent .no-cell) clears cell here is-free)
+            (λ past. ap isModified (List·getD-eq-default (step .terminal .page .marks) 0 past));
         protected-cells = λ cell protected. protected-kept t valid step law cell protected (rw (sent .no-cell) List·Memᴰ·not-nil);
-        none-modified = nothing-modified t valid step law (sent .no-cell) (λ mark. leaves step sends mark ∙ block-clears full bytes mark);
       }
 
   pub bounded-of : Bounded rules

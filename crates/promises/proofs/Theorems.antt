@@ -7,17 +7,17 @@ use Rattle.promises.specs.Rules.{Rules, ourRules}
 use Rattle.promises.specs.Entries.{Entries, ourEntries}
 use Rattle.promises.specs.Contracts.{ourContracts}
 use Rattle.promises.specs.Demands.{Demand1, Follows, Demand2, Demand3}
-use Rattle.promises.specs.Further.{AllSame, OneResult, SameEntries, OneTerminal, StaysValid, SameHoweverCut, Continuing, Progress, CallsAreSteps, BlocksKeep, SendsBlocks, Bounded, CopyingSteps, OmissionSteps}
+use Rattle.promises.specs.Further.{AllSame, OneResult, SameEntries, OneTerminal, ValidByTheTable, StaysValid, SameHoweverCut, Continuing, Progress, CallsAreSteps, BlocksKeep, SendsBlocks, Bounded, CopyingSteps, OmissionSteps}
 use Rattle.promises.proofs.OurLaws.{our-step-laws, our-keeps}
 use Rattle.promises.proofs.OnlyOne.{same-entries}
-use Rattle.promises.proofs.Staying.{stays-valid-of, keys-keep-of}
+use Rattle.promises.proofs.Staying.{by-the-table, stays-valid-of, keys-keep-of}
 use Rattle.promises.proofs.Calling.{calls-are-steps-of, continuing-of, cutting-of, same-however-cut-of}
 use Rattle.promises.proofs.Feeding.{our-feeding-back}
 use Rattle.promises.proofs.Sending.{blocks-keep-of, bounded-of, progress-of}
 use Rattle.promises.proofs.Asking.{our-sends-blocks}
 use Rattle.promises.proofs.Copied.{copying-of}
 use Rattle.promises.proofs.Omitted.{omission-of}
-use Rattle.promises.proofs.CopiedCalls.{copying-calls-of}
+use Rattle.promises.proofs.CopiedCalls.{finding-of, copying-calls-of}
 
 -- The three demands.
 pub demand-1 : Demand1 ourRules ourEntries
@@ -32,7 +32,10 @@ demand-2 = record {
 }
 
 pub demand-3 : Demand3 ourRules ourEntries
-demand-3 = record { copying = copying-calls-of ourRules our-step-laws ourEntries our-keeps }
+demand-3 = record {
+  finding = finding-of ourRules our-step-laws ourEntries our-keeps;
+  copying = copying-calls-of ourRules our-step-laws ourEntries our-keeps;
+}
 
 pub demands : Demand1 ourRules ourEntries × Demand2 ourRules ourEntries × Demand3 ourRules ourEntries
 demands = (demand-1, demand-2, demand-3)
@@ -57,6 +60,10 @@ one-terminal rules one other first follows first-too follows-too =
 
 pub only-ours : (entries : Entries) → Demand1 ourRules entries → Follows ourRules entries → SameEntries entries ourEntries
 only-ours entries first follows = one-terminal ourRules entries ourEntries first follows demand-1 (our-keeps .follows)
+
+-- Valid terminals.
+pub valid-by-the-table : ValidByTheTable
+valid-by-the-table = by-the-table
 
 -- Of entries with rules.
 pub stays-valid : StaysValid ourEntries

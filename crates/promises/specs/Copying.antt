@@ -10,11 +10,8 @@ use Rattle.blocks.specs.Decode.{decode}
 use Rattle.blocks.specs.Lay.{lay}
 use Rattle.steps.specs.Steps.{Terminal, Message, silent, report, fullBlock, changedBlock, Stepped}
 use Rattle.steps.specs.Seen.{fieldsHere, entryHere, blockHere}
+use Rattle.steps.specs.Claims.{StoresNoCell}
 use Rattle.promises.specs.Rules.{Rules, Input, byte, press, steps}
-
--- A step that stores in no cell: the one place that says so.
-abbrev pub StoresNoCell : Stepped → Type 0
-StoresNoCell step = step .cells ≡ []
 
 -- Host bytes follow, as long as they store in no cell; keys as they come.
 unfoldable pub HostStoresNothing : Rules → Terminal → List Input → Type 0
@@ -81,8 +78,7 @@ OmissionHolds t stored (step ∷ later) =
 -- omission holds. `there` is the terminal that this block's step left.
 pub record CopyHolds (finds : List ℕ → List (List ℕ)) (rules : Rules) (t : Terminal) (sent : List ℕ)
     (before : List Input) (block : List ℕ) (there : Terminal) (later : List Input) : Type 0 where
-  pub found-later : List (List ℕ)
-  pub found : finds sent ≡ blocksSent (steps rules t before) ++ (block ∷ found-later)
-  pub as-sent : found-later ≡ blocksSent (steps rules there later)
-  pub copy : block ∷ copies block found-later ≡ map (blockHere true) (there ∷ standings (steps rules there later))
+  pub found : finds sent ≡ blocksSent (steps rules t before) ++ (block ∷ blocksSent (steps rules there later))
+  pub copy : block ∷ copies block (blocksSent (steps rules there later))
+      ≡ map (blockHere true) (there ∷ standings (steps rules there later))
   pub omission : OmissionHolds there [] (steps rules there later)

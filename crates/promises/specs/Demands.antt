@@ -10,7 +10,7 @@ use Rattle.state.specs.declared.Size.{Size}
 use Rattle.blocks.specs.Finding.{blocksIn}
 use Rattle.steps.specs.Steps.{Terminal, fullBlock, Valid}
 use Rattle.steps.specs.Seen.{free}
-use Rattle.steps.specs.Claims.{ProtectedKept}
+use Rattle.steps.specs.Claims.{CellKept}
 use Rattle.terminal.specs.Runs.{after}
 use Rattle.terminal.specs.Calls.{unstarted}
 use Rattle.terminal.specs.Table.{startTable, hostTable, keyTable}
@@ -19,7 +19,7 @@ use Rattle.promises.specs.Rules.{Rules, Input, stepOf, steps, byteSteps,
 use Rattle.promises.specs.Entries.{Entries, Call, outcomes, callAll, inputsDone, AllDone, Read, reads}
 use Rattle.promises.specs.Entries.{joinedBytes, readAll}
 use Rattle.promises.specs.FeedingBack.{Receives, FedBack}
-use Rattle.promises.specs.Copying.{HostStoresNothing, CopyHolds}
+use Rattle.promises.specs.Copying.{HostStoresNothing, blocksSent, CopyHolds}
 
 -- Demand 1. Whatever arrives (the entries ask nothing), a call ends and is given its number by the table.
 pub record Numbers (rules : Rules) (entries : Entries) : Type 1 where
@@ -68,7 +68,7 @@ FeedingBack rules entries = (sender receiver : Terminal) (asks : Input) (block :
 -- No key ever changes a protected cell, nor which cells are protected: in any state, with any slices and room.
 pub record KeysKeep (entries : Entries) : Type 0 where
   pub protected-cells : (t : Terminal) (key : ℕ) (lent : List ℕ) (cell : ℕ) → free t cell ≡ false →
-      ProtectedKept (t .page) (entries .key t key lent .terminal .page) cell
+      CellKept (t .page) (entries .key t key lent .terminal .page) cell
   pub protection : (t : Terminal) (key : ℕ) (lent : List ℕ) (cell : ℕ) →
       free (entries .key t key lent .terminal) cell ≡ free t cell
 
@@ -78,10 +78,14 @@ pub record Demand2 (rules : Rules) (entries : Entries) : Type 0 where
   pub feeding-back : FeedingBack rules entries
   pub keys-keep : KeysKeep entries
 
--- Demand 3. The calls did some inputs, then one that had a full block sent, then keys and host bytes that store in no
--- cell. The host finds the blocks in the bytes that the calls sent (`finds`) and lays each later one over its copy:
--- right after each block the copy is the full block of the page; and a changed block omits a field exactly when keys
--- have stored in none of its cells since the block before.
+-- Demand 3. What the host gets is one stream of bytes: it finds in it (`finds`) the blocks that were sent, in order.
+abbrev pub Finding : (List ℕ → List (List ℕ)) → Rules → Entries → Type 0
+Finding finds rules entries = (t : Terminal) (calls : List Call) →
+    finds (callAll entries t calls .sent) ≡ blocksSent (steps rules t (inputsDone entries t calls))
+
+-- The calls did some inputs, then one that had a full block sent, then keys and host bytes that store in no cell. The
+-- host lays each later block that it finds over its copy: right after each block the copy is the full block of the
+-- page; and a changed block omits a field exactly when keys have stored in none of its cells since the block before.
 abbrev pub Copying : (List ℕ → List (List ℕ)) → Rules → Entries → Type 0
 Copying finds rules entries =
     (t : Terminal) (calls : List Call) (before : List Input) (asks : Input) (later : List Input) (block : List ℕ) →
@@ -91,4 +95,5 @@ Copying finds rules entries =
     CopyHolds finds rules t (callAll entries t calls .sent) before block (step .terminal) later
 
 pub record Demand3 (rules : Rules) (entries : Entries) : Type 0 where
+  pub finding : Finding blocksIn rules entries
   pub copying : Copying blocksIn rules entries

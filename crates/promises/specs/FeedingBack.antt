@@ -2,12 +2,12 @@
 use mathlib.Core.Path.{_≡_}
 use mathlib.Core.Bool.{true, false}
 use mathlib.Core.List.{List, [], List·Memᴰ}
-use Prim.Native.Nat.{ℕ, _<_}
+use Prim.Native.Nat.{ℕ}
 use Rattle.sequence.specs.Record.{nothingRead}
 use Rattle.page.specs.Marks.{isProtected}
 use Rattle.steps.specs.Steps.{Terminal, Stepped, Valid}
-use Rattle.steps.specs.Seen.{cellsHere, characterAt, free}
-use Rattle.steps.specs.Claims.{ProtectedKept}
+use Rattle.steps.specs.Seen.{characterAt, free}
+use Rattle.steps.specs.Claims.{CellKept}
 use Rattle.promises.specs.Rules.{Rules, byteSteps}
 use Rattle.promises.specs.Entries.{Entries, outcomes, AllDone, Read, reads, readAll}
 
@@ -27,9 +27,8 @@ pub record FedBack (rules : Rules) (entries : Entries) (sender receiver : Termin
   pub answered : AllDone (outcomes entries receiver (reads cut))
   pub nothing-sent : readAll entries receiver cut .sent ≡ []
   pub nothing-refused : (step : Stepped) → List·Memᴰ step (byteSteps rules receiver block) → step .wasRefused ≡ false
-  pub characters : (cell : ℕ) → cell < cellsHere sender → free sender cell ≡ true →
+  pub characters : (cell : ℕ) → free sender cell ≡ true →
       characterAt (readAll entries receiver cut .terminal) cell ≡ characterAt sender cell
   pub protected-cells : (cell : ℕ) → free sender cell ≡ false →
-      ProtectedKept (receiver .page) (readAll entries receiver cut .terminal .page) cell
-  pub protection : (cell : ℕ) → cell < cellsHere sender →
-      free (readAll entries receiver cut .terminal) cell ≡ free sender cell
+      CellKept (receiver .page) (readAll entries receiver cut .terminal .page) cell
+  pub protection : (cell : ℕ) → free (readAll entries receiver cut .terminal) cell ≡ free sender cell

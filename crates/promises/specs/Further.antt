@@ -5,12 +5,13 @@ use mathlib.Core.Bool.{Bool, true, false}
 use mathlib.Core.List.{List, [], _∷_, map}
 use mathlib.Core.Logic.{_↔_}
 use Prim.Native.Nat.{ℕ, _<_, _≤_}
-use lib.ListN.{length}
-use Rattle.page.specs.Page.{Page}
+use lib.ListN.{length, getD}
+use Rattle.page.specs.Page.{Page, sentMark}
 use Rattle.state.specs.declared.Size.{Size}
+use Rattle.state.specs.Lines.{Line1, Line2}
 use Rattle.steps.specs.Steps.{Terminal, fullBlock, blockMessage, Valid}
-use Rattle.steps.specs.Seen.{cellsHere, characterAt, free, modifiedAt, blockHere}
-use Rattle.steps.specs.Claims.{ProtectedKept}
+use Rattle.steps.specs.Seen.{seen, characterAt, free, modifiedAt, blockHere}
+use Rattle.steps.specs.Claims.{CellKept}
 use Rattle.terminal.specs.declared.Reply.{Reply}
 use Rattle.terminal.specs.Claims.{SameResult}
 use Rattle.promises.specs.Rules.{Rules, Input, byte, press, stepOf, steps, byteSteps, totalOf}
@@ -23,9 +24,9 @@ use Rattle.promises.specs.Demands.{Demand1, Follows}
 -- One result: whatever comes in, any two results that the contract of an entry allows are the same.
 abbrev pub AllSame : Results → Type 0
 AllSame allowed =
-    (one other : Reply) (page there : Page) (output lent : List ℕ) →
-    allowed one page output → allowed other there lent →
-    SameResult one other page there output lent
+    (one other : Reply) (page otherPage : Page) (output otherOutput : List ℕ) →
+    allowed one page output → allowed other otherPage otherOutput →
+    SameResult one other page otherPage output otherOutput
 
 pub record OneResult (contracts : Contracts) : Type 0 where
   pub of-start : (size : Size) (page : Page) → AllSame (contracts .start size page)
@@ -42,6 +43,11 @@ abbrev pub OneTerminal : Rules → Type 1
 OneTerminal rules =
     (one other : Entries) → Demand1 rules one → Follows rules one → Demand1 rules other → Follows rules other →
     SameEntries one other
+
+-- Valid is what lines 1 and 2 of the table let pass.
+abbrev pub ValidByTheTable : Type 0
+ValidByTheTable =
+    (t : Terminal) → Valid t ↔ ((Line1 (t .state .size) (t .page) → ⊥) × (Line2 (t .state) (t .page) → ⊥))
 
 -- Validity: a start given 0 leaves a valid terminal, and calls leave a valid one valid, so that they never meet 1 or 2.
 pub record StaysValid (entries : Entries) : Type 0 where
@@ -77,12 +83,13 @@ CallsAreSteps rules entries =
     (t : Terminal) (calls : List Call) →
     callAll entries t calls ≡ totalOf t (steps rules t (inputsDone entries t calls))
 
--- What a block leaves: every character; protected cells with their marks, modified too; and no unprotected cell
--- modified.
+-- What a block leaves: every character; every mark, but that unprotected cells lose modified, so that none has it;
+-- protected cells keep theirs, modified too.
 pub record LeftByBlock (before after : Terminal) : Type 0 where
-  pub characters : (cell : ℕ) → cell < cellsHere before → characterAt after cell ≡ characterAt before cell
-  pub protected-cells : (cell : ℕ) → free before cell ≡ false → ProtectedKept (before .page) (after .page) cell
-  pub none-modified : (cell : ℕ) → cell < cellsHere after → free after cell ≡ true → modifiedAt after cell ≡ false
+  pub characters : (cell : ℕ) → characterAt after cell ≡ characterAt before cell
+  pub marks : (cell : ℕ) → getD (seen after .marks) cell 0 ≡ sentMark (getD (seen before .marks) cell 0)
+  pub none-modified : (cell : ℕ) → free after cell ≡ true → modifiedAt after cell ≡ false
+  pub protected-cells : (cell : ℕ) → free before cell ≡ false → CellKept (before .page) (after .page) cell
 
 abbrev pub BlocksKeep : Rules → Type 0
 BlocksKeep rules =

@@ -36,6 +36,11 @@ pub record ProtectedKept (before after : Page) (cell : ℕ) : Type 0 where
   pub character : cell < length (before .characters) → getD (after .characters) cell 0 ≡ getD (before .characters) cell 0
   pub mark : getD (after .marks) cell 0 ≡ getD (before .marks) cell 0
 
+-- The cell keeps its character and its mark.
+pub record CellKept (before after : Page) (cell : ℕ) : Type 0 where
+  pub character : getD (after .characters) cell 0 ≡ getD (before .characters) cell 0
+  pub mark : getD (after .marks) cell 0 ≡ getD (before .marks) cell 0
+
 -- Every cell of the page is as protected as it was.
 abbrev pub KeepsProtection : Page → Page → Type 0
 KeepsProtection before after = (cell : ℕ) → cell < length (before .marks) → unprotected (after .marks) cell ≡ unprotected (before .marks) cell
@@ -44,6 +49,10 @@ KeepsProtection before after = (cell : ℕ) → cell < length (before .marks) �
 pub record KeepsText (before after : Page) : Type 0 where
   pub characters : after .characters ≡ before .characters
   pub protection : KeepsProtection before after
+
+-- A step that stores in no cell: the one place that says what that is.
+abbrev pub StoresNoCell : Stepped → Type 0
+StoresNoCell step = step .cells ≡ []
 
 -- How many cells a step names.
 abbrev pub counted : Stepped → ℕ
@@ -60,13 +69,13 @@ pub record Refusal (t : Terminal) (step : Stepped) : Type 0 where
   pub modes : step .terminal .state .modes ≡ t .state .modes
   pub stops : step .terminal .state .stops ≡ t .state .stops
   pub nothing-sent : step .message ≡ silent
-  pub no-cell : step .cells ≡ []
+  pub no-cell : StoresNoCell step
 
 -- A block, full or changed, is sent because it was asked for; it is that of the page as it was, and no cell is named.
 pub record SendsBlock (full : Bool) (Asked : Type 0) (t : Terminal) (step : Stepped) (bytes : List ℕ) : Type 0 where
   pub asked : Asked
   pub of-page : bytes ≡ blockHere full t
-  pub no-cell : step .cells ≡ []
+  pub no-cell : StoresNoCell step
 
 -- All of it, for a step from a terminal.
 pub record Sound (t : Terminal) (step : Stepped) : Type 0 where

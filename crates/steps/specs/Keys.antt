@@ -3,7 +3,6 @@ use mathlib.Core.Bool.{Bool, true, false, not}
 use mathlib.Core.List.{List, [], _∷_}
 use Prim.Native.Nat.{ℕ, _-_}
 use lib.Dec.{eqb}
-use lib.ListN.{length}
 use Rattle.words.specs.Choice.{if_then_else_, _and_, _or_, _is_to_}
 use Rattle.words.specs.Lists.{numbersFrom}
 use Rattle.page.specs.Page.{typed, blanked, closedUp, movedRight, partStored}
@@ -16,7 +15,7 @@ use Rattle.state.specs.declared.State.{State}
 use Rattle.state.specs.State.{withCursor, unlocked}
 use Rattle.state.specs.Moves.{upBy, downBy, rightBy, leftBy}
 use Rattle.steps.specs.Steps.{Terminal, Stepped, goesTo, stores, cursorCell}
-use Rattle.steps.specs.Seen.{free, fieldsHere}
+use Rattle.steps.specs.Seen.{cellsHere, free, fieldsHere}
 use Rattle.steps.specs.Commands.{sendBlock}
 
 -- The keys that type a character, those that store in the cursor's field, and those that look for a field.
@@ -65,7 +64,7 @@ abbrev pub startHere : Terminal → ℕ
 startHere t = fieldStart (free t) (t .state .size .columns) (cursorCell (t .state))
 
 abbrev pub endHere : Terminal → ℕ
-endHere t = fieldEnd (free t) (t .state .size .columns) (length (t .page .marks)) (cursorCell (t .state))
+endHere t = fieldEnd (free t) (t .state .size .columns) (cellsHere t) (cursorCell (t .state))
 
 -- A key that stores does so on an unprotected cell only.
 abbrev pub ifFree : Terminal → Stepped → Stepped
@@ -78,7 +77,7 @@ unfoldable pub typedStep : ℕ → Terminal → Stepped
 typedStep character t =
     ifFree t
     (stores (cursorCell (t .state) ∷ []) false
-    (goneTo (nextUnprotected (free t) (t .state .size .columns) (length (t .page .marks)) (cursorCell (t .state))) (t .state))
+    (goneTo (nextUnprotected (free t) (t .state .size .columns) (cellsHere t) (cursorCell (t .state))) (t .state))
     (typed (cursorCell (t .state)) character (t .page)))
 
 -- 260 and 261; 262: the first unprotected cell, else 1;1.
@@ -90,7 +89,7 @@ toPreviousField t = goesTo (goneTo (previousField (t .state .size .columns) (cur
 
 unfoldable pub toFirstUnprotected : Terminal → Stepped
 toFirstUnprotected t =
-    goesTo (goneTo (orElse (firstUnprotected (free t) (t .state .size .columns) (length (t .page .marks))) (At (placeOf (t .state .size .columns) 0))) (t .state)) t
+    goesTo (goneTo (orElse (firstUnprotected (free t) (t .state .size .columns) (cellsHere t)) (At (placeOf (t .state .size .columns) 0))) (t .state)) t
 
 -- 263: the cursor's field becomes 20s, and the cursor goes to its start.
 unfoldable pub fieldBlanked : Terminal → Stepped

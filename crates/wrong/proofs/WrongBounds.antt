@@ -1,22 +1,31 @@
--- Blocks that are too long are caught by the bound, on the page that reaches it; that and one withheld also by what is asked for.
-use mathlib.Core.Path.{refl, sym, ap}
+-- On the page that reaches the bound: blocks that are too long, a block withheld, and calls that stop and have sent nothing.
+use mathlib.Core.Path.{_≡_, refl, sym, ap, _∙_}
 use mathlib.Core.Bool.{true, false}
-use mathlib.Core.List.{List, [], _∷_, _++_}
-use Prim.Native.Nat.{ℕ, _*_, _≤_}
+use mathlib.Core.List.{List, [], _∷_, _++_, append-nil}
+use Prim.Native.Nat.{ℕ, _*_, _<_, _≤_}
 use native.Mathlib.Omega.{arith}
-use lib.ListN.{length, replicate, length-append, length-replicate}
+use borrow.Author.Tests.{eq-eqb}
+use lib.Dec.{eqb}
+use lib.ListN.{length, take, replicate, length-append, length-replicate}
 use Rattle.words.specs.Lists.{eachFrom}
-use Rattle.words.proofs.Choosing.{true-is-not-false}
+use Rattle.words.proofs.Choosing.{true-is-not-false, then-case}
 use Rattle.places.specs.Places.{placeOf}
-use Rattle.blocks.specs.Blocks.{block}
+use Rattle.blocks.specs.Blocks.{Entry, entryBytes, encode, block}
 use Rattle.blocks.proofs.Claims.{blankForm, firstAndEven}
 use Rattle.blocks.proofs.Theorems.{longest-reached}
 use Rattle.state.specs.State.{freshState}
-use Rattle.steps.specs.Steps.{Terminal, Valid}
-use Rattle.promises.specs.Rules.{press}
-use Rattle.promises.specs.Further.{changed-by-266, SendsBlocks, Bounded}
+use Rattle.steps.specs.Steps.{Terminal, Stepped, bytesOf, Valid}
+use Rattle.steps.specs.Host.{hostStep}
+use Rattle.terminal.specs.Runs.{sentBy}
+use Rattle.terminal.specs.Answers.{Outcome}
+use Rattle.terminal.specs.Calls.{hostCall}
+use Rattle.terminal.specs.Table.{Line3, this-holds, not-this}
+use Rattle.promises.specs.Rules.{ourRules, press, byteSteps}
+use Rattle.promises.specs.Further.{changed-by-266, Progress, SendsBlocks, Bounded}
+use Rattle.wrong.specs.Entries.{stopsAtOnce, hidesSentOn3}
 use Rattle.wrong.specs.Rules.{isBlock, withholdsChanged, endsTwice, sendsFixedBlock}
-use Rattle.promises.proofs.Computing.{validity, keySteps, streams}
+use Rattle.promises.proofs.Theorems.{demand-1, valid-by-the-table}
+use Rattle.promises.proofs.Computing.{validity, hostSteps, keySteps, calls, streams}
 
 -- 48 rows of 160 columns, each with a field in columns 1 and 2 and one in each even column after them.
 abbrev manyFields : Terminal
@@ -52,3 +61,61 @@ unfolding keySteps streams isBlock
 withholdsChanged-breaks-sends-blocks kept =
     let sent = kept manyFields many-valid (press 266) false (block false 160 (manyFields .page)) .1 (changed-by-266, refl) in
     true-is-not-false (sym (ap isBlock sent))
+
+-- With room for the longest block, a call that is given 3 has sent something: of two blocks, asked for in one call, the first.
+abbrev longestRoom : List ℕ
+longestRoom = replicate 35185 0
+
+room-long : length longestRoom ≡ 35185
+room-long = length-replicate {A = ℕ} 35185 0
+
+pub stopsAtOnce-breaks-progress : Progress stopsAtOnce → ⊥
+unfolding calls
+stopsAtOnce-breaks-progress kept = absurd (omega (arith, kept manyFields [] longestRoom (omega (arith, room-long)) refl))
+
+abbrev twice : List ℕ
+twice = 0x1B ∷ 0x53 ∷ 0x1B ∷ 0x53 ∷ []
+
+abbrev firstThree : List Stepped
+firstThree = take 3 (byteSteps ourRules manyFields twice)
+
+abbrev afterThree : Terminal
+afterThree = hostStep 0x1B (hostStep 0x53 (hostStep 0x1B manyFields .terminal) .terminal) .terminal
+
+first-sent : length (sentBy firstThree) ≡ 35185
+unfolding hostSteps streams sentBy
+first-sent = ap (length {A = ℕ}) (append-nil (block true 160 (manyFields .page))) ∙ longest-reached
+
+-- A block has one byte at least.
+some-bytes : (entries : List Entry) → 0 < length (encode entries)
+unfolding encode
+some-bytes [] = omega arith
+some-bytes (entry ∷ later) = omega (arith, some-bytes later, length-append (entryBytes entry) (encode later))
+
+next-sends : 0 < length (bytesOf (hostStep 0x53 afterThree .message))
+unfolding hostSteps block
+next-sends = some-bytes _
+
+no-room : Line3 (length longestRoom) (byteSteps ourRules manyFields twice)
+unfolding streams
+no-room = record {
+  before = firstThree;
+  next = hostStep 0x53 afterThree;
+  later = [];
+  are = refl;
+  fit = omega (arith, first-sent, room-long);
+  exceeds = omega (arith, first-sent, next-sends, room-long);
+}
+
+given-3 : hostCall manyFields twice longestRoom .number ≡ 3
+given-3 =
+    let none = valid-by-the-table manyFields .0 many-valid in
+    demand-1 .numbers .of-host manyFields twice longestRoom 3 .1
+    (not-this _ _ _ (none .0) (not-this _ _ _ (none .1) (not-this _ _ _ (λ long. omega (arith, long)) (this-holds _ _ no-room))))
+
+pub hidesSentOn3-breaks-progress : Progress hidesSentOn3 → ⊥
+hidesSentOn3-breaks-progress kept =
+    let outcome = hostCall manyFields twice longestRoom in
+    let hidden = then-case {A = Outcome} (eqb (outcome .number) 3) _ outcome (eq-eqb _ _ given-3) in
+    let sent = kept manyFields twice longestRoom (omega (arith, room-long)) (ap (λ (o : Outcome). o .number) hidden ∙ given-3) in
+    omega (arith, sent, ap (λ (o : Outcome). o .sent) hidden)

@@ -1,5 +1,5 @@
 -- Demand 3 catches tags that are not set, messages in another order, and a host that finds blocks another way.
-use mathlib.Core.Path.{_≡_, refl, sym, ap, _∙_, subst}
+use mathlib.Core.Path.{_≡_, refl, sym, ap, _∙_}
 use mathlib.Core.Bool.{true, false}
 use mathlib.Core.List.{List, [], _∷_, _++_, map, reverse}
 use Prim.Native.Nat.{ℕ}
@@ -11,18 +11,17 @@ use Rattle.words.proofs.Choosing.{then-case}
 use Rattle.blocks.specs.Blocks.{block}
 use Rattle.blocks.specs.Finding.{blocksIn}
 use Rattle.steps.specs.Steps.{Terminal, Message, fullBlock, changedBlock, sends}
-use Rattle.steps.specs.Seen.{blockHere}
 use Rattle.terminal.specs.Runs.{stepsOf, sentBy}
 use Rattle.terminal.specs.Answers.{Outcome, bytesSent}
 use Rattle.terminal.specs.Calls.{hostCall}
 use Rattle.terminal.proofs.Cases.{host-did}
-use Rattle.promises.specs.Rules.{Rules, ourRules, Input, byte, press, steps}
+use Rattle.promises.specs.Rules.{ourRules, Input, byte, press}
 use Rattle.promises.specs.Entries.{Entries, ourEntries, Call, read, keyPress, outcomeOf, inputsOf, inputsDone}
-use Rattle.promises.specs.Copying.{HostStoresNothing, blockIn, blocksSent, standings, copies, CopyHolds, OmitsExactly, storedSince, OmissionHolds}
-use Rattle.promises.specs.Demands.{Copying}
+use Rattle.promises.specs.Copying.{HostStoresNothing, blockIn, blocksSent, standings, copies, OmitsExactly, storedSince, OmissionHolds}
+use Rattle.promises.specs.Demands.{Finding, Copying}
 use Rattle.wrong.specs.Entries.{showing, sendsBackwards}
 use Rattle.wrong.specs.Rules.{keyCallBy, keysBy, neverTags, tagsOnlyChanges}
-use Rattle.wrong.specs.Finding.{upTo03, by03Alone, findsNone}
+use Rattle.wrong.specs.Finding.{upTo03, by03Alone, orElseOne, inventsBlock, findsNone}
 use Rattle.promises.proofs.Calling.{inputs-in-front}
 use Rattle.promises.proofs.Sheets.{sheet}
 use Rattle.wrong.proofs.WrongCopies.{texts, clear, before, after, B-valid, fieldBlock, emptyBlock, firstBlock, full-block-is, untagged-block, copy-is-stale, second-copy, typeX, field-listed, wrongly-omitted, typeB}
@@ -65,18 +64,12 @@ keys-done entries character {full} {typed} {changed} sends types sends-again don
     (key-in-front entries (full .terminal) character [] (keyPress 266 room ∷ []) types done-second
     (key-in-front entries (typed .terminal) 266 room [] sends-again done-third refl))
 
--- What the host found later is what was sent, so its second copy is that of the second block.
-right-copies : {finds : List ℕ → List (List ℕ)} {rules : Rules} {t : Terminal} {sent : List ℕ} {earlier : List Input} {block : List ℕ} {there : Terminal} {later : List Input}
-    → CopyHolds finds rules t sent earlier block there later → block ∷ copies block (blocksSent (steps rules there later)) ≡ map (blockHere true) (there ∷ standings (steps rules there later))
-right-copies {rules} {block} {there} {later} holds =
-    subst (λ (found : List (List ℕ)). block ∷ copies block found ≡ map (blockHere true) (there ∷ standings (steps rules there later))) (holds .as-sent) (holds .copy)
-
 -- X is typed, and not tagged: the copy has B still.
 pub neverTags-breaks-copying : Copying blocksIn neverTags (keysBy neverTags) → ⊥
 unfolding keySteps calls streams HostStoresNothing blockIn blocksSent standings copies
 neverTags-breaks-copying kept =
     let did = keys-done (keysBy neverTags) 0x58 full-sent refl (changed-sent 0x58) refl refl refl in
-    copy-is-stale (untagged-block 0x58) (second-copy (right-copies (kept start (keyCalls 0x58) [] (press 267) typeX firstBlock did refl tt)))
+    copy-is-stale (untagged-block 0x58) (second-copy (kept start (keyCalls 0x58) [] (press 267) typeX firstBlock did refl tt .copy))
 
 -- B is typed where B stands, and not tagged: the copy is right, and the changed block omits what was stored.
 pub tagsOnlyChanges-breaks-copying : Copying blocksIn tagsOnlyChanges (keysBy tagsOnlyChanges) → ⊥
@@ -145,7 +138,7 @@ unfolding hostSteps calls streams HostStoresNothing blockIn blocksSent
 found-alone finds kept =
     let did = inputs-in-front ourEntries start (read askAndSend bothRooms) [] both-sent in
     let holds = kept start (read askAndSend bothRooms ∷ []) (map byte (0x1B ∷ 0x5B ∷ 0x36 ∷ 0x6E ∷ 0x1B ∷ [])) (byte 0x53) [] firstBlock did refl tt in
-    (holds .found-later, sym (ap (λ (o : Outcome). finds (bytesSent o ++ [])) both-sent) ∙ holds .found)
+    ([], sym (ap (λ (o : Outcome). finds (bytesSent o ++ [])) both-sent) ∙ holds .found)
 
 pub by03Alone-breaks-copying : Copying by03Alone ourRules ourEntries → ⊥
 unfolding tests upTo03 firstOf
@@ -155,3 +148,8 @@ by03Alone-breaks-copying kept =
 
 pub findsNone-breaks-copying : Copying findsNone ourRules ourEntries → ⊥
 findsNone-breaks-copying kept = let found = found-alone findsNone kept in absurd (omega (arith, ap (length {A = List ℕ}) (found .1)))
+
+-- Where nothing was sent, no block is found.
+pub inventsBlock-breaks-finding : Finding inventsBlock ourRules ourEntries → ⊥
+unfolding streams finding blocksSent orElseOne
+inventsBlock-breaks-finding kept = absurd (omega (arith, ap (length {A = List ℕ}) (kept start [])))

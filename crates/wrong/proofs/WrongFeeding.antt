@@ -1,8 +1,7 @@
 -- Terminals that don't take their own blocks back are caught by demand 2, feeding back.
 use mathlib.Core.Path.{refl, ap}
 use mathlib.Core.List.{List, [], _∷_}
-use Prim.Native.Nat.{ℕ, _<_}
-use native.Mathlib.Omega.{arith}
+use Prim.Native.Nat.{ℕ}
 use borrow.Author.Tests.{eqb-false}
 use lib.ListN.{replicate}
 use Rattle.steps.specs.Steps.{Terminal, fullBlock}
@@ -39,14 +38,12 @@ fed entries kept = kept start receiver (press 267) sent oneRead start-valid (ap 
 pub storesNoText-breaks-feeding-back : FeedingBack ourRules storesNoText → ⊥
 unfolding streams keySteps
 storesNoText-breaks-feeding-back kept =
-    let on-page : 0 < 1920 = omega arith in
-    eqb-false 0x20 0x41 refl (fed storesNoText kept .characters 0 on-page refl)
+    eqb-false 0x20 0x41 refl (fed storesNoText kept .characters 0 refl)
 
 pub fixedAnswer-breaks-feeding-back : FeedingBack ourRules fixedAnswer → ⊥
 unfolding streams calls keySteps
 fixedAnswer-breaks-feeding-back kept =
-    let on-page : 0 < 1920 = omega arith in
-    eqb-false 0x20 0x41 refl (fed fixedAnswer kept .characters 0 on-page refl)
+    eqb-false 0x20 0x41 refl (fed fixedAnswer kept .characters 0 refl)
 
 -- And the read is given 0, and not 6.
 pub refusesLongReads-breaks-feeding-back : FeedingBack ourRules refusesLongReads → ⊥

@@ -2,8 +2,7 @@
 use mathlib.Core.Path.{refl}
 use mathlib.Core.Bool.{true}
 use mathlib.Core.List.{[], _∷_}
-use Prim.Native.Nat.{ℕ, _<_}
-use native.Mathlib.Omega.{arith}
+use Prim.Native.Nat.{ℕ}
 use borrow.Author.Tests.{eqb-false}
 use lib.ListN.{replicate}
 use Rattle.words.proofs.Choosing.{true-is-not-false}
@@ -15,7 +14,7 @@ use Rattle.promises.specs.Rules.{byte, press}
 use Rattle.promises.specs.Demands.{KeysKeep}
 use Rattle.promises.specs.Further.{BlocksKeep}
 use Rattle.wrong.specs.Entries.{blanksRow, typesOnProtected}
-use Rattle.wrong.specs.Rules.{isBlock, clearsAllTags, unprotectsFirst, keepsTags}
+use Rattle.wrong.specs.Rules.{isBlock, clearsAllTags, unprotectsFirst, clearsLooks, keepsTags}
 use Rattle.promises.proofs.Sheets.{sheet, at}
 use Rattle.promises.proofs.Computing.{validity, hostSteps, keySteps, calls, streams}
 
@@ -27,15 +26,13 @@ fieldAndLabel column = at column (sheet (0x41 ∷ 0x42 ∷ 0x20 ∷ 0x20 ∷ 0x2
 pub blanksRow-breaks-keys-keep : KeysKeep blanksRow → ⊥
 unfolding calls keySteps
 blanksRow-breaks-keys-keep kept =
-    let on-page : 1 < 1920 = omega arith in
-    eqb-false 0x20 0x42 refl (kept .protected-cells (fieldAndLabel 1) 263 [] 1 refl .character on-page)
+    eqb-false 0x20 0x42 refl (kept .protected-cells (fieldAndLabel 1) 263 [] 1 refl .character)
 
 -- X typed with the cursor on the B.
 pub typesOnProtected-breaks-keys-keep : KeysKeep typesOnProtected → ⊥
 unfolding calls keySteps
 typesOnProtected-breaks-keys-keep kept =
-    let on-page : 1 < 1920 = omega arith in
-    eqb-false 0x58 0x42 refl (kept .protected-cells (fieldAndLabel 2) 0x58 [] 1 refl .character on-page)
+    eqb-false 0x58 0x42 refl (kept .protected-cells (fieldAndLabel 2) 0x58 [] 1 refl .character)
 
 -- The first cell is protected and modified.
 abbrev taggedLabel : Terminal
@@ -65,5 +62,14 @@ pub keepsTags-breaks-blocks-keep : BlocksKeep keepsTags → ⊥
 unfolding validity keySteps streams isBlock
 keepsTags-breaks-blocks-keep kept =
     let valid : Valid taggedField = record { size = refl; state = refl; page = refl } in
-    let on-page : 0 < 1920 = omega arith in
-    true-is-not-false (kept taggedField valid (press 267) true (block true 80 (taggedField .page)) refl .none-modified 0 on-page refl)
+    true-is-not-false (kept taggedField valid (press 267) true (block true 80 (taggedField .page)) refl .none-modified 0 refl)
+
+-- A field of one cell that is bold, and is not after 267.
+abbrev boldField : Terminal
+boldField = at 1 (sheet (replicate 5 0x20) (4 ∷ 1 ∷ 1 ∷ 1 ∷ 1 ∷ []))
+
+pub clearsLooks-breaks-blocks-keep : BlocksKeep clearsLooks → ⊥
+unfolding validity keySteps streams isBlock
+clearsLooks-breaks-blocks-keep kept =
+    let valid : Valid boldField = record { size = refl; state = refl; page = refl } in
+    eqb-false 0 4 refl (kept boldField valid (press 267) true (block true 80 (boldField .page)) refl .marks 0)

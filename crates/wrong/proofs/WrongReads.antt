@@ -1,17 +1,16 @@
 -- What goes wrong where a stream is cut, stopped or counted is caught by cutting, continuing, progress, and by calls being steps.
 use mathlib.Core.Path.{refl, sym, ap}
 use mathlib.Core.List.{List, [], _∷_}
-use Prim.Native.Nat.{ℕ, _≤_}
-use native.Mathlib.Omega.{arith}
+use Prim.Native.Nat.{ℕ}
 use borrow.Author.Tests.{eqb-false}
-use lib.ListN.{length, getD, replicate, length-replicate}
+use lib.ListN.{length, getD, replicate}
 use Rattle.words.proofs.Choosing.{true-is-not-false}
 use Rattle.steps.specs.Steps.{Terminal}
 use Rattle.promises.specs.Rules.{ourRules, Total}
 use Rattle.promises.specs.Entries.{read, no-more, done, Read, ended, taken, stopped}
 use Rattle.promises.specs.Demands.{Cutting}
-use Rattle.promises.specs.Further.{SameHoweverCut, Continuing, Progress, CallsAreSteps}
-use Rattle.wrong.specs.Entries.{stopsAtOnce, hidesSent, dropsHalfRead, actsOnFirstByte, forgetsCountOn3, takesLastByteOn3, inventsCount, sendsBackwards}
+use Rattle.promises.specs.Further.{SameHoweverCut, Continuing, CallsAreSteps}
+use Rattle.wrong.specs.Entries.{dropsHalfRead, actsOnFirstByte, forgetsCountOn3, takesLastByteOn3, inventsCount, sendsBackwards}
 use Rattle.promises.proofs.Sheets.{sheet, at}
 use Rattle.promises.proofs.Computing.{hostSteps, calls, streams}
 
@@ -82,18 +81,3 @@ unfolding calls hostSteps streams
 sendsBackwards-breaks-calls-are-steps kept =
     let same = kept form (read askTwice (replicate 10 0) ∷ []) in
     eqb-false 0x3B 0x6E refl (ap (λ (left : Total). getD (left .sent) 3 0) same)
-
--- With room for the longest block, a call that is given 3 has sent something.
-abbrev largeRoom : List ℕ
-largeRoom = replicate 35185 0
-
-large-room : 35185 ≤ length largeRoom
-large-room = omega (arith, length-replicate {A = ℕ} 35185 0)
-
-pub stopsAtOnce-breaks-progress : Progress stopsAtOnce → ⊥
-unfolding calls
-stopsAtOnce-breaks-progress kept = absurd (omega (arith, kept form [] largeRoom large-room refl))
-
-pub hidesSent-breaks-progress : Progress hidesSent → ⊥
-unfolding calls
-hidesSent-breaks-progress kept = absurd (omega (arith, kept form [] largeRoom large-room refl))

@@ -212,9 +212,9 @@ takesLastByteOn3 = changingHost (on3 (λ o. taking (o .taken + 1) o))
 abbrev pub stopsAtOnce : Entries
 stopsAtOnce = withHost (λ t bytes output. unchanged NoRoom t output)
 
--- It does its steps, is given 3, and tells of no bytes sent.
-abbrev pub hidesSent : Entries
-hidesSent = changingHost (λ o. outcomeWith 3 (o .taken) 0 (o .stored) (o .terminal) (o .output))
+-- A call given 3 hides what it has sent.
+abbrev pub hidesSentOn3 : Entries
+hidesSentOn3 = changingHost (on3 (λ o. outcomeWith (o .number) (o .taken) 0 (o .stored) (o .terminal) (o .output)))
 
 -- Calls are steps. An invented count of cells stored.
 abbrev pub inventsCount : Entries

@@ -7,7 +7,7 @@ use lib.Dec.{eqb}
 use lib.ListN.{length, take, set, replicate}
 use Rattle.words.specs.Choice.{if_then_else_, _and_}
 use Rattle.words.specs.Lists.{selected}
-use Rattle.page.specs.Marks.{withoutModified}
+use Rattle.page.specs.Marks.{isProtected, withoutModified}
 use Rattle.page.specs.Page.{Page, pageOf}
 use Rattle.fields.specs.Fields.{Field}
 use Rattle.blocks.specs.Blocks.{encode}
@@ -71,6 +71,12 @@ abbrev pub clearsAllTags : Rules
 clearsAllTags = withOnKey (λ key t.
     let clears = map (λ mark. withoutModified mark) in
     pageAfterBlock (λ page. pageOf (page .characters) (clears (page .marks))) (keyStep key t))
+
+-- Sending takes the visual marks from unprotected cells.
+abbrev pub clearsLooks : Rules
+clearsLooks = withOnKey (λ key t.
+    let plain = map (λ mark. if isProtected mark then mark else 0) in
+    pageAfterBlock (λ page. pageOf (page .characters) (plain (page .marks))) (keyStep key t))
 
 -- ESC S unprotects the first cell.
 abbrev pub unprotectsFirst : Rules
