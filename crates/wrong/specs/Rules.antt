@@ -1,5 +1,5 @@
--- Wrong rules, each document 01's with a fault, and entries that follow them. What they do, they tell: so only what
--- is promised of rules, and demand 3, can tell them from ours.
+-- Wrong rules, each document 01's with a fault, and entries that follow them. What they do, they tell, and follow: so
+-- demand 1 and Follows can't tell them from ours, but what is promised of rules, and demand 3, can.
 use mathlib.Core.Bool.{Bool, true, false}
 use mathlib.Core.List.{List, [], _∷_, _++_, map}
 use Prim.Native.Nat.{ℕ}
