@@ -36,10 +36,10 @@ for entry in start:StartAllows host:HostAllows key:KeyAllows; do
     contract=$(sed 's|//.*||' $entries | awk -v name="$name" '
         $0 ~ "^pub (extern \"C\" )?fn " name "\\(" { inside = 1 }
         inside && /^{/ { exit }
-        inside')
+        inside' | tr -s ' \n' ' ')
     [ -n "$contract" ] || { printf '%s: there is no pub fn %s\n' $entries "$name"; bad=1; }
     # the whole fact, not a part of one: neither what it is assumed for nor one of two
-    grep -qE "^ *ensures \{ λ r\. ⌜ $allows [^→⊎↔]* ⌝ \}$" <<<"$contract" || { printf '%s: %s does not ensure %s\n' $entries "$name" "$allows"; bad=1; }
+    grep -qE "Reply ensures \{ λ r\. ⌜ $allows [^→⊎↔⌝]* ⌝ \} *$" <<<"$contract" || { printf '%s: %s does not ensure %s\n' $entries "$name" "$allows"; bad=1; }
     grep -qE "^ghost use Rattle\.terminal\.specs\.Calls\.\{(.*, )?$allows[,}]" $entries || { printf '%s: %s is not that of specs/Calls.antt\n' $entries "$allows"; bad=1; }
     ! grep -q requires <<<"$contract" || { printf '%s: %s has a requires\n' $entries "$name"; bad=1; }
 done

@@ -81,4 +81,6 @@ copying false bytes lent = record { copy = NotSent; output = lent }
 -- The bytes that the host laid are the full block of the page as it then stands.
 pub record CopyKept (t : Terminal) (key : ℕ) (lentFull lentTyped lentChanged lent : List ℕ) (copied : Copied) (page : Page) (full typed changed output : List ℕ) : Type 0 where
   pub keys : ThreeKeys t key lentFull lentTyped lentChanged (copied .replies) page full typed changed
-  pub is-copy : record { copy = copied .copy; output = output } ≡ copying (allAnswered (copied .replies)) (blockHere true (record { state = copied .replies .changed .state; page = page })) lent
+  pub is-copy : record { copy = copied .copy; output = output }
+      ≡ copying (allAnswered (copied .replies))
+      (blockHere true (record { state = copied .replies .changed .state; page = page })) lent

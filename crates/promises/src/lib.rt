@@ -1,1 +1,1 @@
-// The three demands and what else is promised: specs/Demands.antt and specs/Further.antt; the theorems are in proofs/Theorems.antt.
+// The three demands (specs/Demands.antt), what else is promised (specs/Further.antt); theorems: proofs/Theorems.antt.

@@ -59,7 +59,8 @@ freshStep t =
 -- A block is sent, full or changed; sending clears modified. ESC S sends a full one.
 unfoldable pub sendBlock : Bool → Terminal → Stepped
 sendBlock full t =
-    sends (blockMessage full (blockHere full t)) (t .state) (pageOf (t .page .characters) (modifiedCleared (t .page .marks)))
+    sends (blockMessage full (blockHere full t)) (t .state)
+    (pageOf (t .page .characters) (modifiedCleared (t .page .marks)))
 
 -- After ESC: D E M H V W S c ` b.
 unfoldable pub escStep : ℕ → Terminal → Stepped

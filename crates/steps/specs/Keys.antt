@@ -89,7 +89,8 @@ toPreviousField t = goesTo (goneTo (previousField (t .state .size .columns) (cur
 
 unfoldable pub toFirstUnprotected : Terminal → Stepped
 toFirstUnprotected t =
-    goesTo (goneTo (orElse (firstUnprotected (free t) (t .state .size .columns) (cellsHere t)) (At (placeOf (t .state .size .columns) 0))) (t .state)) t
+    let columns = t .state .size .columns in
+    goesTo (goneTo (orElse (firstUnprotected (free t) columns (cellsHere t)) (At (placeOf columns 0))) (t .state)) t
 
 -- 263: the cursor's field becomes 20s, and the cursor goes to its start.
 unfoldable pub fieldBlanked : Terminal → Stepped

@@ -77,7 +77,9 @@ fn is_valid(state: State, characters: &[u8], marks: &[u8]) -> bool
 fn run(state: State, characters: &mut [u8], marks: &mut [u8], bytes: &[u8], out: &mut [u8]) -> Reply
     requires { ⌜ Valid (terminalOf state (now characters) (now marks)) ⌝ }
     requires { ⌜ length (now bytes) ≤ 65536 ⌝ }
-    ensures { λ r. ⌜ HostAllows (terminalOf state (now (characters .entry)) (now (marks .entry))) (now (bytes .entry)) (now (out .entry)) r (pageOf (now (characters .exit)) (now (marks .exit))) (now (out .exit)) ⌝ }
+    ensures { λ r. ⌜ HostAllows
+        (terminalOf state (now (characters .entry)) (now (marks .entry))) (now (bytes .entry)) (now (out .entry))
+        r (pageOf (now (characters .exit)) (now (marks .exit))) (now (out .exit)) ⌝ }
 {
     let mut here = state;
     let mut taken = 0;
@@ -112,7 +114,9 @@ fn run(state: State, characters: &mut [u8], marks: &mut [u8], bytes: &[u8], out:
 fn press(state: State, characters: &mut [u8], marks: &mut [u8], key: usize, out: &mut [u8]) -> Reply
     requires { ⌜ Valid (terminalOf state (now characters) (now marks)) ⌝ }
     requires { ⌜ (isKnown key ≡ true) × (isLockedOut key state ≡ false) × (lacksCell key (terminalOf state (now characters) (now marks)) ≡ false) ⌝ }
-    ensures { λ r. ⌜ KeyAllows (terminalOf state (now (characters .entry)) (now (marks .entry))) key (now (out .entry)) r (pageOf (now (characters .exit)) (now (marks .exit))) (now (out .exit)) ⌝ }
+    ensures { λ r. ⌜ KeyAllows
+        (terminalOf state (now (characters .entry)) (now (marks .entry))) key (now (out .entry))
+        r (pageOf (now (characters .exit)) (now (marks .exit))) (now (out .exit)) ⌝ }
 {
     let step = keys::step(state, characters, marks, out, key);
     if step.exceeds {
@@ -130,7 +134,9 @@ fn press(state: State, characters: &mut [u8], marks: &mut [u8], key: usize, out:
 
 // A fresh page of so many rows and columns.
 pub fn start(rows: usize, columns: usize, characters: &mut [u8], marks: &mut [u8]) -> Reply
-    ensures { λ r. ⌜ StartAllows (record { rows = rows; columns = columns }) (pageOf (now (characters .entry)) (now (marks .entry))) r (pageOf (now (characters .exit)) (now (marks .exit))) [] ⌝ }
+    ensures { λ r. ⌜ StartAllows
+        (record { rows = rows; columns = columns }) (pageOf (now (characters .entry)) (now (marks .entry)))
+        r (pageOf (now (characters .exit)) (now (marks .exit))) [] ⌝ }
 {
     let size = Size { rows, columns };
     if !size.fits(characters, marks) {
@@ -155,7 +161,9 @@ pub fn host(
     bytes: &[u8],
     out: &mut [u8],
 ) -> Reply
-    ensures { λ r. ⌜ HostAllows (terminalOf state (now (characters .entry)) (now (marks .entry))) (now (bytes .entry)) (now (out .entry)) r (pageOf (now (characters .exit)) (now (marks .exit))) (now (out .exit)) ⌝ }
+    ensures { λ r. ⌜ HostAllows
+        (terminalOf state (now (characters .entry)) (now (marks .entry))) (now (bytes .entry)) (now (out .entry))
+        r (pageOf (now (characters .exit)) (now (marks .exit))) (now (out .exit)) ⌝ }
 {
     if !state.size.fits(characters, marks) {
         return refuse_call(Answer::WrongSize, state);
@@ -177,7 +185,9 @@ pub fn key(
     key: usize,
     out: &mut [u8],
 ) -> Reply
-    ensures { λ r. ⌜ KeyAllows (terminalOf state (now (characters .entry)) (now (marks .entry))) key (now (out .entry)) r (pageOf (now (characters .exit)) (now (marks .exit))) (now (out .exit)) ⌝ }
+    ensures { λ r. ⌜ KeyAllows
+        (terminalOf state (now (characters .entry)) (now (marks .entry))) key (now (out .entry))
+        r (pageOf (now (characters .exit)) (now (marks .exit))) (now (out .exit)) ⌝ }
 {
     if !state.size.fits(characters, marks) {
         return refuse_call(Answer::WrongSize, state);
