@@ -1,6 +1,6 @@
 -- No message of a host byte exceeds the longest block: 35,185 bytes.
 use mathlib.Core.Path.{_≡_, sym, ap, _∙_}
-use mathlib.Core.Bool.{true}
+use mathlib.Core.Bool.{Bool, true}
 use mathlib.Core.List.{List, []}
 use Prim.Native.Nat.{ℕ, _≤_}
 use native.Mathlib.Omega.{arith}
@@ -19,6 +19,7 @@ use Rattle.state.specs.State.{withHalf}
 use Rattle.state.specs.Validity.{sizeFits}
 use Rattle.state.proofs.Keeping.{size-bounds}
 use Rattle.steps.specs.Steps.{Terminal, Stepped, bytesOf, blockMessage, withState}
+use Rattle.steps.specs.Seen.{blockHere}
 use Rattle.steps.specs.Commands.{escStep, sendBlock, toColumn, toRow, toPlace, readyReport, cursorReport, statusReport, listedStep, bracketStep}
 use Rattle.steps.specs.Host.{eventStep, hostStep}
 use Rattle.steps.proofs.Soundness.{sized}
@@ -31,19 +32,21 @@ Short step = length (bytesOf (step .message)) ≤ 35185
 quiet : {bytes : List ℕ} → bytes ≡ [] → length bytes ≤ 35185
 quiet none = omega (arith, ap (length {A = ℕ}) none)
 
-block-short : (t : Terminal) → sizeFits (t .state .size) (t .page) ≡ true → Short (sendBlock true t)
-unfolding sendBlock blockMessage bytesOf
-block-short t fits =
+pub block-short : (t : Terminal) → sizeFits (t .state .size) (t .page) ≡ true → (full : Bool) → length (blockHere full t) ≤ 35185
+block-short t fits full =
     let size = sized (t .state .size) (t .page) fits in
     let bounds = size-bounds (t .state .size) (size .listed) in
-    let most = longest-block true (t .state .size .rows) (t .state .size .columns) (t .page) (bounds .rows-most) (bounds .columns-most) (size .marks) (size .characters ∙ sym (size .marks)) in
-    omega arith
+    longest-block full (t .state .size .rows) (t .state .size .columns) (t .page) (bounds .rows-most) (bounds .columns-most) (size .marks) (size .characters ∙ sym (size .marks))
+
+full-short : (t : Terminal) → sizeFits (t .state .size) (t .page) ≡ true → Short (sendBlock true t)
+unfolding sendBlock blockMessage bytesOf
+full-short t fits = block-short t fits true
 
 esc-short : (byte : ℕ) (t : Terminal) → sizeFits (t .state .size) (t .page) ≡ true → Short (escStep byte t)
 unfolding escStep if_then_else_
 esc-short byte t fits =
     either-way (eqb byte 0x53)
-    (λ is. rw (eqb-true byte 0x53 is) (block-short t fits))
+    (λ is. rw (eqb-true byte 0x53 is) (full-short t fits))
     (λ other. quiet (esc-silent byte t other))
 
 status-short : (what : ℕ) (t : Terminal) → Short (statusReport what t)

@@ -20,10 +20,11 @@ use Rattle.terminal.proofs.Cases.{KeyCase, key-case}
 use Rattle.terminal.proofs.Cases as Cases
 use Rattle.terminal.proofs.Theorems.{host-done, key-done, key-found-valid, bytes-sent}
 use Rattle.promises.specs.Rules.{ourRules, press, stepOf, byteSteps, Total, totalOf}
-use Rattle.promises.specs.Entries.{outcomeOf, outcomes, total, AllDone, no-more, done, joinedBytes}
+use Rattle.promises.specs.Entries.{outcomeOf, outcomes, total, no-more, done, joinedBytes}
 use Rattle.promises.specs.FeedingBack.{Receives}
 use Rattle.promises.specs.Further.{full-by-267}
 use Rattle.promises.proofs.Asking.{block-asked}
+use Rattle.promises.proofs.Calling.{first-done}
 use Rattle.promises.proofs.Theorems.{demand-2}
 use Rattle.demands.specs.Demands.{InTwoReads, Restored, SentOn}
 
@@ -80,9 +81,9 @@ module _ (t : Terminal) (bytes : List ℕ) (cut : ℕ) (lent lentLater : List �
       record {
         first = (λ i. given first (sym left i .page) output) ∙ one;
         second = two;
-        as-one = λ first-done second-done.
+        as-one = λ one-done two-done.
             (λ i. together (one i) (two i))
-            ∙ cut-anywhere (sym (ap (λ (o : Outcome). o .number) one) ∙ first-done) (sym (ap (λ (o : Outcome). o .number) two) ∙ second-done);
+            ∙ cut-anywhere (sym (ap (λ (o : Outcome). o .number) one) ∙ one-done) (sym (ap (λ (o : Outcome). o .number) two) ∙ two-done);
       }
 
 -- A key's bytes fit the output, whatever it is given.
@@ -99,9 +100,6 @@ key-fits t key lent = go (key-case t key lent)
 
 pub sent-fits : (t : Terminal) (key : ℕ) (lent : List ℕ) {outcome : Outcome} → outcome ≡ keyCall t key lent → outcome .sent ≤ length (outcome .output)
 sent-fits t key lent is = subst (λ (o : Outcome). o .sent ≤ length (o .output)) (sym is) (key-fits t key lent)
-
-first-done : {outcome : Outcome} {later : List Outcome} → AllDone (outcome ∷ later) → outcome .number ≡ 0
-first-done (done outcome later number further) = number
 
 module _ (sender receiver : Terminal) (lentThere : List ℕ) (valid : Valid sender) (receives : Receives sender receiver) where
   abbrev block : List ℕ

@@ -8,20 +8,21 @@ use borrow.Author.Tests.{eqb-true, eqb-false}
 use lib.Dec.{eqb}
 use lib.ListN.{length, take}
 use lib.Seq.{take-at, take-length}
-use Rattle.words.proofs.Choosing.{then-case, else-case, either-way}
+use Rattle.words.specs.Choice.{_and_}
+use Rattle.words.proofs.Choosing.{not-both, then-case, else-case, either-way, both, both-hold}
+use Rattle.page.specs.Page.{validPage}
 use Rattle.state.specs.Lines.{Line1, Line2}
-use Rattle.state.specs.Validity.{sizeFits}
+use Rattle.state.specs.Validity.{sizeFits, validState}
 use Rattle.state.proofs.Lines.{line-1, line-2}
 use Rattle.steps.specs.Steps.{Terminal, Stepped, Valid}
 use Rattle.terminal.specs.Runs.{after, sentBy, storedBy}
 use Rattle.terminal.specs.Answers.{Outcome}
-use Rattle.terminal.specs.Lines.{passesLine2}
 use Rattle.terminal.specs.Claims.{Leaves, Did}
 use Rattle.terminal.specs.Table.{TableLine, _when_, Decides, this-holds, not-this}
-use Rattle.terminal.proofs.Deciding.{is-valid}
 use Rattle.terminal.proofs.Theorems.{bytes-sent}
 use Rattle.promises.specs.Rules.{Rules, Input, byte, stepOf, steps, byteSteps}
 use Rattle.promises.specs.Entries.{Entries, Call, read, keyPress, outcomeOf, inputsOf, inputsDone}
+use Rattle.promises.specs.Further.{ValidByTheTable}
 use Rattle.promises.proofs.Laws.{Keeps, DidSteps}
 
 in-steps : {taken : ℕ} {t : Terminal} {lent : List ℕ} {run : List Stepped} {outcome : Outcome} → Did taken t lent run outcome → DidSteps t run outcome
@@ -39,16 +40,25 @@ first-steps rules (suc n) t [] = refl
 first-steps rules (suc n) t (b ∷ later) =
     ap (λ (run : List Stepped). rules .onByte b t ∷ run) (first-steps rules n (rules .onByte b t .terminal) later)
 
+-- The tests that run let pass just what lines 1 and 2 do.
+pub by-the-table : ValidByTheTable
+by-the-table t = (
+  λ valid. (
+    λ line. not-both (valid .size) (line-1 (t .state .size) (t .page) .1 line),
+    λ line. not-both (both-hold _ _ (valid .state) (valid .page)) (line-2 (t .state) (t .page) .1 line),
+  ),
+  λ none.
+      let fits = either-way (sizeFits (t .state .size) (t .page)) (λ fits. fits) (λ wrong. absurd (none .0 (line-1 (t .state .size) (t .page) .0 wrong))) in
+      let rest = either-way (validState (t .state) and validPage (t .page)) (λ fine. fine) (λ wrong. absurd (none .1 (line-2 (t .state) (t .page) .0 wrong))) in
+      record { size = fits; state = both rest .0; page = both rest .1 },
+)
+
 -- Where lines 1 and 2 don't decide, the terminal is valid.
 passes : {t : Terminal} {later : List TableLine} {n : ℕ} → Decides (1 when Line1 (t .state .size) (t .page) ∷ 2 when Line2 (t .state) (t .page) ∷ later) n
     → (n ≡ 1 → ⊥) → (n ≡ 2 → ⊥) → Valid t
-unfolding passesLine2
 passes (this-holds _ _ holds) not-1 not-2 = absurd (not-1 refl)
 passes (not-this _ _ _ no-1 (this-holds _ _ holds)) not-1 not-2 = absurd (not-2 refl)
-passes {t} (not-this _ _ _ no-1 (not-this _ _ _ no-2 rest)) not-1 not-2 =
-    is-valid t
-    (either-way (sizeFits (t .state .size) (t .page)) (λ fits. fits) (λ wrong. absurd (no-1 (line-1 (t .state .size) (t .page) .0 wrong))))
-    (either-way (passesLine2 t) (λ valid. valid) (λ wrong. absurd (no-2 (line-2 (t .state) (t .page) .0 wrong))))
+passes {t} (not-this _ _ _ no-1 (not-this _ _ _ no-2 rest)) not-1 not-2 = by-the-table t .1 (no-1, no-2)
 
 module _ (rules : Rules) (entries : Entries) (kept : Keeps rules entries) where
   module _ (t : Terminal) (bytes lent : List ℕ) where

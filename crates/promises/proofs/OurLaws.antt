@@ -5,14 +5,11 @@ use mathlib.Core.List.{List, [], _∷_}
 use Prim.Native.Nat.{ℕ, _≤_}
 use native.Mathlib.Omega.{arith}
 use lib.ListN.{length}
-use Rattle.blocks.proofs.Theorems.{longest-block}
 use Rattle.steps.specs.Steps.{Terminal, Message, silent, report, fullBlock, changedBlock, Stepped, bytesOf, Valid}
-use Rattle.steps.specs.Seen.{blockHere}
 use Rattle.steps.specs.Claims.{SendsBlock}
 use Rattle.steps.specs.Host.{hostStep}
 use Rattle.steps.specs.Keys.{keyStep}
-use Rattle.steps.proofs.Measuring.{measured}
-use Rattle.commands.proofs.Lengths.{step-short}
+use Rattle.commands.proofs.Lengths.{block-short, step-short}
 use Rattle.commands.proofs.Theorems.{step-keeps-valid, step-keeps-size, step-touches-only, step-sends-full, step-sends-no-changed, step-reports}
 use Rattle.keys.proofs.Theorems.{key-keeps-valid, key-keeps-size, key-touches-only, key-tags, key-sends-full, key-sends-changed, key-sends-no-report, key-keeps-protection}
 use Rattle.terminal.specs.Runs.{stepsOf}
@@ -28,18 +25,13 @@ use Rattle.promises.proofs.Laws.{BlockOfPage, StepLaw, StepLaws, Keeps}
 is-block : {full : Bool} {Asked : Type 0} {t : Terminal} {step : Stepped} {bytes : List ℕ} → SendsBlock full Asked t step bytes → BlockOfPage full t step bytes
 is-block sent = record { of-page = sent .of-page; no-cell = sent .no-cell }
 
-block-short : (t : Terminal) → Valid t → (full : Bool) → length (blockHere full t) ≤ 35185
-block-short t valid full =
-    let known = measured valid in
-    longest-block full (t .state .size .rows) (t .state .size .columns) (t .page) (known .on-page .rows-most) (known .on-page .columns-most) (known .all-cells) (sym (known .as-many))
-
 -- A key sends a block or nothing.
 key-short : (key : ℕ) (t : Terminal) → Valid t → (message : Message) → keyStep key t .message ≡ message → length (bytesOf message) ≤ 35185
 unfolding bytesOf
 key-short key t valid silent is = omega arith
 key-short key t valid (report bytes) is = absurd (key-sends-no-report key t bytes is)
-key-short key t valid (fullBlock bytes) is = omega (arith, ap (length {A = ℕ}) (key-sends-full key t bytes is .of-page), block-short t valid true)
-key-short key t valid (changedBlock bytes) is = omega (arith, ap (length {A = ℕ}) (key-sends-changed key t bytes is .of-page), block-short t valid false)
+key-short key t valid (fullBlock bytes) is = omega (arith, ap (length {A = ℕ}) (key-sends-full key t bytes is .of-page), block-short t (valid .size) true)
+key-short key t valid (changedBlock bytes) is = omega (arith, ap (length {A = ℕ}) (key-sends-changed key t bytes is .of-page), block-short t (valid .size) false)
 
 our-every-step : (input : Input) (t : Terminal) → Valid t → StepLaw t (stepOf ourRules input t)
 unfolding stepOf

@@ -7,13 +7,12 @@ use native.Mathlib.Omega.{arith}
 use borrow.Author.Tests.{eqb-true, eqb-false}
 use lib.Dec.{eqb}
 use lib.ListN.{length, replicate, length-replicate}
-use Rattle.words.specs.Choice.{_and_}
-use Rattle.words.proofs.Choosing.{not-both, either-way, less-or-not, both, both-hold}
-use Rattle.page.specs.Page.{Page, pageOf, validPage}
+use Rattle.words.proofs.Choosing.{not-both, either-way, less-or-not}
+use Rattle.page.specs.Page.{Page, pageOf}
 use Rattle.state.specs.declared.Size.{Size}
 use Rattle.state.specs.State.{freshState}
-use Rattle.state.specs.Validity.{sizeFits, validState}
-use Rattle.state.proofs.Lines.{line-1, line-2}
+use Rattle.state.specs.Validity.{sizeFits}
+use Rattle.state.proofs.Lines.{line-1}
 use Rattle.state.proofs.Keeping.{fresh-valid}
 use Rattle.steps.specs.Steps.{Terminal, Valid}
 use Rattle.steps.specs.Seen.{free}
@@ -25,24 +24,11 @@ use Rattle.terminal.specs.Table.{startTable, Decides, this-holds, not-this}
 use Rattle.promises.specs.Rules.{Rules, press, stepOf, Total}
 use Rattle.promises.specs.Entries.{Entries, inputsDone}
 use Rattle.promises.specs.Demands.{KeysKeep}
-use Rattle.promises.specs.Further.{ValidByTheTable, StaysValid}
+use Rattle.promises.specs.Further.{StaysValid}
 use Rattle.promises.proofs.Laws.{StepLaws, Keeps}
 use Rattle.promises.proofs.Keeping.{same-size, protected-kept, past-free}
 use Rattle.promises.proofs.Doing.{key-valid}
 use Rattle.promises.proofs.Calling.{steps-keep-valid, calls-are-steps-of}
-
--- The tests that run let pass just what lines 1 and 2 do.
-pub by-the-table : ValidByTheTable
-by-the-table t = (
-  λ valid. (
-    λ line. not-both (valid .size) (line-1 (t .state .size) (t .page) .1 line),
-    λ line. not-both (both-hold _ _ (valid .state) (valid .page)) (line-2 (t .state) (t .page) .1 line),
-  ),
-  λ none.
-      let fits = either-way (sizeFits (t .state .size) (t .page)) (λ fits. fits) (λ wrong. absurd (none .0 (line-1 (t .state .size) (t .page) .0 wrong))) in
-      let rest = either-way (validState (t .state) and validPage (t .page)) (λ fine. fine) (λ wrong. absurd (none .1 (line-2 (t .state) (t .page) .0 wrong))) in
-      record { size = fits; state = both rest .0; page = both rest .1 },
-)
 
 -- Where line 1 doesn't decide a start, the page has the size asked for.
 start-fits : {size : Size} {page : Page} {n : ℕ} → Decides (startTable size page) n → n ≡ 0 → sizeFits size page ≡ true

@@ -9,8 +9,9 @@ use Rattle.promises.specs.Contracts.{ourContracts}
 use Rattle.promises.specs.Demands.{Demand1, Follows, Demand2, Demand3}
 use Rattle.promises.specs.Further.{AllSame, OneResult, SameEntries, OneTerminal, ValidByTheTable, StaysValid, SameHoweverCut, Continuing, Progress, CallsAreSteps, BlocksKeep, SendsBlocks, Bounded, CopyingSteps, OmissionSteps}
 use Rattle.promises.proofs.OurLaws.{our-step-laws, our-keeps}
+use Rattle.promises.proofs.Doing.{by-the-table}
 use Rattle.promises.proofs.OnlyOne.{same-entries}
-use Rattle.promises.proofs.Staying.{by-the-table, stays-valid-of, keys-keep-of}
+use Rattle.promises.proofs.Staying.{stays-valid-of, keys-keep-of}
 use Rattle.promises.proofs.Calling.{calls-are-steps-of, continuing-of, cutting-of, same-however-cut-of}
 use Rattle.promises.proofs.Feeding.{our-feeding-back}
 use Rattle.promises.proofs.Sending.{blocks-keep-of, bounded-of, progress-of}
