@@ -15,23 +15,23 @@ use Rattle.places.specs.declared.Place.{Place}
 use Rattle.places.specs.Places.{placeOf}
 use Rattle.fields.specs.Fields.{Field, startsField, fieldEnd, fieldFrom, fieldsFrom, fieldsOf}
 use Rattle.fields.proofs.Bounds.{end-of}
-use Rattle.blocks.specs.Blocks.{headBytes, entryBytes, entryOf, encode, someModified, isSent, entriesSent, block, bytesAt}
+use Rattle.blocks.specs.Blocks.{headBytes, entryBytes, entryOf, encode, someModified, isInBlock, entriesSent, block, bytesAt}
 
 -- the search for a modified cell, a turn at a time
 module _ (marks : List ℕ) (cell to : ℕ) where
-  pub modified-here : cell < to → isModified (getD marks cell 0) ≡ true → someModified marks (to - cell) cell ≡ true
+  pub modified-here : cell < to → isModified (getD marks cell 0) ≡ true → someModified marks cell (to - cell) ≡ true
   unfolding someModified
   modified-here h found =
       let more : to - cell ≡ suc (to - (cell + 1)) = omega arith in
-      ap (λ (n : ℕ). someModified marks n cell) more ∙ first-holds _ _ found
+      ap (λ (n : ℕ). someModified marks cell n) more ∙ first-holds _ _ found
 
-  pub modified-later : cell < to → isModified (getD marks cell 0) ≡ false → someModified marks (to - cell) cell ≡ someModified marks (to - (cell + 1)) (cell + 1)
+  pub modified-later : cell < to → isModified (getD marks cell 0) ≡ false → someModified marks cell (to - cell) ≡ someModified marks (cell + 1) (to - (cell + 1))
   unfolding someModified
   modified-later h not-here =
       let more : to - cell ≡ suc (to - (cell + 1)) = omega arith in
-      ap (λ (n : ℕ). someModified marks n cell) more ∙ second-decides _ _ not-here
+      ap (λ (n : ℕ). someModified marks cell n) more ∙ second-decides _ _ not-here
 
-  pub modified-nowhere : to ≤ cell → someModified marks (to - cell) cell ≡ false
+  pub modified-nowhere : to ≤ cell → someModified marks cell (to - cell) ≡ false
   unfolding someModified
   modified-nowhere h = let none : to - cell ≡ 0 = omega arith in rw none
 
@@ -46,14 +46,14 @@ module _ (full : Bool) (columns : ℕ) (page : Page) (place : Place) (right : pl
   unstarted none = else-case _ _ _ (first-fails _ _ (ap (startsField (unprotected (page .marks))) (sym right) ∙ none))
 
   module _ (end : ℕ) (is-end : end ≡ fieldEnd (unprotected (page .marks)) columns (length (page .marks)) (place .cell)) where
-    same-field : isSent full (page .marks) (record { start = place .cell; length = end - place .cell }) ≡ isSent full (page .marks) (fieldFrom (unprotected (page .marks)) columns (length (page .marks)) (place .cell))
+    same-field : isInBlock full (page .marks) (record { start = place .cell; length = end - place .cell }) ≡ isInBlock full (page .marks) (fieldFrom (unprotected (page .marks)) columns (length (page .marks)) (place .cell))
     same-field = rw is-end
 
-    pub unsent : isSent full (page .marks) (record { start = place .cell; length = end - place .cell }) ≡ false → bytesAt full columns page (place .cell) ≡ []
+    pub unsent : isInBlock full (page .marks) (record { start = place .cell; length = end - place .cell }) ≡ false → bytesAt full columns page (place .cell) ≡ []
     unfolding bytesAt
     unsent none = else-case _ _ _ (second-fails _ _ (sym same-field ∙ none))
 
-    pub sent-is : startsField (unprotected (page .marks)) place ≡ true → isSent full (page .marks) (record { start = place .cell; length = end - place .cell }) ≡ true → bytesAt full columns page (place .cell) ≡ headBytes (place .row) (place .column) ++ take (end - place .cell) (drop (place .cell) (page .characters))
+    pub sent-is : startsField (unprotected (page .marks)) place ≡ true → isInBlock full (page .marks) (record { start = place .cell; length = end - place .cell }) ≡ true → bytesAt full columns page (place .cell) ≡ headBytes (place .row) (place .column) ++ take (end - place .cell) (drop (place .cell) (page .characters))
     unfolding bytesAt entryBytes entryOf
     sent-is starts sent =
         then-case _ _ _ (both-hold _ _ (ap (startsField (unprotected (page .marks))) (sym right) ∙ starts) (sym same-field ∙ sent))
@@ -62,7 +62,7 @@ module _ (full : Bool) (columns : ℕ) (page : Page) (place : Place) (right : pl
         right⁻ : placeOf columns (place .cell) ≡ place
         right⁻ = sym right
 
-    pub sent-length : place .cell < length (page .marks) → length (page .characters) ≡ length (page .marks) → startsField (unprotected (page .marks)) place ≡ true → isSent full (page .marks) (record { start = place .cell; length = end - place .cell }) ≡ true → length (bytesAt full columns page (place .cell)) ≡ length (headBytes (place .row) (place .column)) + (end - place .cell)
+    pub sent-length : place .cell < length (page .marks) → length (page .characters) ≡ length (page .marks) → startsField (unprotected (page .marks)) place ≡ true → isInBlock full (page .marks) (record { start = place .cell; length = end - place .cell }) ≡ true → length (bytesAt full columns page (place .cell)) ≡ length (headBytes (place .row) (place .column)) + (end - place .cell)
     sent-length here same starts sent =
         let bounds = end-bounds (unprotected (page .marks)) columns (length (page .marks)) (place .cell) here in
         let on-page : end ≤ length (page .characters) = omega arith in
@@ -75,23 +75,23 @@ abbrev pub restFrom : Bool → ℕ → Page → ℕ → ℕ → List ℕ
 restFrom full columns page n cell =
     encode
     (map (entryOf columns (page .characters))
-    (selected (isSent full (page .marks)) (fieldsFrom (unprotected (page .marks)) columns (length (page .marks)) n cell)))
+    (selected (isInBlock full (page .marks)) (fieldsFrom (unprotected (page .marks)) columns (length (page .marks)) cell n)))
 
 module _ (full : Bool) (columns : ℕ) (page : Page) where
   rest-suc : (n cell : ℕ) → restFrom full columns page (suc n) cell ≡ bytesAt full columns page cell ++ restFrom full columns page n (cell + 1)
   unfolding fieldsFrom selected encode bytesAt if_then_else_ _and_
-  rest-suc n cell = by-tests (startsField (unprotected (page .marks)) (placeOf columns cell)) (isSent full (page .marks) field) refl
+  rest-suc n cell = by-tests (startsField (unprotected (page .marks)) (placeOf columns cell)) (isInBlock full (page .marks) field) refl
     where
       field : Field
       field = fieldFrom (unprotected (page .marks)) columns (length (page .marks)) cell
 
       later : List Field
-      later = fieldsFrom (unprotected (page .marks)) columns (length (page .marks)) n (cell + 1)
+      later = fieldsFrom (unprotected (page .marks)) columns (length (page .marks)) (cell + 1) n
 
       bytes : List Field → List ℕ
-      bytes fields = encode (map (entryOf columns (page .characters)) (selected (isSent full (page .marks)) fields))
+      bytes fields = encode (map (entryOf columns (page .characters)) (selected (isInBlock full (page .marks)) fields))
 
-      by-tests : (starts sent : Bool) → isSent full (page .marks) field ≡ sent → bytes (if starts then field ∷ later else later) ≡ (if starts and sent then entryBytes (entryOf columns (page .characters) field) else []) ++ bytes later
+      by-tests : (starts sent : Bool) → isInBlock full (page .marks) field ≡ sent → bytes (if starts then field ∷ later else later) ≡ (if starts and sent then entryBytes (entryOf columns (page .characters) field) else []) ++ bytes later
       by-tests true true e = rw e
       by-tests true false e = rw e
       by-tests false sent e = refl

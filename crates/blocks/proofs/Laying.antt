@@ -17,7 +17,7 @@ use Rattle.page.specs.Marks.{isProtected, isModified, unprotected}
 use Rattle.page.specs.Page.{Page}
 use Rattle.places.specs.Places.{placeOf}
 use Rattle.fields.specs.Fields.{Field, fieldEnd, fieldsOf}
-use Rattle.blocks.specs.Blocks.{Entry, entryOf, someModified, isSent, entriesSent, block}
+use Rattle.blocks.specs.Blocks.{Entry, entryOf, someModified, isInBlock, entriesSent, block}
 use Rattle.blocks.specs.Lay.{samePlace, laidOn, lay}
 use Rattle.blocks.proofs.Claims.{Sendable, fieldsOn, SameForm, UnmodifiedKept}
 use Rattle.blocks.proofs.Listing.{Listed, listed, field-bounds, field-free}
@@ -84,12 +84,12 @@ module _ (p q : Page) (same : SameForm p q) where
 
   -- Where each field that is not sent has kept its characters.
   module _ (full : Bool) (columns : ℕ)
-      (kept : (field : Field) → ListedOn columns q field → isSent full (q .marks) field ≡ false → entryOf columns (p .characters) field ≡ entryOf columns (q .characters) field) where
+      (kept : (field : Field) → ListedOn columns q field → isInBlock full (q .marks) field ≡ false → entryOf columns (p .characters) field ≡ entryOf columns (q .characters) field) where
     laid-one : (field : Field) → List·Memᴰ field (fieldsOn columns q) → laidOn (entriesSent full columns q) (entryOf columns (p .characters) field) ≡ entryOf columns (q .characters) field
     unfolding entriesSent
     laid-one field m =
         let all = listed (unprotected (q .marks)) columns (length (q .marks)) in
-        laid-field _ columns _ (p .characters) (q .characters) (isSent full (q .marks)) (fieldsOn columns q) all field (all field m) (λ _. m) (kept field (all field m))
+        laid-field _ columns _ (p .characters) (q .characters) (isInBlock full (q .marks)) (fieldsOn columns q) all field (all field m) (λ _. m) (kept field (all field m))
 
     all-laid : map (laidOn (entriesSent full columns q)) (entriesSent true columns p) ≡ entriesSent true columns q
     all-laid =
@@ -102,7 +102,7 @@ module _ (p q : Page) (same : SameForm p q) where
         rw (decode-block columns q sendable-q full, decode-block columns p sendable-p true, all-laid)
 
 -- A field with no modified cell.
-pub unmodified : (marks : List ℕ) (n cell k : ℕ) → someModified marks n cell ≡ false → cell ≤ k → k < cell + n → isModified (getD marks k 0) ≡ false
+pub unmodified : (marks : List ℕ) (n cell k : ℕ) → someModified marks cell n ≡ false → cell ≤ k → k < cell + n → isModified (getD marks k 0) ≡ false
 unfolding someModified
 unmodified marks zero cell k h l m = absurd (omega arith)
 unmodified marks (suc n) cell k h l m =
@@ -123,14 +123,14 @@ same-part a b n start size same =
 
 module _ (columns : ℕ) (p q : Page) (sendable-p : Sendable columns p) (sendable-q : Sendable columns q) (same : SameForm p q) where
   pub full-laid : lay (block true columns q) (block true columns p) ≡ block true columns q
-  unfolding isSent _or_
+  unfolding isInBlock _or_
   full-laid = laid p q same true columns (λ field is unsent. absurd (true-is-not-false unsent)) sendable-p sendable-q
 
   pub changed-laid : UnmodifiedKept p q → lay (block false columns q) (block true columns p) ≡ block true columns q
-  unfolding isSent entryOf
+  unfolding isInBlock entryOf
   changed-laid unchanged = laid p q same false columns kept sendable-p sendable-q
     where
-      kept : (field : Field) → ListedOn columns q field → isSent false (q .marks) field ≡ false → entryOf columns (p .characters) field ≡ entryOf columns (q .characters) field
+      kept : (field : Field) → ListedOn columns q field → isInBlock false (q .marks) field ≡ false → entryOf columns (p .characters) field ≡ entryOf columns (q .characters) field
       kept field is unsent =
           let bounds = field-bounds _ _ _ field is in
           let place = placeOf columns (field .start) in

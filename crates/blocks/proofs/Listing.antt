@@ -43,7 +43,7 @@ unfoldable pub cellsOf : Field → List ℕ
 cellsOf field = numbersFrom (λ _. true) (field .start) (field .length)
 
 module _ (free : ℕ → Bool) (columns cells : ℕ) where
-  listed-from : (n cell : ℕ) (field : Field) → cell + n ≤ cells → List·Memᴰ field (fieldsFrom free columns cells n cell) → Listed free columns cells field
+  listed-from : (n cell : ℕ) (field : Field) → cell + n ≤ cells → List·Memᴰ field (fieldsFrom free columns cells cell n) → Listed free columns cells field
   unfolding fieldsFrom
   listed-from zero cell field h m = absurd (List·Memᴰ·not-nil m)
   listed-from (suc n) cell field h m =
@@ -79,31 +79,31 @@ module _ (free : ℕ → Bool) (columns cells : ℕ) where
 
   -- The unprotected cells after a cell: the rest of the field that has it, and then those of the fields that start after it.
   rest : ℕ → ℕ → List ℕ
-  rest n cell = numbersFrom (λ _. true) (cell + 1) (fieldEnd free columns cells cell - (cell + 1)) ++ flatMap cellsOf (fieldsFrom free columns cells n (cell + 1))
+  rest n cell = numbersFrom (λ _. true) (cell + 1) (fieldEnd free columns cells cell - (cell + 1)) ++ flatMap cellsOf (fieldsFrom free columns cells (cell + 1) n)
 
-  rest-ended : (n cell : ℕ) → fieldEnd free columns cells cell ≡ cell + 1 → rest n cell ≡ flatMap cellsOf (fieldsFrom free columns cells n (cell + 1))
+  rest-ended : (n cell : ℕ) → fieldEnd free columns cells cell ≡ cell + 1 → rest n cell ≡ flatMap cellsOf (fieldsFrom free columns cells (cell + 1) n)
   unfolding rest numbersFrom
   rest-ended n cell e = let none : cell + 1 - (cell + 1) ≡ 0 = omega arith in rw (e, none)
 
   -- The same from a cell on, where it is known of the cells after it.
   module _ (n cell : ℕ) (here : cell < cells) (after : numbersFrom free (cell + 1) n ≡ rest n cell) where
-    from-free : cell ∷ numbersFrom free (cell + 1) n ≡ numbersFrom (λ _. true) cell (fieldEnd free columns cells cell - cell) ++ flatMap cellsOf (fieldsFrom free columns cells n (cell + 1))
+    from-free : cell ∷ numbersFrom free (cell + 1) n ≡ numbersFrom (λ _. true) cell (fieldEnd free columns cells cell - cell) ++ flatMap cellsOf (fieldsFrom free columns cells (cell + 1) n)
     unfolding numbersFrom if_then_else_ rest
     from-free =
         let end = fieldEnd free columns cells cell in
         let more : end - cell ≡ suc (end - (cell + 1)) = omega (arith, end-of free columns cells cell here .high) in
         rw (after, more)
 
-    from-protected : free cell ≡ false → numbersFrom free (cell + 1) n ≡ flatMap cellsOf (fieldsFrom free columns cells n (cell + 1))
+    from-protected : free cell ≡ false → numbersFrom free (cell + 1) n ≡ flatMap cellsOf (fieldsFrom free columns cells (cell + 1) n)
     from-protected f = after ∙ rest-ended n cell (end-of-protected cell f)
 
     from-joined : joined free (placeOf columns cell) ≡ true
-        → numbersFrom free cell (suc n) ≡ numbersFrom (λ _. true) cell (fieldEnd free columns cells cell - cell) ++ flatMap cellsOf (fieldsFrom free columns cells (suc n) cell)
+        → numbersFrom free cell (suc n) ≡ numbersFrom (λ _. true) cell (fieldEnd free columns cells cell - cell) ++ flatMap cellsOf (fieldsFrom free columns cells cell (suc n))
     unfolding numbersFrom fieldsFrom
     from-joined j =
         rw (then-case _ _ _ (joined-cell-free free columns cell j), else-case _ _ _ (joined-starts-not free columns cell j)) from-free
 
-    from-not-joined : joined free (placeOf columns cell) ≡ false → numbersFrom free cell (suc n) ≡ flatMap cellsOf (fieldsFrom free columns cells (suc n) cell)
+    from-not-joined : joined free (placeOf columns cell) ≡ false → numbersFrom free cell (suc n) ≡ flatMap cellsOf (fieldsFrom free columns cells cell (suc n))
     unfolding numbersFrom fieldsFrom flatMap cellsOf
     from-not-joined j =
         either-way (free cell)
@@ -120,7 +120,7 @@ module _ (free : ℕ → Bool) (columns cells : ℕ) where
       (λ j. rw (end-on free columns cells cell next j) (from-joined n (cell + 1) next after j))
       (λ j. from-not-joined n (cell + 1) next after j ∙ sym (rest-ended (suc n) cell (end-stops free columns cells cell next j)))
 
-  free-from-first : (n : ℕ) → n ≡ cells → numbersFrom free 0 n ≡ flatMap cellsOf (fieldsFrom free columns cells n 0)
+  free-from-first : (n : ℕ) → n ≡ cells → numbersFrom free 0 n ≡ flatMap cellsOf (fieldsFrom free columns cells 0 n)
   unfolding numbersFrom fieldsFrom flatMap
   free-from-first zero h = refl
   free-from-first (suc n) h = from-not-joined n 0 (omega arith) (free-after n 0 (omega arith)) (are-apart free (placeOf columns 0) (inl (first-opens columns)))

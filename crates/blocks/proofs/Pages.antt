@@ -15,7 +15,7 @@ use Rattle.page.specs.Marks.{isModified, validCharacter, unprotected}
 use Rattle.page.specs.Page.{Page}
 use Rattle.places.specs.Places.{placeOf}
 use Rattle.fields.specs.Fields.{Field}
-use Rattle.blocks.specs.Blocks.{encode, entryOf, someModified, isSent, entriesSent, block}
+use Rattle.blocks.specs.Blocks.{encode, entryOf, someModified, isInBlock, entriesSent, block}
 use Rattle.blocks.specs.Decode.{decode, validEntry}
 use Rattle.blocks.proofs.Claims.{Sendable, fieldsOn, NothingModified}
 use Rattle.blocks.proofs.Decoding.{decode-encode}
@@ -40,7 +40,7 @@ module _ (columns : ℕ) (page : Page) (sendable : Sendable columns page) where
   unfolding entriesSent
   valid-entries full =
       every-map validEntry (entryOf columns (page .characters)) _
-      (every-by-each _ _ (λ field m. valid-entry field (listed _ _ _ field (selected-from (isSent full (page .marks)) field (fieldsOn columns page) m))))
+      (every-by-each _ _ (λ field m. valid-entry field (listed _ _ _ field (selected-from (isInBlock full (page .marks)) field (fieldsOn columns page) m))))
 
   pub decode-block : (full : Bool) → decode (block full columns page) ≡ entriesSent full columns page
   unfolding block
@@ -49,21 +49,21 @@ module _ (columns : ℕ) (page : Page) (sendable : Sendable columns page) where
 module _ (columns : ℕ) (page : Page) where
   -- A full block has all fields.
   pub all-sent : entriesSent true columns page ≡ map (entryOf columns (page .characters)) (fieldsOn columns page)
-  unfolding entriesSent isSent
-  all-sent = ap (map (entryOf columns (page .characters))) (selected-all (isSent true (page .marks)) (fieldsOn columns page) (λ field m. first-holds true _ refl))
+  unfolding entriesSent isInBlock
+  all-sent = ap (map (entryOf columns (page .characters))) (selected-all (isInBlock true (page .marks)) (fieldsOn columns page) (λ field m. first-holds true _ refl))
 
   -- A changed block of a page with no modified cell that is unprotected.
-  pub none-modified : (n cell : ℕ) → ((k : ℕ) → cell ≤ k → k < cell + n → isModified (getD (page .marks) k 0) ≡ false) → someModified (page .marks) n cell ≡ false
+  pub none-modified : (n cell : ℕ) → ((k : ℕ) → cell ≤ k → k < cell + n → isModified (getD (page .marks) k 0) ≡ false) → someModified (page .marks) cell n ≡ false
   unfolding someModified
   none-modified zero cell h = refl
   none-modified (suc n) cell h = second-decides _ _ (h cell (omega arith) (omega arith)) ∙ none-modified n (cell + 1) (λ k l m. h k (omega arith) (omega arith))
 
   pub nothing-sent : NothingModified page → block false columns page ≡ 0x03 ∷ []
-  unfolding block entriesSent isSent encode
+  unfolding block entriesSent isInBlock encode
   nothing-sent unmodified =
-      ap (λ (fields : List Field). encode (map (entryOf columns (page .characters)) fields)) (selected-none (isSent false (page .marks)) (fieldsOn columns page) unsent)
+      ap (λ (fields : List Field). encode (map (entryOf columns (page .characters)) fields)) (selected-none (isInBlock false (page .marks)) (fieldsOn columns page) unsent)
     where
-      unsent : (field : Field) → List·Memᴰ field (fieldsOn columns page) → isSent false (page .marks) field ≡ false
+      unsent : (field : Field) → List·Memᴰ field (fieldsOn columns page) → isInBlock false (page .marks) field ≡ false
       unsent field m =
           let is : ListedOn columns page field = listed _ _ _ field m in
           let bounds = field-bounds _ _ _ field is in

@@ -14,7 +14,7 @@ use Rattle.page.specs.Page.{Page}
 use Rattle.places.specs.Places.{placeOf}
 use Rattle.fields.specs.Fields.{startsField, Field, fieldsFrom, fieldsOf}
 use Rattle.output.specs.Decimal.{decimal, placeBytes}
-use Rattle.blocks.specs.Blocks.{Entry, entryBytes, encode, entryOf, isSent, entriesSent, block}
+use Rattle.blocks.specs.Blocks.{Entry, entryBytes, encode, entryOf, isInBlock, entriesSent, block}
 use Rattle.blocks.proofs.Claims.{Whole, fieldsOn}
 use Rattle.blocks.proofs.Listing.{listed, field-bounds, cellsOf, free-cells}
 use Rattle.blocks.proofs.Pages.{all-sent}
@@ -74,7 +74,7 @@ encode-length columns characters (field ∷ fields) h =
       run-length (field .start) (field .length),
     )
 
-openings-total : (free : ℕ → Bool) (columns cells n cell : ℕ) → openings columns (fieldsFrom free columns cells n cell) ≡ total (λ k. if startsField free (placeOf columns k) then opening columns k else 0) cell n
+openings-total : (free : ℕ → Bool) (columns cells n cell : ℕ) → openings columns (fieldsFrom free columns cells cell n) ≡ total (λ k. if startsField free (placeOf columns k) then opening columns k else 0) cell n
 unfolding openings fieldsFrom total if_then_else_
 openings-total free columns cells zero cell = refl
 openings-total free columns cells (suc n) cell =
@@ -116,4 +116,4 @@ block-length columns page whole =
 -- No block is longer than the full one.
 pub no-longer : (full : Bool) (columns : ℕ) (page : Page) → length (block full columns page) ≤ length (block true columns page)
 unfolding block entriesSent
-no-longer full columns page = rw (all-sent columns page) (fewer-no-longer (entryOf columns (page .characters)) (isSent full (page .marks)) (fieldsOn columns page))
+no-longer full columns page = rw (all-sent columns page) (fewer-no-longer (entryOf columns (page .characters)) (isInBlock full (page .marks)) (fieldsOn columns page))

@@ -12,8 +12,8 @@ use Rattle.page.specs.Page.{Page, modifiedCleared}
 use Rattle.places.specs.Places.{placeOf}
 use Rattle.output.specs.Decimal.{placeBytes}
 use Rattle.fields.specs.Fields.{Field, startsField, fieldFrom, fieldsOf}
-use Rattle.blocks.specs.declared.Sent.{Sent}
-use Rattle.blocks.specs.declared.Sent.the-variants.{Bytes, NoRoom}
+use Rattle.blocks.specs.declared.BlockResult.{BlockResult}
+use Rattle.blocks.specs.declared.BlockResult.the-variants.{Bytes, NoRoom}
 
 -- What a block says of one field: where it starts, and its characters.
 pub record Entry : Type 0 where
@@ -45,17 +45,17 @@ entryOf columns characters field =
 
 -- One of the n cells from `cell` on is modified.
 unfoldable pub someModified : List ℕ → ℕ → ℕ → Bool
-someModified marks zero cell = false
-someModified marks (suc n) cell = isModified (getD marks cell 0) or someModified marks n (cell + 1)
+someModified marks cell zero = false
+someModified marks cell (suc n) = isModified (getD marks cell 0) or someModified marks (cell + 1) n
 
 -- Which fields are sent: all, or those in which something is modified.
-unfoldable pub isSent : Bool → List ℕ → Field → Bool
-isSent full marks field = full or someModified marks (field .length) (field .start)
+unfoldable pub isInBlock : Bool → List ℕ → Field → Bool
+isInBlock full marks field = full or someModified marks (field .start) (field .length)
 
 unfoldable pub entriesSent : Bool → ℕ → Page → List Entry
 entriesSent full columns page =
     map (entryOf columns (page .characters))
-    (selected (isSent full (page .marks)) (fieldsOf (unprotected (page .marks)) columns (length (page .marks))))
+    (selected (isInBlock full (page .marks)) (fieldsOf (unprotected (page .marks)) columns (length (page .marks))))
 
 unfoldable pub block : Bool → ℕ → Page → List ℕ
 block full columns page = encode (entriesSent full columns page)
@@ -64,18 +64,18 @@ block full columns page = encode (entriesSent full columns page)
 unfoldable pub bytesAt : Bool → ℕ → Page → ℕ → List ℕ
 bytesAt full columns page cell =
     let field = fieldFrom (unprotected (page .marks)) columns (length (page .marks)) cell in
-    if startsField (unprotected (page .marks)) (placeOf columns cell) and isSent full (page .marks) field then
+    if startsField (unprotected (page .marks)) (placeOf columns cell) and isInBlock full (page .marks) field then
     entryBytes (entryOf columns (page .characters) field)
     else []
 
 -- Sending a block into the room left from a place of the output on. Where there is too little, nothing happens.
-pub record BlockSent : Type 0 where
-  pub answer : Sent
+pub record BlockWritten : Type 0 where
+  pub answer : BlockResult
   pub marks : List ℕ
   pub output : List ℕ
 
-unfoldable pub sending : Bool → ℕ → Page → ℕ → List ℕ → BlockSent
-sending full columns page at output =
+unfoldable pub writingBlock : Bool → ℕ → Page → ℕ → List ℕ → BlockWritten
+writingBlock full columns page at output =
     if leb (length (block full columns page)) (length output - at) then
     record {
       answer = Bytes (length (block full columns page));

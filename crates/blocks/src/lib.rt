@@ -1,5 +1,6 @@
 // The block that is sent to the host: first its length, then, only if there is room, its bytes.
 // Its bytes are defined in specs/Blocks.antt.
+use page::Mark;
 use places::Place;
 ghost use mathlib.Core.Path.{_≡_};
 ghost use mathlib.Core.List.{List};
@@ -8,10 +9,10 @@ ghost use lib.ListN.{length, take, drop};
 ghost use Rattle.words.specs.Output.{Wrote};
 ghost use Rattle.page.specs.Page.{pageOf};
 ghost use Rattle.places.specs.Places.{Counted};
-ghost use Rattle.blocks.specs.Blocks.{someModified, isSent, bytesAt, block, sending};
+ghost use Rattle.blocks.specs.Blocks.{someModified, isInBlock, bytesAt, block, writingBlock};
 
 // Whether a block was sent, and how many bytes it has.
-pub enum Sent {
+pub enum BlockResult {
     Bytes(usize),
     NoRoom,
 }
@@ -30,9 +31,9 @@ pub fn put_characters(out: &mut [u8], at: usize, characters: &[u8], from: usize,
     next
 }
 
-fn has_modified(marks: &[u8], from: usize, to: usize) -> bool
+fn has_modified(marks: &[Mark], from: usize, to: usize) -> bool
     requires { ⌜ (from ≤ to) × (to ≤ length (now marks)) ⌝ }
-    ensures { λ r. ⌜ r ≡ someModified (now (marks .entry)) (to - from) from ⌝ }
+    ensures { λ r. ⌜ r ≡ someModified (now (marks .entry)) from (to - from) ⌝ }
 {
     let mut cell = from;
     while cell < to {
@@ -44,9 +45,9 @@ fn has_modified(marks: &[u8], from: usize, to: usize) -> bool
     false
 }
 
-fn is_sent(marks: &[u8], full: bool, from: usize, to: usize) -> bool
+fn is_in_block(marks: &[Mark], full: bool, from: usize, to: usize) -> bool
     requires { ⌜ (from ≤ to) × (to ≤ length (now marks)) ⌝ }
-    ensures { λ r. ⌜ r ≡ isSent full (now (marks .entry)) (record { start = from; length = to - from }) ⌝ }
+    ensures { λ r. ⌜ r ≡ isInBlock full (now (marks .entry)) (record { start = from; length = to - from }) ⌝ }
 {
     if full {
         return true;
@@ -55,7 +56,7 @@ fn is_sent(marks: &[u8], full: bool, from: usize, to: usize) -> bool
 }
 
 // How many bytes the block has for a cell: no more than a page's 7,680 cells and the 10 bytes of a place, so that the sum fits.
-fn length_at(marks: &[u8], place: Place, columns: usize, full: bool) -> usize
+fn length_at(marks: &[Mark], place: Place, columns: usize, full: bool) -> usize
     requires { ⌜ Counted columns place ⌝ }
     requires { ⌜ (place .cell < length (now marks)) × (length (now marks) ≤ 7680) ⌝ }
     ensures { λ r. ⌜ ((characters : List ℕ) → length characters ≡ length (now (marks .entry)) → r ≡ length (bytesAt full columns (pageOf characters (now (marks .entry))) (place .cell))) ⌝ }
@@ -65,14 +66,14 @@ fn length_at(marks: &[u8], place: Place, columns: usize, full: bool) -> usize
         return 0;
     }
     let end = fields::field_end(marks, place, columns);
-    if !is_sent(marks, full, place.cell, end) {
+    if !is_in_block(marks, full, place.cell, end) {
         return 0;
     }
     output::place_length(place.row, place.column) + (end - place.cell)
 }
 
 // How many bytes the block has.
-pub fn block_length(marks: &[u8], columns: usize, full: bool) -> usize
+pub fn block_length(marks: &[Mark], columns: usize, full: bool) -> usize
     requires { ⌜ (0 < columns) × (length (now marks) ≤ 7680) ⌝ }
     ensures { λ r. ⌜ ((characters : List ℕ) → length characters ≡ length (now (marks .entry)) → r ≡ length (block full columns (pageOf characters (now (marks .entry))))) ⌝ }
 {
@@ -90,7 +91,7 @@ fn put_at(
     out: &mut [u8],
     at: usize,
     characters: &[u8],
-    marks: &[u8],
+    marks: &[Mark],
     place: Place,
     columns: usize,
     full: bool,
@@ -105,7 +106,7 @@ fn put_at(
     }
     let end = fields::field_end(marks, place, columns);
     let cell = place.cell;
-    if !is_sent(marks, full, cell, end) {
+    if !is_in_block(marks, full, cell, end) {
         return at;
     }
     let next = output::put_place(out, at, place.row, place.column, 0x66);
@@ -117,7 +118,7 @@ fn put_block(
     out: &mut [u8],
     at: usize,
     characters: &[u8],
-    marks: &[u8],
+    marks: &[Mark],
     columns: usize,
     full: bool,
 ) -> usize
@@ -135,23 +136,23 @@ fn put_block(
 }
 
 // Sends a block into the room left in the output, and clears modified; where there is too little room nothing happens.
-pub fn send_block(
+pub fn write_block(
     out: &mut [u8],
     at: usize,
     characters: &[u8],
-    marks: &mut [u8],
+    marks: &mut [Mark],
     columns: usize,
     full: bool,
-) -> Sent
+) -> BlockResult
     requires { ⌜ (0 < columns) × (columns ≤ 160) × (length (now marks) ≤ 48 * columns) × (length (now characters) ≡ length (now marks)) ⌝ }
     requires { ⌜ at ≤ length (now out) ⌝ }
-    ensures { λ r. ⌜ record { answer = r; marks = now (marks .exit); output = now (out .exit) } ≡ sending full columns (pageOf (now (characters .entry)) (now (marks .entry))) at (now (out .entry)) ⌝ }
+    ensures { λ r. ⌜ record { answer = r; marks = now (marks .exit); output = now (out .exit) } ≡ writingBlock full columns (pageOf (now (characters .entry)) (now (marks .entry))) at (now (out .entry)) ⌝ }
 {
     let length = block_length(marks, columns, full);
     if out.len() - at < length {
-        return Sent::NoRoom;
+        return BlockResult::NoRoom;
     }
     put_block(out, at, characters, marks, columns, full);
     page::clear_modified(marks);
-    Sent::Bytes(length)
+    BlockResult::Bytes(length)
 }

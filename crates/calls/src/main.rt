@@ -1,6 +1,7 @@
 // Single calls of the terminal's entries, with any state, lent parts and room: what transcripts can't reach.
 // Its lines, in and out, are those of second/FORMATS.md, section "calls".
 use libc::STDOUT_FILENO;
+use page::Mark;
 use state::State;
 use terminal::Reply;
 ghost use mathlib.Core.Path.{_≡_};
@@ -81,7 +82,7 @@ fn print_piece(bytes: &[u8])
     requires { ⌜ length (now bytes) ≤ 2048 ⌝ }
 {
     let mut text = io::buffer();
-    let end = figures::put_hex(&mut text, 0, bytes);
+    let end = numerals::put_hex(&mut text, 0, bytes);
     io::write_all(STDOUT_FILENO, &text[..end]);
 }
 
@@ -135,7 +136,7 @@ fn print_changed(changed: usize)
     requires { ⌜ changed < 100000 ⌝ }
 {
     let mut text = [b' '; 6];
-    figures::put_five(&mut text, 0, changed);
+    numerals::put_five(&mut text, 0, changed);
     io::write_all(STDOUT_FILENO, &text);
 }
 
@@ -153,7 +154,7 @@ fn print_state(state: State) {
 }
 
 // What a call gave and left. The bytes sent are cut to the output: what is tried here is not relied on.
-fn print_call(reply: Reply, out: &[u8], characters: &[u8], marks: &[u8])
+fn print_call(reply: Reply, out: &[u8], characters: &[u8], marks: &[Mark])
     requires { ⌜ length (now out) < 100000 ⌝ }
 {
     let answer = reply.answer;
@@ -183,7 +184,7 @@ fn start_call(
     state: State,
     frame: &[u8],
     characters: &mut [u8],
-    marks: &mut [u8],
+    marks: &mut [Mark],
     out: &[u8],
 ) -> State
     requires { ⌜ length (now out) < 100000 ⌝ }
@@ -201,7 +202,7 @@ fn host_call(
     state: State,
     bytes: &[u8],
     characters: &mut [u8],
-    marks: &mut [u8],
+    marks: &mut [Mark],
     out: &mut [u8],
 ) -> State
     requires { ⌜ length (now out) < 100000 ⌝ }
@@ -215,7 +216,7 @@ fn key_call(
     state: State,
     frame: &[u8],
     characters: &mut [u8],
-    marks: &mut [u8],
+    marks: &mut [Mark],
     out: &mut [u8],
 ) -> State
     requires { ⌜ length (now out) < 100000 ⌝ }
@@ -257,7 +258,7 @@ fn repeated_call(
     state: State,
     frame: &[u8],
     characters: &mut [u8],
-    marks: &mut [u8],
+    marks: &mut [Mark],
     out: &mut [u8],
 ) -> State
     requires { ⌜ length (now out) < 100000 ⌝ }
@@ -286,7 +287,7 @@ fn do_call(
     state: State,
     frame: &[u8],
     characters: &mut [u8],
-    marks: &mut [u8],
+    marks: &mut [Mark],
     out: &mut [u8],
 ) -> State
     requires { ⌜ (0 < length (now frame)) × (length (now out) < 100000) ⌝ }
@@ -301,7 +302,7 @@ fn do_call(
 }
 
 // A call with as much of the characters, the marks and the output as is lent.
-fn lend_and_call(held: Held, frame: &[u8], characters: &mut [u8], marks: &mut [u8]) -> Held
+fn lend_and_call(held: Held, frame: &[u8], characters: &mut [u8], marks: &mut [Mark]) -> Held
     requires { ⌜ Lendable held × (0 < length (now frame)) ⌝ }
     requires { ⌜ (length (now characters) ≡ 8192) × (length (now marks) ≡ 8192) ⌝ }
     ensures { λ r. ⌜ Lendable r ⌝ }
@@ -433,7 +434,7 @@ fn set_part(held: Held, frame: &[u8]) -> Held
 }
 
 // A frame by its first byte.
-fn do_frame(held: Held, frame: &[u8], characters: &mut [u8], marks: &mut [u8]) -> Held
+fn do_frame(held: Held, frame: &[u8], characters: &mut [u8], marks: &mut [Mark]) -> Held
     requires { ⌜ Lendable held ⌝ }
     requires { ⌜ (length (now characters) ≡ 8192) × (length (now marks) ≡ 8192) ⌝ }
     ensures { λ r. ⌜ Lendable r ⌝ }
@@ -474,7 +475,7 @@ fn do_line(
     line: &mut [u8],
     digits: usize,
     characters: &mut [u8],
-    marks: &mut [u8],
+    marks: &mut [Mark],
 ) -> Held
     requires { ⌜ Lendable held ⌝ }
     requires { ⌜ (length (now line) ≡ 512) × (length (now characters) ≡ 8192) × (length (now marks) ≡ 8192) ⌝ }
@@ -489,7 +490,7 @@ fn take_byte(
     byte: u8,
     line: &mut [u8],
     characters: &mut [u8],
-    marks: &mut [u8],
+    marks: &mut [Mark],
 ) -> Reading
     requires { ⌜ Lendable (reading .held) ⌝ }
     requires { ⌜ (length (now line) ≡ 512) × (length (now characters) ≡ 8192) × (length (now marks) ≡ 8192) ⌝ }
@@ -514,7 +515,7 @@ fn take_bytes(
     bytes: &[u8],
     line: &mut [u8],
     characters: &mut [u8],
-    marks: &mut [u8],
+    marks: &mut [Mark],
 ) -> Reading
     requires { ⌜ Lendable (reading .held) ⌝ }
     requires { ⌜ (length (now line) ≡ 512) × (length (now characters) ≡ 8192) × (length (now marks) ≡ 8192) ⌝ }
@@ -530,7 +531,7 @@ fn take_bytes(
 }
 
 // A last line that lacks its 0A counts.
-fn end_input(reading: Reading, line: &mut [u8], characters: &mut [u8], marks: &mut [u8])
+fn end_input(reading: Reading, line: &mut [u8], characters: &mut [u8], marks: &mut [Mark])
     requires { ⌜ Lendable (reading .held) ⌝ }
     requires { ⌜ (length (now line) ≡ 512) × (length (now characters) ≡ 8192) × (length (now marks) ≡ 8192) ⌝ }
 {
@@ -541,7 +542,7 @@ fn end_input(reading: Reading, line: &mut [u8], characters: &mut [u8], marks: &m
     do_line(reading.held, line, digits, characters, marks);
 }
 
-fn read_all(input: &mut [u8], line: &mut [u8], characters: &mut [u8], marks: &mut [u8])
+fn read_all(input: &mut [u8], line: &mut [u8], characters: &mut [u8], marks: &mut [Mark])
     requires { ⌜ (length (now line) ≡ 512) × (length (now characters) ≡ 8192) × (length (now marks) ≡ 8192) ⌝ }
 {
     let held = Held {

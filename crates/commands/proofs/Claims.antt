@@ -25,6 +25,6 @@ pub data Stores (t : Terminal) : List ℕ → Type 0 where
 pub record HostSound (Asked : Type 0) (t : Terminal) (step : Stepped) : Type 0 where
   pub sound : Sound t step
   pub stored : Stores t (step .cells)
-  pub full-block : (bytes : List ℕ) → step .message ≡ fullBlock bytes → SendsBlock true Asked t step bytes
-  pub no-changed-block : (bytes : List ℕ) → step .message ≡ changedBlock bytes → ⊥
-  pub is-report : (bytes : List ℕ) → step .message ≡ report bytes → IsReport bytes
+  pub full-block : (bytes : List ℕ) → step .transmission ≡ fullBlock bytes → SendsBlock true Asked t step bytes
+  pub no-changed-block : (bytes : List ℕ) → step .transmission ≡ changedBlock bytes → ⊥
+  pub is-report : (bytes : List ℕ) → step .transmission ≡ report bytes → IsReport bytes

@@ -1,17 +1,20 @@
--- Which line of the table a final byte comes to, for the commands that do not only move.
-use mathlib.Core.Path.{_≡_, refl, sym, ap, _∙_}
+-- Which line of the table a final byte comes to.
+use mathlib.Core.Path.{_≡_, sym, ap, _∙_}
 use mathlib.Core.Bool.{true, false}
 use mathlib.Core.List.{List}
 use Prim.Native.Nat.{ℕ, _+_, _<_, _≤_}
-use borrow.Author.Tests.{eqb-true, ne-eqb, lt-ltb, le-ltb}
-use lib.Dec.{ltb, eqb}
+use borrow.Author.Tests.{ne-eqb, lt-ltb, le-ltb}
+use lib.Dec.{ltb}
 use lib.ListN.{length, take}
 use Rattle.words.specs.Choice.{if_then_else_, _and_, _or_}
-use Rattle.words.proofs.Choosing.{not-both, then-case, else-case, either-way}
+use Rattle.words.proofs.Choosing.{then-case, else-case}
 use Rattle.sequence.specs.declared.HalfRead.{HalfRead}
 use Rattle.steps.specs.Steps.{Terminal, refusing, rowStart}
-use Rattle.steps.specs.Table.{allowed, valueOf}
-use Rattle.steps.specs.Commands.{isMove, tabControl, erasePart, rendition, setMode, statusReport, listedStep, bracketStep}
+use Rattle.table.specs.Table.{allowed, valueOf}
+use Rattle.table.specs.Moves.{isMove, moveStep}
+use Rattle.table.specs.Settings.{tabControl, rendition, setMode}
+use Rattle.commands.specs.Commands.{erasePart, listedStep, bracketStep}
+use Rattle.sending.specs.Sending.{statusReport}
 
 -- The table lets the command pass, or refuses it.
 module _ (final : ℕ) (half : HalfRead) (t : Terminal) (most : ℕ) (is : most ≡ allowed final .most) where
@@ -26,36 +29,22 @@ module _ (final : ℕ) (half : HalfRead) (t : Terminal) (most : ℕ) (is : most 
 -- By final byte.
 module _ (final what : ℕ) (arguments : List ℕ) (count : ℕ) (t : Terminal) (is : what ≡ valueOf final arguments 0) where
   pub final-W : final ≡ 0x57 → listedStep final arguments count t ≡ tabControl what t
-  unfolding listedStep if_then_else_
+  unfolding listedStep isMove if_then_else_ _and_ _or_
   final-W e = rw (is, e)
 
   pub final-J : final ≡ 0x4A → listedStep final arguments count t ≡ erasePart what 0 (length (t .page .marks)) t
-  unfolding listedStep if_then_else_
+  unfolding listedStep isMove if_then_else_ _and_ _or_
   final-J e = rw (is, e)
 
   pub final-K : final ≡ 0x4B → listedStep final arguments count t ≡ erasePart what (rowStart (t .state)) (rowStart (t .state) + t .state .size .columns) t
-  unfolding listedStep if_then_else_
+  unfolding listedStep isMove if_then_else_ _and_ _or_
   final-K e = rw (is, e)
 
   -- No other line is left for a final byte that is none of the listed ones but n.
-  not-move : isMove final ≡ false → (k : ℕ) → isMove k ≡ true → eqb final k ≡ false
-  not-move other k move = either-way (eqb final k) (λ e. absurd (not-both (ap isMove (eqb-true final k e) ∙ move) other)) (λ e. e)
-
   pub final-n : isMove final ≡ false → (final ≡ 0x57 → ⊥) → (final ≡ 0x4A → ⊥) → (final ≡ 0x4B → ⊥) → (final ≡ 0x6D → ⊥) → (final ≡ 0x68 → ⊥) → (final ≡ 0x6C → ⊥) → listedStep final arguments count t ≡ statusReport what t
-  unfolding listedStep isMove _and_ _or_
+  unfolding listedStep
   final-n other w j k m h l =
-      else-case _ _ _ (not-move other 0x41 refl)
-      ∙ else-case _ _ _ (not-move other 0x42 refl)
-      ∙ else-case _ _ _ (not-move other 0x43 refl)
-      ∙ else-case _ _ _ (not-move other 0x44 refl)
-      ∙ else-case _ _ _ (not-move other 0x45 refl)
-      ∙ else-case _ _ _ (not-move other 0x46 refl)
-      ∙ else-case _ _ _ (not-move other 0x47 refl)
-      ∙ else-case _ _ _ (not-move other 0x64 refl)
-      ∙ else-case _ _ _ (not-move other 0x48 refl)
-      ∙ else-case _ _ _ (not-move other 0x66 refl)
-      ∙ else-case _ _ _ (not-move other 0x49 refl)
-      ∙ else-case _ _ _ (not-move other 0x5A refl)
+      else-case _ _ _ other
       ∙ else-case _ _ _ (ne-eqb _ _ w)
       ∙ else-case _ _ _ (ne-eqb _ _ j)
       ∙ else-case _ _ _ (ne-eqb _ _ k)
@@ -65,14 +54,18 @@ module _ (final what : ℕ) (arguments : List ℕ) (count : ℕ) (t : Terminal) 
       ∙ ap (λ (n : ℕ). statusReport n t) (sym is)
 
 module _ (final : ℕ) (arguments : List ℕ) (count : ℕ) (t : Terminal) where
+  pub final-move : isMove final ≡ true → listedStep final arguments count t ≡ moveStep final arguments t
+  unfolding listedStep
+  final-move move = then-case _ _ _ move
+
   pub final-m : final ≡ 0x6D → listedStep final arguments count t ≡ rendition (take count arguments) t
-  unfolding listedStep if_then_else_
+  unfolding listedStep isMove if_then_else_ _and_ _or_
   final-m e = rw e
 
   pub final-h : final ≡ 0x68 → listedStep final arguments count t ≡ setMode true (take count arguments) t
-  unfolding listedStep if_then_else_
+  unfolding listedStep isMove if_then_else_ _and_ _or_
   final-h e = rw e
 
   pub final-l : final ≡ 0x6C → listedStep final arguments count t ≡ setMode false (take count arguments) t
-  unfolding listedStep if_then_else_
+  unfolding listedStep isMove if_then_else_ _and_ _or_
   final-l e = rw e

@@ -1,4 +1,4 @@
--- No message of a host byte exceeds the longest block: 35,185 bytes.
+-- No transmission of a host byte exceeds the longest block: 35,185 bytes.
 use mathlib.Core.Path.{_≡_, sym, ap, _∙_}
 use mathlib.Core.Bool.{Bool, true}
 use mathlib.Core.List.{List, []}
@@ -16,18 +16,19 @@ use Rattle.sequence.specs.Reading.{advanceOf}
 use Rattle.output.proofs.Digits.{three-at-most, place-long}
 use Rattle.blocks.proofs.Theorems.{longest-block}
 use Rattle.state.specs.State.{withHalf}
-use Rattle.state.specs.Validity.{sizeFits}
+use Rattle.state.specs.Tests.{sizeFits}
 use Rattle.state.proofs.Keeping.{size-bounds}
-use Rattle.steps.specs.Steps.{Terminal, Stepped, bytesOf, blockMessage, withState}
+use Rattle.steps.specs.Steps.{Terminal, Stepped, bytesOf, blockTransmission, withState}
 use Rattle.steps.specs.Seen.{blockHere}
-use Rattle.steps.specs.Commands.{escStep, sendBlock, toColumn, toRow, toPlace, readyReport, cursorReport, statusReport, listedStep, bracketStep}
-use Rattle.steps.specs.Host.{eventStep, hostStep}
+use Rattle.commands.specs.Commands.{escStep, listedStep, bracketStep}
+use Rattle.sending.specs.Sending.{sendBlock, readyReport, cursorReport, statusReport}
+use Rattle.commands.specs.Host.{eventStep, hostStep}
 use Rattle.steps.proofs.Soundness.{sized}
-use Rattle.commands.proofs.Silent.{text-silent, control-silent, esc-silent, tab-silent, erase-silent, rendition-silent, mode-silent}
+use Rattle.commands.proofs.Silent.{text-silent, control-silent, esc-silent, move-silent, tab-silent, erase-silent, rendition-silent, mode-silent}
 
--- A message of no more bytes than the longest block has.
+-- A transmission of no more bytes than the longest block has.
 abbrev Short : Stepped → Type 0
-Short step = length (bytesOf (step .message)) ≤ 35185
+Short step = length (bytesOf (step .transmission)) ≤ 35185
 
 quiet : {bytes : List ℕ} → bytes ≡ [] → length bytes ≤ 35185
 quiet none = omega (arith, ap (length {A = ℕ}) none)
@@ -39,7 +40,7 @@ block-short t fits full =
     longest-block full (t .state .size .rows) (t .state .size .columns) (t .page) (bounds .rows-most) (bounds .columns-most) (size .marks) (size .characters ∙ sym (size .marks))
 
 full-short : (t : Terminal) → sizeFits (t .state .size) (t .page) ≡ true → Short (sendBlock true t)
-unfolding sendBlock blockMessage bytesOf
+unfolding sendBlock blockTransmission bytesOf
 full-short t fits = block-short t fits true
 
 esc-short : (byte : ℕ) (t : Terminal) → sizeFits (t .state .size) (t .page) ≡ true → Short (escStep byte t)
@@ -58,27 +59,16 @@ status-short what t =
     (λ _. omega arith))
 
 listed-short : (final : ℕ) (arguments : List ℕ) (count : ℕ) (t : Terminal) → Short (listedStep final arguments count t)
-unfolding listedStep toColumn toRow toPlace bytesOf
+unfolding listedStep
 listed-short final arguments count t =
-    either-line Short _ _ _ (λ _. omega arith)
-    (λ _. either-line Short _ _ _ (λ _. omega arith)
-    (λ _. either-line Short _ _ _ (λ _. omega arith)
-    (λ _. either-line Short _ _ _ (λ _. omega arith)
-    (λ _. either-line Short _ _ _ (λ _. omega arith)
-    (λ _. either-line Short _ _ _ (λ _. omega arith)
-    (λ _. either-line Short _ _ _ (λ _. either-line Short _ _ _ (λ _. omega arith) (λ _. omega arith))
-    (λ _. either-line Short _ _ _ (λ _. either-line Short _ _ _ (λ _. omega arith) (λ _. omega arith))
-    (λ _. either-line Short _ _ _ (λ _. either-line Short _ _ _ (λ _. omega arith) (λ _. omega arith))
-    (λ _. either-line Short _ _ _ (λ _. either-line Short _ _ _ (λ _. omega arith) (λ _. omega arith))
-    (λ _. either-line Short _ _ _ (λ _. omega arith)
-    (λ _. either-line Short _ _ _ (λ _. omega arith)
+    either-line Short _ _ _ (λ _. quiet (move-silent final arguments t))
     (λ _. either-line Short _ _ _ (λ _. quiet (tab-silent _ t))
     (λ _. either-line Short _ _ _ (λ _. quiet (erase-silent _ _ _ t))
     (λ _. either-line Short _ _ _ (λ _. quiet (erase-silent _ _ _ t))
     (λ _. either-line Short _ _ _ (λ _. quiet (rendition-silent _ t))
     (λ _. either-line Short _ _ _ (λ _. quiet (mode-silent _ _ t))
     (λ _. either-line Short _ _ _ (λ _. quiet (mode-silent _ _ t))
-    (λ _. status-short _ t))))))))))))))))))
+    (λ _. status-short _ t)))))))
 
 event-short : (half : HalfRead) (event : Event) (t : Terminal) → sizeFits (t .state .size) (t .page) ≡ true → Short (eventStep half event t)
 unfolding eventStep bracketStep bytesOf

@@ -1,15 +1,16 @@
 -- Which steps send nothing: all but ESC S and DSR.
 use mathlib.Core.Path.{_≡_, refl}
-use mathlib.Core.Bool.{Bool, true, false}
+use mathlib.Core.Bool.{Bool, false}
 use mathlib.Core.List.{List}
 use Prim.Native.Nat.{ℕ}
-use borrow.Author.Tests.{eqb-false}
 use lib.Dec.{eqb}
 use Rattle.words.proofs.Choosing.{not-both, either-line}
-use Rattle.moves.proofs.Letters.{only-z}
 use Rattle.steps.proofs.Writing.{Silent}
 use Rattle.steps.specs.Steps.{Terminal, bytesOf}
-use Rattle.steps.specs.Commands.{textStep, lineDown, lineUp, nextLine, controlStep, freshStep, escStep, isMove, toColumn, toRow, toPlace, tabControl, erasing, erasePart, rendition, setMode, listedStep}
+use Rattle.commands.specs.Text.{textStep, lineDown, lineUp, nextLine, controlStep}
+use Rattle.commands.specs.Commands.{freshStep, escStep, erasing, erasePart}
+use Rattle.table.specs.Moves.{toColumn, toRow, toPlace, moveStep}
+use Rattle.table.specs.Settings.{tabControl, rendition, setMode}
 
 pub text-silent : (character : ℕ) (t : Terminal) → Silent (textStep character t)
 unfolding textStep bytesOf
@@ -70,25 +71,17 @@ pub mode-silent : (on : Bool) (values : List ℕ) (t : Terminal) → Silent (set
 unfolding setMode bytesOf
 mode-silent on values t = either-line Silent _ _ _ (λ _. refl) (λ _. refl)
 
-pub move-silent : (final : ℕ) (arguments : List ℕ) (count : ℕ) (t : Terminal) → isMove final ≡ true → Silent (listedStep final arguments count t)
-unfolding listedStep toColumn toRow toPlace bytesOf
-move-silent final arguments count t move =
+pub move-silent : (final : ℕ) (arguments : List ℕ) (t : Terminal) → Silent (moveStep final arguments t)
+unfolding moveStep toColumn toRow toPlace bytesOf
+move-silent final arguments t =
     either-line Silent _ _ _ (λ _. refl)
-    (λ a. either-line Silent _ _ _ (λ _. refl)
-    (λ b. either-line Silent _ _ _ (λ _. refl)
-    (λ c. either-line Silent _ _ _ (λ _. refl)
-    (λ d. either-line Silent _ _ _ (λ _. refl)
-    (λ e. either-line Silent _ _ _ (λ _. refl)
-    (λ f. either-line Silent _ _ _ (λ _. either-line Silent _ _ _ (λ _. refl) (λ _. refl))
-    (λ g. either-line Silent _ _ _ (λ _. either-line Silent _ _ _ (λ _. refl) (λ _. refl))
-    (λ vpa. either-line Silent _ _ _ (λ _. either-line Silent _ _ _ (λ _. refl) (λ _. refl))
-    (λ h. either-line Silent _ _ _ (λ _. either-line Silent _ _ _ (λ _. refl) (λ _. refl))
-    (λ hvp. either-line Silent _ _ _ (λ _. refl)
-    (λ i. either-line Silent _ _ _ (λ _. refl)
-    (λ z. either-line Silent _ _ _ (λ _. tab-silent _ t)
-    (λ w. either-line Silent _ _ _ (λ _. erase-silent _ _ _ t)
-    (λ j. either-line Silent _ _ _ (λ _. erase-silent _ _ _ t)
-    (λ k. either-line Silent _ _ _ (λ _. rendition-silent _ t)
-    (λ m. either-line Silent _ _ _ (λ _. mode-silent _ _ t)
-    (λ set. either-line Silent _ _ _ (λ _. mode-silent _ _ t)
-    (λ reset. absurd (eqb-false final 0x5A z (only-z final move (((((((((tt, eqb-false _ _ a), eqb-false _ _ b), eqb-false _ _ c), eqb-false _ _ d), eqb-false _ _ e), eqb-false _ _ f), eqb-false _ _ g), eqb-false _ _ h), eqb-false _ _ i) (eqb-false _ _ vpa) (eqb-false _ _ hvp)))))))))))))))))))))
+    (λ _. either-line Silent _ _ _ (λ _. refl)
+    (λ _. either-line Silent _ _ _ (λ _. refl)
+    (λ _. either-line Silent _ _ _ (λ _. refl)
+    (λ _. either-line Silent _ _ _ (λ _. refl)
+    (λ _. either-line Silent _ _ _ (λ _. refl)
+    (λ _. either-line Silent _ _ _ (λ _. either-line Silent _ _ _ (λ _. refl) (λ _. refl))
+    (λ _. either-line Silent _ _ _ (λ _. either-line Silent _ _ _ (λ _. refl) (λ _. refl))
+    (λ _. either-line Silent _ _ _ (λ _. either-line Silent _ _ _ (λ _. refl) (λ _. refl))
+    (λ _. either-line Silent _ _ _ (λ _. either-line Silent _ _ _ (λ _. refl) (λ _. refl))
+    (λ _. either-line Silent _ _ _ (λ _. refl) (λ _. refl)))))))))))

@@ -12,7 +12,7 @@ use Rattle.state.specs.declared.State.{State}
 use Rattle.state.specs.State.{withHalf}
 use Rattle.state.proofs.Keeping.{parts, half-keeps-valid}
 use Rattle.steps.specs.Steps.{Terminal, Valid, withState}
-use Rattle.steps.specs.Host.{eventStep, hostStep}
+use Rattle.commands.specs.Host.{eventStep, hostStep}
 
 module _ (t : Terminal) (byte : ℕ) (advanced : Advanced) (next : State) (is : advanced ≡ advanceOf (t .state .half) byte) (goes : next ≡ withHalf (t .state) (advanced .half)) where
   pub next-valid : Valid t → Valid (withState t next)

@@ -6,7 +6,7 @@ use Rattle.page.specs.Page.{Page, pageOf}
 use Rattle.output.specs.Decimal.{decimal}
 use Rattle.state.specs.State.{freshState}
 use Rattle.steps.specs.Steps.{Terminal, bytesOf}
-use Rattle.steps.specs.Host.{hostStep}
+use Rattle.commands.specs.Host.{hostStep}
 
 -- ESC and a byte; ESC [, numbers below 1,000 with ; between them, and a final byte. No number: the argument is omitted.
 unfoldable pub esc : ℕ → List ℕ
@@ -30,7 +30,7 @@ unfoldable pub runFrom : Terminal → ℕ → List ℕ → List ℕ → Ran
 runFrom t count sent [] = record { terminal = t; count = count; sent = sent }
 runFrom t count sent (byte ∷ bytes) =
     let step = hostStep byte t in
-    runFrom (step .terminal) (count + length (step .cells)) (sent ++ bytesOf (step .message)) bytes
+    runFrom (step .terminal) (count + length (step .cells)) (sent ++ bytesOf (step .transmission)) bytes
 
 unfoldable pub run : Terminal → List ℕ → Ran
 run t bytes = runFrom t 0 [] bytes

@@ -25,14 +25,18 @@ use Rattle.state.specs.State.{OnPage, withHalf}
 use Rattle.state.specs.Moves.{downBy, toMargin}
 use Rattle.state.specs.Pen.{validPen}
 use Rattle.state.proofs.Keeping.{KeepsValid, size-bounds, on-page, parts, up-keeps-valid, down-keeps-valid, right-keeps-valid, left-keeps-valid, margin-keeps-valid, cursor-keeps-valid, tab-on-keeps-valid, tab-back-keeps-valid, stop-set-keeps-valid, stop-cleared-keeps-valid, stops-cleared-keeps-valid, pen-keeps-valid, protected-keeps-pen, unprotected-keeps-pen, erasure-keeps-valid, disabled-keeps-valid, enabled-keeps-valid, half-keeps-valid, fresh-valid}
-use Rattle.steps.specs.Steps.{Terminal, silent, report, fullBlock, blockMessage, Stepped, withState, goesTo, stores, sends, refusing, cursorCell, Valid, rowStart}
+use Rattle.steps.specs.Steps.{Terminal, silent, report, fullBlock, blockTransmission, Stepped, withState, goesTo, stores, sends, refusing, cursorCell, Valid, rowStart}
 use Rattle.steps.specs.Claims.{markLeft, Sound}
 use Rattle.steps.proofs.Storing.{Stored, text-stored, blank-stored, up-stored, down-stored, erasing-stored}
-use Rattle.steps.proofs.Messages.{silent-is-no-full, silent-is-no-changed, silent-is-no-report, report-is-no-full, report-is-no-changed, full-is-no-changed, same-report, same-full, block-is-no-report}
+use Rattle.steps.proofs.Transmissions.{silent-is-no-full, silent-is-no-changed, silent-is-no-report, report-is-no-full, report-is-no-changed, full-is-no-changed, same-report, same-full, block-is-no-report}
 use Rattle.steps.proofs.Soundness.{Sized, sized, row-on-page, cursor-on-page, goes-soundly, refuses-soundly, stores-soundly, reports-soundly, clears-soundly}
-use Rattle.steps.specs.Table.{allowed, valueOf}
-use Rattle.steps.specs.Commands.{textStep, lineDown, lineUp, nextLine, controlStep, freshStep, sendBlock, escStep, toColumn, toRow, toPlace, tabControl, erasing, erasePart, rendition, setMode, readyReport, cursorReport, statusReport, listedStep, bracketStep}
-use Rattle.steps.specs.Host.{eventStep, hostStep}
+use Rattle.table.specs.Table.{allowed, valueOf}
+use Rattle.commands.specs.Text.{textStep, lineDown, lineUp, nextLine, controlStep}
+use Rattle.commands.specs.Commands.{freshStep, escStep, erasing, erasePart, listedStep, bracketStep}
+use Rattle.sending.specs.Sending.{sendBlock, readyReport, cursorReport, statusReport}
+use Rattle.table.specs.Moves.{toColumn, toRow, toPlace, moveStep}
+use Rattle.table.specs.Settings.{tabControl, rendition, setMode}
+use Rattle.commands.specs.Host.{eventStep, hostStep}
 use Rattle.commands.proofs.Claims.{EndsEscS, Stores, no-cell, text-cell, erased-cells, all-cells, HostSound}
 use Rattle.commands.proofs.Values.{some-value, zero-is-one, some-column, pen-after-all-keeps-pen, next-cell-keeps-valid}
 use Rattle.sequence.proofs.Events.{Tells, event-tells}
@@ -48,7 +52,7 @@ module _ (Asked : Type 0) (t : Terminal) (valid : Valid t) where
   line {test} {a} {b} first rest = either-line Holds test a b first (λ _. rest)
 
   -- The kinds of steps.
-  silently : {step : Stepped} → step .message ≡ silent → Stores t (step .cells) → Sound t step → Holds step
+  silently : {step : Stepped} → step .transmission ≡ silent → Stores t (step .cells) → Sound t step → Holds step
   silently {step} e stored sound = record {
     sound = sound;
     stored = stored;
@@ -76,7 +80,7 @@ module _ (Asked : Type 0) (t : Terminal) (valid : Valid t) where
   }
 
   full-block-holds : Asked → Holds (sendBlock true t)
-  unfolding sendBlock blockMessage markLeft
+  unfolding sendBlock blockTransmission markLeft
   full-block-holds asked = let said = block true (t .state .size .columns) (t .page) in record {
     sound = clears-soundly t valid (fullBlock said) (λ mark. refl);
     stored = no-cell;
@@ -219,9 +223,9 @@ module _ (Asked : Type 0) (t : Terminal) (valid : Valid t) where
       line (λ _. reports _ ready-is-report)
       (line (λ _. reports _ (cursor-is-report (t .state .cursor .row) (t .state .cursor .column) (omega arith) (omega arith))) refuses)
 
-  listed-holds : (final : ℕ) (arguments : List ℕ) (count : ℕ) → Holds (listedStep final arguments count t)
-  unfolding listedStep
-  listed-holds final arguments count =
+  move-holds : (final : ℕ) (arguments : List ℕ) → Holds (moveStep final arguments t)
+  unfolding moveStep
+  move-holds final arguments =
       let s = t .state in
       let ok = valid .state in
       let here = cursor in
@@ -237,14 +241,19 @@ module _ (Asked : Type 0) (t : Terminal) (valid : Valid t) where
       (line (λ e. row-holds _ (some 0x64 0 e (zero-is-one .1)))
       (line (λ e. place-holds _ _ (some 0x48 0 e (zero-is-one .2)) (some 0x48 1 e (zero-is-one .2)))
       (line (λ e. place-holds _ _ (some 0x66 0 e (zero-is-one .3)) (some-column _ _ _ _ (some 0x66 1 e (zero-is-one .3)) (here .column-least)))
-      (line (λ _. goes _ (tab-on-keeps-valid s ok n))
-      (line (λ _. goes _ (tab-back-keeps-valid s ok n))
+      (line (λ _. goes _ (tab-on-keeps-valid s ok n)) (goes _ (tab-back-keeps-valid s ok n))))))))))))
+
+  listed-holds : (final : ℕ) (arguments : List ℕ) (count : ℕ) → Holds (listedStep final arguments count t)
+  unfolding listedStep
+  listed-holds final arguments count =
+      let n = valueOf final arguments 0 in
+      line (λ _. move-holds final arguments)
       (line (λ _. tab-control-holds n)
       (line (λ _. erase-part-holds n 0 (length (t .page .marks)) (omega arith) (cursor-on-page t valid) (omega arith))
       (line (λ _. row-erased-holds n)
       (line (λ _. rendition-holds (take count arguments))
       (line (λ _. mode-holds true (take count arguments))
-      (line (λ _. mode-holds false (take count arguments)) (status-holds n))))))))))))))))))
+      (line (λ _. mode-holds false (take count arguments)) (status-holds n)))))))
 
   bracket-holds : (final : ℕ) (half : HalfRead) → Holds (bracketStep final half t)
   unfolding bracketStep

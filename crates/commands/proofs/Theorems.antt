@@ -13,12 +13,13 @@ use Rattle.page.specs.Page.{Page, erasable, cellsErased}
 use Rattle.blocks.proofs.Claims.{IsReport}
 use Rattle.state.specs.declared.State.{State}
 use Rattle.state.specs.Moves.{toMargin}
-use Rattle.steps.specs.Steps.{Terminal, Message, report, fullBlock, changedBlock, Stepped, goesTo, sends, refusing, allCells, Valid}
+use Rattle.steps.specs.Steps.{Terminal, Transmission, report, fullBlock, changedBlock, Stepped, goesTo, sends, refusing, allCells, Valid}
 use Rattle.steps.specs.Claims.{Rising, TouchesOnly, KeepsProtection, KeepsText, Refusal, SendsBlock, counted}
 use Rattle.steps.proofs.Naming.{named-between, places-rise}
 use Rattle.steps.proofs.Soundness.{sized, names-none}
-use Rattle.steps.specs.Commands.{textStep, lineDown, lineUp, nextLine, freshStep, erasing}
-use Rattle.steps.specs.Host.{hostStep}
+use Rattle.commands.specs.Text.{textStep, lineDown, lineUp, nextLine}
+use Rattle.commands.specs.Commands.{freshStep, erasing}
+use Rattle.commands.specs.Host.{hostStep}
 use Rattle.commands.proofs.Claims.{EndsEscS, Stores}
 use Rattle.commands.proofs.Tables.{host-holds}
 
@@ -31,7 +32,7 @@ module _ (byte : ℕ) (t : Terminal) (valid : Valid t) where
   step-keeps-size = host-holds byte t valid .sound .size
 
   -- No character and no mark changes outside the cells named, but for modified where a block is sent.
-  pub step-touches-only : TouchesOnly (hostStep byte t .cells) (hostStep byte t .message) (t .page) (hostStep byte t .terminal .page)
+  pub step-touches-only : TouchesOnly (hostStep byte t .cells) (hostStep byte t .transmission) (t .page) (hostStep byte t .terminal .page)
   step-touches-only = host-holds byte t valid .sound .touches
 
   -- Each cell is named once, and is on the page.
@@ -54,14 +55,14 @@ module _ (byte : ℕ) (t : Terminal) (valid : Valid t) where
   step-refused refused = host-holds byte t valid .sound .refusal refused
 
   -- Only ESC S sends a full block, and it has all fields of the page; no byte sends a changed block.
-  pub step-sends-full : (bytes : List ℕ) → hostStep byte t .message ≡ fullBlock bytes → SendsBlock true (EndsEscS (t .state .half) byte) t (hostStep byte t) bytes
+  pub step-sends-full : (bytes : List ℕ) → hostStep byte t .transmission ≡ fullBlock bytes → SendsBlock true (EndsEscS (t .state .half) byte) t (hostStep byte t) bytes
   step-sends-full bytes sent = host-holds byte t valid .full-block bytes sent
 
-  pub step-sends-no-changed : (bytes : List ℕ) → hostStep byte t .message ≡ changedBlock bytes → ⊥
+  pub step-sends-no-changed : (bytes : List ℕ) → hostStep byte t .transmission ≡ changedBlock bytes → ⊥
   step-sends-no-changed bytes sent = host-holds byte t valid .no-changed-block bytes sent
 
   -- A report is ESC, bytes that end no sequence, then n or R, so that a host can tell it from a block.
-  pub step-reports : (bytes : List ℕ) → hostStep byte t .message ≡ report bytes → IsReport bytes
+  pub step-reports : (bytes : List ℕ) → hostStep byte t .transmission ≡ report bytes → IsReport bytes
   step-reports bytes sent = host-holds byte t valid .is-report bytes sent
 
   -- Protection changes only where the step says so.
@@ -112,12 +113,12 @@ module _ (t : Terminal) where
     unfolding freshStep
     fresh-count = page-count
 
-  -- 0 where the state alone changes, a command is refused or a message is sent.
+  -- 0 where the state alone changes, a command is refused or a transmission is sent.
   pub state-count : (s : State) → counted (goesTo s t) ≡ 0
   state-count s = refl
 
   pub refusal-count : counted (refusing t) ≡ 0
   refusal-count = refl
 
-  pub message-count : (message : Message) (s : State) (page : Page) → counted (sends message s page) ≡ 0
-  message-count message s page = refl
+  pub message-count : (transmission : Transmission) (s : State) (page : Page) → counted (sends transmission s page) ≡ 0
+  message-count transmission s page = refl

@@ -11,10 +11,12 @@ use Rattle.words.specs.Choice.{if_then_else_, _and_, _or_, _is_to_}
 use Rattle.words.proofs.Choosing.{either-line}
 use Rattle.state.specs.declared.State.{State}
 use Rattle.state.specs.Pen.{validPen}
-use Rattle.state.specs.Validity.{validState}
+use Rattle.state.specs.Tests.{validState}
 use Rattle.state.proofs.Keeping.{KeepsValid, parts, row-range, column-range, cursor-keeps-valid, plain-keeps-pen, bold-keeps-pen, underlined-keeps-pen, blinking-keeps-pen, reversed-keeps-pen, concealed-keeps-pen}
-use Rattle.steps.specs.Table.{allowed, valueOf}
-use Rattle.steps.specs.Commands.{toNextCell, keptColumn, penAfter, penAfterAll}
+use Rattle.table.specs.Table.{allowed, valueOf}
+use Rattle.state.specs.Moves.{toNextCell}
+use Rattle.table.specs.Moves.{keptColumn}
+use Rattle.table.specs.Settings.{penAfter, penAfterAll}
 
 -- Where 0 stands for 1, a value is 1 at least: so for G, d, H and f.
 pub some-value : (final command : ℕ) (arguments : List ℕ) (i : ℕ) → eqb final command ≡ true → allowed command .zeroIs ≡ 1 → 1 ≤ valueOf final arguments i

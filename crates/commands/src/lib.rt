@@ -1,5 +1,6 @@
 // Document 01, "Reading host bytes" and "Commands": what text, control bytes and commands do to the page.
 // What each function leaves is defined in specs/Commands.antt and specs/Host.antt of `steps`.
+use page::Mark;
 use sequence::Event;
 use state::State;
 use steps::Step;
@@ -7,37 +8,23 @@ ghost use mathlib.Core.Path.{_≡_};
 ghost use Prim.Native.Nat.{_≤_, _+_};
 ghost use lib.ListN.{length};
 ghost use Rattle.page.specs.Page.{pageOf};
-ghost use Rattle.state.specs.State.{OnPage};
 ghost use Rattle.steps.specs.Steps.{Valid, cursorCell, rowStart, terminalOf};
 ghost use Rattle.steps.specs.Told.{told, tells, written};
-ghost use Rattle.steps.specs.Commands.{toNextCell, textStep, lineDown, lineUp, controlStep, freshStep, escStep, erasing, erasePart, bracketStep};
-ghost use Rattle.steps.specs.Host.{hostStep};
+ghost use Rattle.commands.specs.Text.{textStep, lineDown, lineUp, controlStep};
+ghost use Rattle.commands.specs.Commands.{freshStep, escStep, erasing, erasePart, bracketStep};
+ghost use Rattle.commands.specs.Host.{hostStep};
 
-// Text: the next cell in page order, and from the last cell 1;1.
-fn to_next_cell(state: State) -> State
-    requires { ⌜ OnPage state ⌝ }
-    ensures { λ r. ⌜ r ≡ toNextCell state ⌝ }
-{
-    if state.cursor.column < state.size.columns {
-        return state.moved_to(state.cursor.row, state.cursor.column + 1);
-    }
-    if state.cursor.row < state.size.rows {
-        return state.moved_to(state.cursor.row + 1, 1);
-    }
-    state.moved_to(1, 1)
-}
-
-fn text(state: State, characters: &mut [u8], marks: &mut [u8], character: u8) -> Step
+fn text(state: State, characters: &mut [u8], marks: &mut [Mark], character: u8) -> Step
     requires { ⌜ Valid (terminalOf state (now characters) (now marks)) ⌝ }
     ensures { λ r. ⌜ told r (pageOf (now (characters .exit)) (now (marks .exit))) ≡ tells (textStep character (terminalOf state (now (characters .entry)) (now (marks .entry)))) ⌝ }
 {
     let place = state.place();
     page::store_text(characters, marks, place.cell, character, state.modes.pen);
-    steps::stored(to_next_cell(state), 1, true)
+    steps::stored(state.to_next_cell(), 1, true)
 }
 
 // IND and LF.
-fn line_down(state: State, characters: &mut [u8], marks: &mut [u8]) -> Step
+fn line_down(state: State, characters: &mut [u8], marks: &mut [Mark]) -> Step
     requires { ⌜ Valid (terminalOf state (now characters) (now marks)) ⌝ }
     ensures { λ r. ⌜ told r (pageOf (now (characters .exit)) (now (marks .exit))) ≡ tells (lineDown (terminalOf state (now (characters .entry)) (now (marks .entry)))) ⌝ }
 {
@@ -50,7 +37,7 @@ fn line_down(state: State, characters: &mut [u8], marks: &mut [u8]) -> Step
 }
 
 // RI.
-fn line_up(state: State, characters: &mut [u8], marks: &mut [u8]) -> Step
+fn line_up(state: State, characters: &mut [u8], marks: &mut [Mark]) -> Step
     requires { ⌜ Valid (terminalOf state (now characters) (now marks)) ⌝ }
     ensures { λ r. ⌜ told r (pageOf (now (characters .exit)) (now (marks .exit))) ≡ tells (lineUp (terminalOf state (now (characters .entry)) (now (marks .entry)))) ⌝ }
 {
@@ -63,7 +50,7 @@ fn line_up(state: State, characters: &mut [u8], marks: &mut [u8]) -> Step
 }
 
 // RIS: a fresh page is one erased with erasure mode set.
-fn fresh(state: State, characters: &mut [u8], marks: &mut [u8]) -> Step
+fn fresh(state: State, characters: &mut [u8], marks: &mut [Mark]) -> Step
     requires { ⌜ Valid (terminalOf state (now characters) (now marks)) ⌝ }
     ensures { λ r. ⌜ told r (pageOf (now (characters .exit)) (now (marks .exit))) ≡ tells (freshStep (terminalOf state (now (characters .entry)) (now (marks .entry)))) ⌝ }
 {
@@ -73,7 +60,7 @@ fn fresh(state: State, characters: &mut [u8], marks: &mut [u8]) -> Step
 }
 
 // BS, HT, LF, CR.
-fn control(state: State, characters: &mut [u8], marks: &mut [u8], byte: u8) -> Step
+fn control(state: State, characters: &mut [u8], marks: &mut [Mark], byte: u8) -> Step
     requires { ⌜ Valid (terminalOf state (now characters) (now marks)) ⌝ }
     ensures { λ r. ⌜ told r (pageOf (now (characters .exit)) (now (marks .exit))) ≡ tells (controlStep byte (terminalOf state (now (characters .entry)) (now (marks .entry)))) ⌝ }
 {
@@ -86,7 +73,7 @@ fn control(state: State, characters: &mut [u8], marks: &mut [u8], byte: u8) -> S
 }
 
 // After ESC, all but S, which sends.
-fn silent_esc_step(state: State, characters: &mut [u8], marks: &mut [u8], byte: u8) -> Step
+fn silent_esc_step(state: State, characters: &mut [u8], marks: &mut [Mark], byte: u8) -> Step
     requires { ⌜ Valid (terminalOf state (now characters) (now marks)) ⌝ }
     requires { ⌜ (byte ≡ 0x53 → ⊥) ⌝ }
     ensures { λ r. ⌜ told r (pageOf (now (characters .exit)) (now (marks .exit))) ≡ tells (escStep byte (terminalOf state (now (characters .entry)) (now (marks .entry)))) ⌝ }
@@ -108,7 +95,7 @@ fn silent_esc_step(state: State, characters: &mut [u8], marks: &mut [u8], byte: 
 fn erase_cells(
     state: State,
     characters: &mut [u8],
-    marks: &mut [u8],
+    marks: &mut [Mark],
     from: usize,
     to: usize,
 ) -> Step
@@ -123,7 +110,7 @@ fn erase_cells(
 fn erase_part(
     state: State,
     characters: &mut [u8],
-    marks: &mut [u8],
+    marks: &mut [Mark],
     what: usize,
     first: usize,
     end: usize,
@@ -143,7 +130,7 @@ fn erase_part(
 }
 
 // EL.
-fn erase_row(state: State, characters: &mut [u8], marks: &mut [u8], what: usize) -> Step
+fn erase_row(state: State, characters: &mut [u8], marks: &mut [Mark], what: usize) -> Step
     requires { ⌜ Valid (terminalOf state (now characters) (now marks)) ⌝ }
     ensures { λ r. ⌜ told r (pageOf (now (characters .exit)) (now (marks .exit))) ≡ tells (erasePart what (rowStart state) (rowStart state + state .size .columns) (terminalOf state (now (characters .entry)) (now (marks .entry)))) ⌝ }
 {
@@ -159,12 +146,12 @@ fn erase_row(state: State, characters: &mut [u8], marks: &mut [u8], what: usize)
     )
 }
 
-// After ESC: S sends, and its message may not fit.
+// After ESC: S sends, and its transmission may not fit.
 fn esc_step(
     state: State,
     before: State,
     characters: &mut [u8],
-    marks: &mut [u8],
+    marks: &mut [Mark],
     out: &mut [u8],
     at: usize,
     byte: u8,
@@ -184,7 +171,7 @@ fn bracket_step(
     state: State,
     before: State,
     characters: &mut [u8],
-    marks: &mut [u8],
+    marks: &mut [Mark],
     out: &mut [u8],
     at: usize,
     letter: u8,
@@ -196,30 +183,30 @@ fn bracket_step(
     let half = before.half;
     let arguments = half.arguments;
     let count = half.count;
-    if moves::most_arguments(letter) < count {
+    if table::most_arguments(letter) < count {
         return steps::refuse(state);
     }
-    if moves::is_move(letter) {
-        return moves::move_command(state, letter, arguments);
+    if table::is_move(letter) {
+        return table::move_command(state, letter, arguments);
     }
-    let what = moves::value(letter, arguments, 0);
+    let what = table::value(letter, arguments, 0);
     let cells = marks.len();
     match letter {
-        0x57 => moves::tab_control(state, what), // W
+        0x57 => table::tab_control(state, what), // W
         0x4A => erase_part(state, characters, marks, what, 0, cells), // J
         0x4B => erase_row(state, characters, marks, what), // K
-        0x6D => moves::rendition(state, arguments, count as usize), // m
-        0x68 => moves::set_mode(state, true, arguments, count as usize), // h
-        0x6C => moves::set_mode(state, false, arguments, count as usize), // l
+        0x6D => table::rendition(state, arguments, count as usize), // m
+        0x68 => table::set_mode(state, true, arguments, count as usize), // h
+        0x6C => table::set_mode(state, false, arguments, count as usize), // l
         _ => sending::status_report(state, before, out, at, what), // n
     }
 }
 
-// The step of a host byte. Its message is written into the output from `at` on; where it does not fit nothing happens.
+// The step of a host byte. Its transmission is written into the output from `at` on; where it does not fit nothing happens.
 pub fn step(
     state: State,
     characters: &mut [u8],
-    marks: &mut [u8],
+    marks: &mut [Mark],
     out: &mut [u8],
     at: usize,
     byte: u8,

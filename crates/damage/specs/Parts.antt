@@ -10,8 +10,8 @@ use Rattle.words.specs.Choice.{if_then_else_, _is_to_}
 use Rattle.state.specs.declared.State.{State}
 
 -- A flag is 0 or 1; it is set by 0, off, or by any other value, on.
-unfoldable pub flagOf : Bool → ℕ
-flagOf flag =
+unfoldable pub flagNumber : Bool → ℕ
+flagNumber flag =
     if flag then 1
     else 0
 
@@ -26,12 +26,12 @@ figuresOf s =
     ∷ s .cursor .row
     ∷ s .cursor .column
     ∷ s .modes .pen
-    ∷ flagOf (s .modes .erasure)
-    ∷ flagOf (s .locks .manual)
-    ∷ flagOf (s .locks .soft)
+    ∷ flagNumber (s .modes .erasure)
+    ∷ flagNumber (s .locks .manual)
+    ∷ flagNumber (s .locks .soft)
     ∷ s .locks .message
     ∷ s .half .kind
-    ∷ flagOf (s .half .spoilt)
+    ∷ flagNumber (s .half .spoilt)
     ∷ s .half .count
     ∷ []
 
@@ -40,7 +40,7 @@ unfoldable pub partOf : State → ℕ → ℕ
 partOf s part =
     if ltb part 12 then getD (figuresOf s) part 0
     else if ltb part 20 then getD (s .half .arguments) (part - 12) 0
-    else if ltb part 180 then flagOf (getD (s .stops) (part - 20) false)
+    else if ltb part 180 then flagNumber (getD (s .stops) (part - 20) false)
     else 0
 
 -- What a part of this number becomes where a part is set: only that one changes. A byte takes the value's low byte.

@@ -7,13 +7,13 @@ use state::Size;
 use state::State;
 ghost use mathlib.Core.Path.{_≡_};
 ghost use Prim.Native.Nat.{_%_};
-ghost use Rattle.damage.specs.Parts.{flagOf, isOn, figuresOf, partOf, chosen, argumentsWith, stopsWith, withPart};
+ghost use Rattle.damage.specs.Parts.{flagNumber, isOn, figuresOf, partOf, chosen, argumentsWith, stopsWith, withPart};
 
 // As many parts as a state has.
 pub const PARTS: usize = 180;
 
-fn flag_of(flag: bool) -> usize
-    ensures { λ r. ⌜ r ≡ flagOf flag ⌝ }
+fn flag_number(flag: bool) -> usize
+    ensures { λ r. ⌜ r ≡ flagNumber flag ⌝ }
 {
     if flag {
         return 1;
@@ -31,12 +31,12 @@ fn figures_of(state: State) -> [usize; 12]
         state.cursor.row,
         state.cursor.column,
         state.modes.pen as usize,
-        flag_of(state.modes.erasure),
-        flag_of(state.locks.manual),
-        flag_of(state.locks.soft),
+        flag_number(state.modes.erasure),
+        flag_number(state.locks.manual),
+        flag_number(state.locks.soft),
         state.locks.message as usize,
         state.half.kind as usize,
-        flag_of(state.half.spoilt),
+        flag_number(state.half.spoilt),
         state.half.count as usize,
     ]
 }
@@ -54,7 +54,7 @@ pub fn part_of(state: State, part: usize) -> usize
     }
     if part < 180 {
         let stops = state.stops;
-        return flag_of(stops[part - 20]);
+        return flag_number(stops[part - 20]);
     }
     0
 }

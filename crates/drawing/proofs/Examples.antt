@@ -5,8 +5,8 @@ use mathlib.Core.List.{[], _∷_, _++_, flatMap}
 use lib.ListN.{replicate}
 use Rattle.words.specs.Choice.{if_then_else_}
 use Rattle.state.specs.declared.State.{State}
-use Rattle.figures.specs.Hexadecimal.{digitOf}
-use Rattle.figures.specs.Figures.{bytes}
+use Rattle.numerals.specs.Hexadecimal.{digitOf}
+use Rattle.numerals.specs.Figures.{bytes}
 use Rattle.drawing.specs.Drawing.{exactly, penLine, locksLine, stopsLine, halfLine, stateLines, rowsOf, rowLine, drawn}
 
 -- two rows of three columns, a tab stop in column 2, and ESC [ 1 ; 65535 read so far

@@ -11,10 +11,10 @@ use Rattle.sequence.specs.declared.HalfRead.{HalfRead}
 use Rattle.state.specs.declared.Modes.{Modes}
 use Rattle.state.specs.declared.Locks.{Locks}
 use Rattle.state.specs.declared.State.{State}
-use Rattle.figures.specs.Hexadecimal.{hexOf}
-use Rattle.figures.specs.Figures.{bytes}
-use Rattle.figures.proofs.Walks.{flat-length}
-use Rattle.figures.proofs.Digits.{hex-length}
+use Rattle.numerals.specs.Hexadecimal.{hexOf}
+use Rattle.numerals.specs.Figures.{bytes}
+use Rattle.numerals.proofs.Walks.{flat-length}
+use Rattle.numerals.proofs.Digits.{hex-length}
 use Rattle.drawing.specs.Drawing.{lineEnd, stopOf, spaced, penLine, locksLine, exactly, allStops, stopsLine, allArguments, halfLine, stateLines, rowsOf, rowLine, rowLines, drawn}
 use Rattle.drawing.proofs.Lines.{hex-line, character-line}
 

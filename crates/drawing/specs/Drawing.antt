@@ -17,14 +17,14 @@ use Rattle.sequence.specs.declared.HalfRead.{HalfRead}
 use Rattle.state.specs.declared.Modes.{Modes}
 use Rattle.state.specs.declared.Locks.{Locks}
 use Rattle.state.specs.declared.State.{State}
-use Rattle.figures.specs.Figures.{bytes, fiveDigits}
-use Rattle.figures.specs.Hexadecimal.{hexByte, hexOf}
+use Rattle.numerals.specs.Figures.{bytes, fiveDigits}
+use Rattle.numerals.specs.Hexadecimal.{hexByte, hexOf}
 
 abbrev pub lineEnd : List ℕ
 lineEnd = bytes "\n"
 
-abbrev pub flagOf : Bool → List ℕ
-flagOf flag = (if flag then code "1" else code "0") ∷ []
+abbrev pub flagText : Bool → List ℕ
+flagText flag = (if flag then code "1" else code "0") ∷ []
 
 -- A tab stop in a column, or none.
 abbrev pub stopOf : Bool → List ℕ
@@ -35,7 +35,7 @@ abbrev pub numbered : List ℕ → ℕ → List ℕ
 numbered word number = word ++ fiveDigits number
 
 abbrev pub flagged : List ℕ → Bool → List ℕ
-flagged word flag = word ++ flagOf flag
+flagged word flag = word ++ flagText flag
 
 abbrev pub spaced : ℕ → List ℕ
 spaced number = numbered (bytes " ") number

@@ -1,5 +1,6 @@
 // A terminal drawn as text, so that a person can read it and a program can compare it; see specs/Drawing.antt.
 // Every function writes into a lent text from a place on, and gives the place after.
+use page::Mark;
 use sequence::HalfRead;
 use state::Locks;
 use state::Modes;
@@ -24,15 +25,15 @@ fn put_number(text: &mut [u8], at: usize, word: &[u8], number: usize) -> usize
     requires { ⌜ (number < 100000) × (at + length (now word) + 5 ≤ length (now text)) ⌝ }
     ensures { λ r. ⌜ Wrote at (numbered (now (word .entry)) number) (now (text .entry)) r (now (text .exit)) ⌝ }
 {
-    let next = figures::put_all(text, at, word);
-    figures::put_five(text, next, number)
+    let next = numerals::put_all(text, at, word);
+    numerals::put_five(text, next, number)
 }
 
 fn put_flag(text: &mut [u8], at: usize, word: &[u8], flag: bool) -> usize
     requires { ⌜ at + length (now word) + 1 ≤ length (now text) ⌝ }
     ensures { λ r. ⌜ Wrote at (flagged (now (word .entry)) flag) (now (text .entry)) r (now (text .exit)) ⌝ }
 {
-    let next = figures::put_all(text, at, word);
+    let next = numerals::put_all(text, at, word);
     output::put_byte(text, next, byte_if(flag, b'1', b'0'))
 }
 
@@ -50,8 +51,8 @@ fn put_modes(text: &mut [u8], at: usize, modes: Modes) -> usize
     requires { ⌜ at + 17 ≤ length (now text) ⌝ }
     ensures { λ r. ⌜ Wrote at (penLine modes) (now (text .entry)) r (now (text .exit)) ⌝ }
 {
-    let pen = figures::put_all(text, at, b"pen ");
-    let erasure = figures::put_hex_byte(text, pen, modes.pen);
+    let pen = numerals::put_all(text, at, b"pen ");
+    let erasure = numerals::put_hex_byte(text, pen, modes.pen);
     let end = put_flag(text, erasure, b" erasure ", modes.erasure);
     output::put_byte(text, end, b'\n')
 }
@@ -83,7 +84,7 @@ fn put_stops(text: &mut [u8], at: usize, stops: [bool; 160]) -> usize
     requires { ⌜ at + 167 ≤ length (now text) ⌝ }
     ensures { λ r. ⌜ Wrote at (stopsLine stops) (now (text .entry)) r (now (text .exit)) ⌝ }
 {
-    let each = figures::put_all(text, at, b"stops ");
+    let each = numerals::put_all(text, at, b"stops ");
     let end = put_each_stop(text, each, stops);
     output::put_byte(text, end, b'\n')
 }
@@ -116,7 +117,7 @@ fn put_half(text: &mut [u8], at: usize, half: HalfRead) -> usize
     let spoilt = put_number(text, at, b"half ", half.kind as usize);
     let count = put_flag(text, spoilt, b" spoilt ", half.spoilt);
     let word = put_number(text, count, b" count ", half.count as usize);
-    let each = figures::put_all(text, word, b" arguments");
+    let each = numerals::put_all(text, word, b" arguments");
     let end = put_arguments(text, each, arguments);
     output::put_byte(text, end, b'\n')
 }
@@ -147,12 +148,12 @@ fn put_row(text: &mut [u8], at: usize, row: &[u8], in_hex: bool) -> usize
 {
     if in_hex {
         let digits = output::put_byte(text, at, b':');
-        let end = figures::put_hex(text, digits, row);
+        let end = numerals::put_hex(text, digits, row);
         return output::put_byte(text, end, b'\n');
     }
     let characters = output::put_byte(text, at, b'|');
-    let bar = figures::put_all(text, characters, row);
-    figures::put_all(text, bar, b"|\n")
+    let bar = numerals::put_all(text, characters, row);
+    numerals::put_all(text, bar, b"|\n")
 }
 
 // A page's rows, as characters or, for marks, in hexadecimal.
@@ -180,7 +181,7 @@ fn put_rows(
     next
 }
 
-pub fn draw(state: State, characters: &[u8], marks: &[u8], text: &mut [u8], at: usize) -> usize
+pub fn draw(state: State, characters: &[u8], marks: &[Mark], text: &mut [u8], at: usize) -> usize
     requires { ⌜ FiveDigitsEach state ⌝ }
     requires { ⌜ (length (now characters) ≡ state .size .rows * state .size .columns) × (length (now marks) ≡ state .size .rows * state .size .columns) ⌝ }
     requires { ⌜ at + length (drawn state (now characters) (now marks)) ≤ length (now text) ⌝ }

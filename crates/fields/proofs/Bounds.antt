@@ -42,7 +42,7 @@ module _ (free : ℕ → Bool) (columns : ℕ) where
     pub inside : (k : ℕ) → cell < k → k < end → joined free (placeOf columns k) ≡ true
     pub after : (end ≡ cells) ⊎ (joined free (placeOf columns end) ≡ false)
 
-  end-from : (cells more cell : ℕ) → cells ≡ cell + 1 + more → IsEnd cells cell (endFrom free columns more cell)
+  end-from : (cells more cell : ℕ) → cells ≡ cell + 1 + more → IsEnd cells cell (endFrom free columns cell more)
   unfolding endFrom
   end-from cells zero cell all =
       record { high = omega arith; on-page = omega arith; inside = λ k over under. absurd (omega arith); after = inl (omega arith) }
@@ -87,7 +87,7 @@ module _ (free : ℕ → Bool) (columns : ℕ) where
       record {
         low = low;
         high = high;
-        all-free = run-free (fieldStart free columns cell) (fieldEnd free columns cells cell) (joined-around cells cell) cell low high is-free;
+        all-unprotected = run-free (fieldStart free columns cell) (fieldEnd free columns cells cell) (joined-around cells cell) cell low high is-free;
       }
 
 -- A longest run of joined cells.
@@ -133,8 +133,8 @@ module _ (free : ℕ → Bool) (columns cells : ℕ) where
 
   -- a run that has a free cell is a field, and a field is a run
   module _ {field : Field} (run : IsRun field) (cell : ℕ) (here : field has cell) (is-free : free cell ≡ true) where
-    all-free : (k : ℕ) → field has k → free k ≡ true
-    all-free k within = run-free free columns (field .start) (endOf field) (run .inside) cell (here .0) (here .1) is-free k (within .0) (within .1)
+    all-unprotected : (k : ℕ) → field has k → free k ≡ true
+    all-unprotected k within = run-free free columns (field .start) (endOf field) (run .inside) cell (here .0) (here .1) is-free k (within .0) (within .1)
 
     field-of : 0 < columns → IsField free columns cells field
     unfolding placeOf
@@ -142,14 +142,14 @@ module _ (free : ℕ → Bool) (columns cells : ℕ) where
         record {
           some-cells = omega (arith, run .some-cells);
           on-page = run .on-page;
-          all-free = all-free;
+          all-unprotected = all-unprotected;
           one-row = one-row columns some (field .start) (endOf field - 1) (omega arith) (λ k over under. joined-within free (placeOf columns k) (run .inside k over (omega arith)));
           none-before =
-              ⊎-elim inl (⊎-elim inr (λ right. absurd (not-both (all-free (field .start) (omega arith)) right)))
+              ⊎-elim inl (⊎-elim inr (λ right. absurd (not-both (all-unprotected (field .start) (omega arith)) right)))
               (why-apart free (placeOf columns (field .start)) (run .before));
           none-after =
               ⊎-elim inl
-              (λ apart. inr (⊎-elim inl (⊎-elim (λ left. absurd (not-both (all-free (endOf field - 1) (omega arith)) left)) inr)
+              (λ apart. inr (⊎-elim inl (⊎-elim (λ left. absurd (not-both (all-unprotected (endOf field - 1) (omega arith)) left)) inr)
               (why-apart free (placeOf columns (endOf field)) apart)))
               (run .after);
         }
@@ -163,8 +163,8 @@ module _ (free : ℕ → Bool) (columns cells : ℕ) where
         inside = λ k over under.
             are-joined free (placeOf columns k)
             (none-opens columns some (field .start) (endOf field - 1) k (is .one-row) over (omega arith))
-            (is .all-free (k - 1) (omega arith))
-            (is .all-free k (omega arith));
+            (is .all-unprotected (k - 1) (omega arith))
+            (is .all-unprotected k (omega arith));
         before = are-apart free (placeOf columns (field .start)) (⊎-elim inl (λ left. inr (inl left)) (is .none-before));
         after = ⊎-elim inl (λ apart. inr (are-apart free (placeOf columns (endOf field)) (⊎-elim inl (λ right. inr (inr right)) apart))) (is .none-after);
       }

@@ -23,7 +23,7 @@ field has cell = (field .start ≤ cell) × (cell < endOf field)
 pub record IsField (free : ℕ → Bool) (columns cells : ℕ) (field : Field) : Type 0 where
   pub some-cells : 1 ≤ field .length
   pub on-page : endOf field ≤ cells
-  pub all-free : (cell : ℕ) → field has cell → free cell ≡ true
+  pub all-unprotected : (cell : ℕ) → field has cell → free cell ≡ true
   pub one-row : field .start / columns ≡ (endOf field - 1) / columns
   pub none-before : (opensStretch (placeOf columns (field .start)) ≡ true) ⊎ (free (field .start - 1) ≡ false)
   pub none-after : (endOf field ≡ cells) ⊎ ((opensStretch (placeOf columns (endOf field)) ≡ true) ⊎ (free (endOf field) ≡ false))
@@ -45,7 +45,7 @@ pub record IsAround (free : ℕ → Bool) (columns cells cell : ℕ) : Type 0 wh
 pub record FreeAround (free : ℕ → Bool) (columns cells cell : ℕ) : Type 0 where
   pub low : fieldStart free columns cell ≤ cell
   pub high : cell < fieldEnd free columns cells cell
-  pub all-free : (k : ℕ) → fieldStart free columns cell ≤ k → k < fieldEnd free columns cells cell → free k ≡ true
+  pub all-unprotected : (k : ℕ) → fieldStart free columns cell ≤ k → k < fieldEnd free columns cells cell → free k ≡ true
 
 -- Page order: each field ends at or before the start of every later one. (By membership: no claim needs a field's index in the list.)
 pub data InOrder : List Field → Type 0 where

@@ -12,7 +12,7 @@ use Rattle.places.specs.Places.{placeOf}
 use Rattle.fields.specs.declared.Sought.{Sought}
 use Rattle.fields.specs.declared.Sought.the-variants.{At, Nowhere}
 use Rattle.fields.specs.Fields.{Field, fieldFrom, fieldsFrom, fieldsOf}
-use Rattle.fields.specs.Searches.{orElse, firstField, lastField, firstAfter, lastBefore, firstFree}
+use Rattle.fields.specs.Searches.{orElse, firstField, lastField, firstAfter, lastBefore, firstUnprotectedFrom}
 use Rattle.fields.proofs.Claims.{endOf, InOrder, none, one-more, StartsAt, Passes, First, Last, Finds, found, nothing, GoesRound, Lands, on-cell, not-found}
 use Rattle.fields.proofs.Listing.{startsAt, listed-starts, start-listed, in-order}
 
@@ -129,8 +129,8 @@ module _ (columns : ℕ) where
       nothing (λ k s. ⊎-elim (λ same. omega (arith, s .1)) (λ later. omega (arith, starts-after field before later, s .1)) (which-starts (s .0))))
 
   -- The n cells from `from` to before `to`: the free ones, and those at which a field starts.
-  pub first-free : (free : ℕ → Bool) (n from to : ℕ) → to ≡ from + n → Finds columns First (Passes free from to) (firstFree free columns n from)
-  unfolding firstFree
+  pub first-free : (free : ℕ → Bool) (n from to : ℕ) → to ≡ from + n → Finds columns First (Passes free from to) (firstUnprotectedFrom free columns from n)
+  unfolding firstUnprotectedFrom
   first-free free zero from to all = nothing (λ k w. omega arith)
   first-free free (suc n) from to all =
       either-line (Finds columns First _) _ _ _
@@ -141,21 +141,21 @@ module _ (columns : ℕ) where
       (first-free free n (from + 1) to (omega arith)))
 
   module _ (free : ℕ → Bool) (cells n from to : ℕ) (all : to ≡ from + n) where
-    by-cell : (k : ℕ) → StartsAt (fieldsFrom free columns cells n from) k → Passes (startsAt free columns) from to k
+    by-cell : (k : ℕ) → StartsAt (fieldsFrom free columns cells from n) k → Passes (startsAt free columns) from to k
     by-cell k s = rw (← s .here) (listed-starts free columns cells n from to all (s .listed) .0)
 
-    by-field : (k : ℕ) → Passes (startsAt free columns) from to k → StartsAt (fieldsFrom free columns cells n from) k
+    by-field : (k : ℕ) → Passes (startsAt free columns) from to k → StartsAt (fieldsFrom free columns cells from n) k
     by-field k w = record { field = fieldFrom free columns cells k; listed = start-listed free columns cells n from to all k w; here = refl }
 
-    pub first-start : to ≤ cells → Finds columns First (Passes (startsAt free columns) from to) (firstField columns (fieldsFrom free columns cells n from))
+    pub first-start : to ≤ cells → Finds columns First (Passes (startsAt free columns) from to) (firstField columns (fieldsFrom free columns cells from n))
     first-start fits = in-other-words by-cell by-field (first-of (in-order free columns cells n from (omega arith)))
 
-    pub last-start : to ≤ cells → Finds columns Last (Passes (startsAt free columns) from to) (lastField columns (fieldsFrom free columns cells n from))
+    pub last-start : to ≤ cells → Finds columns Last (Passes (startsAt free columns) from to) (lastField columns (fieldsFrom free columns cells from n))
     last-start fits = in-other-words by-cell by-field (last-of (in-order free columns cells n from (omega arith)))
 
   -- The first field that starts after a cell is the first that starts from the next one on; and so for the last before a cell.
   module _ (free : ℕ → Bool) (cells cell : ℕ) where
-    pub after-is : (next : ℕ) → next ≡ cell + 1 → next ≤ cells → firstField columns (fieldsFrom free columns cells (cells - next) next) ≡ firstAfter columns cell (fieldsOf free columns cells)
+    pub after-is : (next : ℕ) → next ≡ cell + 1 → next ≤ cells → firstField columns (fieldsFrom free columns cells next (cells - next)) ≡ firstAfter columns cell (fieldsOf free columns cells)
     unfolding fieldsOf
     after-is next one fits =
         one-first (first-start free cells (cells - next) next cells (omega arith) (omega arith))
@@ -164,7 +164,7 @@ module _ (columns : ℕ) where
         (λ k w. (by-field free cells cells 0 cells (omega arith) k (omega arith, w .1, w .2), omega (arith, w .0)))
         (first-after cell (in-order free columns cells cells 0 (omega arith))))
 
-    pub before-is : cell ≤ cells → lastField columns (fieldsFrom free columns cells cell 0) ≡ lastBefore columns cell (fieldsOf free columns cells)
+    pub before-is : cell ≤ cells → lastField columns (fieldsFrom free columns cells 0 cell) ≡ lastBefore columns cell (fieldsOf free columns cells)
     unfolding fieldsOf
     before-is fits =
         one-last (last-start free cells cell 0 cell (omega arith) fits)

@@ -7,7 +7,7 @@ use Prim.Native.Nat.{ℕ, _+_, _-_, _<_}
 use native.Mathlib.Omega.{arith}
 use Rattle.fields.specs.declared.Sought.the-variants.{Nowhere}
 use Rattle.fields.specs.Fields.{Field, fieldsOf}
-use Rattle.fields.specs.Searches.{firstField, lastField, firstAfter, lastBefore, nextField, previousField, firstFree, firstUnprotected, nextUnprotected}
+use Rattle.fields.specs.Searches.{firstField, lastField, firstAfter, lastBefore, nextField, previousField, firstUnprotectedFrom, firstUnprotected, nextUnprotected}
 use Rattle.fields.proofs.Claims.{IsField, _has_, IsAround, InOrder, Lists, StartsAt, Passes, First, Last, Finds, GoesRound, FreeAround, Lands}
 use Rattle.fields.proofs.Bounds.{around, same-field, all-free-around}
 use Rattle.fields.proofs.Listing.{in-order, lists-fields, listed-starts}
@@ -63,7 +63,7 @@ module _ (free : ℕ → Bool) (columns cells : ℕ) where
   key-261 cell = goes-round columns (before-found cell) last-found
 
   -- The first unprotected cell of n cells.
-  pub free-found : (n from : ℕ) → Finds columns First (Passes free from (from + n)) (firstFree free columns n from)
+  pub free-found : (n from : ℕ) → Finds columns First (Passes free from (from + n)) (firstUnprotectedFrom free columns from n)
   free-found n from = first-free columns free n from (from + n) (omega arith)
 
   -- Key 262: the first unprotected cell of the page.

@@ -12,7 +12,7 @@ use Rattle.places.proofs.Counting.{cell-is, counted}
 use Rattle.fields.specs.declared.Sought.{Sought}
 use Rattle.fields.specs.declared.Sought.the-variants.{At, Nowhere}
 use Rattle.fields.specs.Fields.{opensStretch, joined, fieldStart, endFrom, fieldEnd, fieldsFrom, fieldsOf}
-use Rattle.fields.specs.Searches.{orElse, firstFree, firstUnprotected}
+use Rattle.fields.specs.Searches.{orElse, firstUnprotectedFrom, firstUnprotected}
 use Rattle.fields.proofs.Claims.{Finds, found, nothing, First, Last, Passes}
 use Rattle.fields.proofs.Laws.{first-opens, joined-within, start-here}
 
@@ -122,11 +122,11 @@ module _ {test : ℕ → Bool} {columns : ℕ} {from : Place} where
 
 -- A search from the first cell is one of the whole page.
 module _ (free : ℕ → Bool) (columns cells first : ℕ) (is : first ≡ 0) where
-  pub all-fields : fieldsFrom free columns cells (cells - first) first ≡ fieldsOf free columns cells
+  pub all-fields : fieldsFrom free columns cells first (cells - first) ≡ fieldsOf free columns cells
   unfolding fieldsOf
   all-fields = let all : cells - 0 ≡ cells = omega arith in rw (is, all)
 
-  pub all-cells : firstFree free columns (cells - first) first ≡ firstUnprotected free columns cells
+  pub all-cells : firstUnprotectedFrom free columns first (cells - first) ≡ firstUnprotected free columns cells
   unfolding firstUnprotected
   all-cells = let all : cells - 0 ≡ cells = omega arith in rw (is, all)
 

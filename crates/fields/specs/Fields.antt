@@ -1,5 +1,5 @@
 -- Document 01, "Fields, keys and blocks", its first rule: what a field is.
--- `free` tells which cells are unprotected, by their numbers; `cells` is how many the page has.
+-- `unprotected` tells which cells are unprotected, by their numbers; `cells` is how many the page has.
 use mathlib.Core.Bool.{Bool, not}
 use mathlib.Core.List.{List, [], _∷_}
 use Prim.Native.Nat.{ℕ, zero, suc, _+_, _-_}
@@ -14,30 +14,30 @@ opensStretch place = eqb (place .column) 1
 
 -- The cell and the one before it belong to one field.
 unfoldable pub joined : (ℕ → Bool) → Place → Bool
-joined free place = not (opensStretch place) and free (place .cell - 1) and free (place .cell)
+joined unprotected place = not (opensStretch place) and unprotected (place .cell - 1) and unprotected (place .cell)
 
 -- A field starts at the cell.
 unfoldable pub startsField : (ℕ → Bool) → Place → Bool
-startsField free place = free (place .cell) and not (joined free place)
+startsField unprotected place = unprotected (place .cell) and not (joined unprotected place)
 
 -- The first cell of the field that has the cell.
 unfoldable pub fieldStart : (ℕ → Bool) → ℕ → ℕ → ℕ
-fieldStart free columns zero = zero
-fieldStart free columns (suc before) =
-    let further = fieldStart free columns before in
-    if joined free (placeOf columns (suc before)) then further
+fieldStart unprotected columns zero = zero
+fieldStart unprotected columns (suc before) =
+    let further = fieldStart unprotected columns before in
+    if joined unprotected (placeOf columns (suc before)) then further
     else suc before
 
 -- The cell after the last of the field that has the cell; `more` is how many cells of the page come after the cell.
 unfoldable pub endFrom : (ℕ → Bool) → ℕ → ℕ → ℕ → ℕ
-endFrom free columns zero cell = cell + 1
-endFrom free columns (suc more) cell =
-    let further = endFrom free columns more (cell + 1) in
-    if joined free (placeOf columns (cell + 1)) then further
+endFrom unprotected columns cell zero = cell + 1
+endFrom unprotected columns cell (suc more) =
+    let further = endFrom unprotected columns (cell + 1) more in
+    if joined unprotected (placeOf columns (cell + 1)) then further
     else cell + 1
 
 unfoldable pub fieldEnd : (ℕ → Bool) → ℕ → ℕ → ℕ → ℕ
-fieldEnd free columns cells cell = endFrom free columns (cells - (cell + 1)) cell
+fieldEnd unprotected columns cells cell = endFrom unprotected columns cell (cells - (cell + 1))
 
 -- A field, by its first cell and how many it has.
 pub record Field : Type 0 where
@@ -45,16 +45,16 @@ pub record Field : Type 0 where
   pub length : ℕ
 
 abbrev pub fieldFrom : (ℕ → Bool) → ℕ → ℕ → ℕ → Field
-fieldFrom free columns cells cell = record { start = cell; length = fieldEnd free columns cells cell - cell }
+fieldFrom unprotected columns cells cell = record { start = cell; length = fieldEnd unprotected columns cells cell - cell }
 
 -- The fields that start at one of the n cells from `cell` on, in page order.
 unfoldable pub fieldsFrom : (ℕ → Bool) → ℕ → ℕ → ℕ → ℕ → List Field
-fieldsFrom free columns cells zero cell = []
-fieldsFrom free columns cells (suc n) cell =
-    let later = fieldsFrom free columns cells n (cell + 1) in
-    if startsField free (placeOf columns cell) then fieldFrom free columns cells cell ∷ later
+fieldsFrom unprotected columns cells cell zero = []
+fieldsFrom unprotected columns cells cell (suc n) =
+    let later = fieldsFrom unprotected columns cells (cell + 1) n in
+    if startsField unprotected (placeOf columns cell) then fieldFrom unprotected columns cells cell ∷ later
     else later
 
 -- All fields of the page.
 unfoldable pub fieldsOf : (ℕ → Bool) → ℕ → ℕ → List Field
-fieldsOf free columns cells = fieldsFrom free columns cells cells 0
+fieldsOf unprotected columns cells = fieldsFrom unprotected columns cells 0 cells

@@ -50,17 +50,17 @@ unfoldable pub previousField : ℕ → ℕ → List Field → Sought
 previousField columns cell fields = orElse (lastBefore columns cell fields) (lastField columns fields)
 
 -- The first of the n cells from `cell` on that is unprotected.
-unfoldable pub firstFree : (ℕ → Bool) → ℕ → ℕ → ℕ → Sought
-firstFree free columns zero cell = Nowhere
-firstFree free columns (suc n) cell =
-    let further = firstFree free columns n (cell + 1) in
-    if free cell then At (placeOf columns cell)
+unfoldable pub firstUnprotectedFrom : (ℕ → Bool) → ℕ → ℕ → ℕ → Sought
+firstUnprotectedFrom unprotected columns cell zero = Nowhere
+firstUnprotectedFrom unprotected columns cell (suc n) =
+    let further = firstUnprotectedFrom unprotected columns (cell + 1) n in
+    if unprotected cell then At (placeOf columns cell)
     else further
 
 -- Key 262; and after a typed character: the next unprotected cell, going round the page.
 unfoldable pub firstUnprotected : (ℕ → Bool) → ℕ → ℕ → Sought
-firstUnprotected free columns cells = firstFree free columns cells 0
+firstUnprotected unprotected columns cells = firstUnprotectedFrom unprotected columns 0 cells
 
 unfoldable pub nextUnprotected : (ℕ → Bool) → ℕ → ℕ → ℕ → Sought
-nextUnprotected free columns cells cell =
-    orElse (firstFree free columns (cells - (cell + 1)) (cell + 1)) (firstUnprotected free columns cells)
+nextUnprotected unprotected columns cells cell =
+    orElse (firstUnprotectedFrom unprotected columns (cell + 1) (cells - (cell + 1))) (firstUnprotected unprotected columns cells)

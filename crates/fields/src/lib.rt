@@ -1,5 +1,6 @@
 // Fields: longest runs of unprotected cells within one row, and the searches of the keys.
 // What each function gives is defined in specs/Fields.antt and specs/Searches.antt.
+use page::Mark;
 use places::Place;
 ghost use mathlib.Core.Path.{_≡_};
 ghost use mathlib.Core.Bool.{true};
@@ -8,7 +9,7 @@ ghost use lib.ListN.{length};
 ghost use Rattle.places.specs.Places.{placeOf, Counted};
 ghost use Rattle.page.specs.Marks.{unprotected};
 ghost use Rattle.fields.specs.Fields.{opensStretch, joined, startsField, fieldStart, fieldEnd, fieldsOf, fieldsFrom};
-ghost use Rattle.fields.specs.Searches.{firstField, lastField, nextField, previousField, firstFree, firstUnprotected, nextUnprotected};
+ghost use Rattle.fields.specs.Searches.{firstField, lastField, nextField, previousField, firstUnprotectedFrom, firstUnprotected, nextUnprotected};
 
 // A place that was looked for.
 pub enum Sought {
@@ -24,7 +25,7 @@ fn opens_stretch(place: Place) -> bool
 }
 
 // Whether the cell and the one before it belong to one field.
-fn is_joined(marks: &[u8], place: Place) -> bool
+fn is_joined(marks: &[Mark], place: Place) -> bool
     requires { ⌜ place .cell < length (now marks) ⌝ }
     requires { ⌜ (place .cell ≡ 0 → opensStretch place ≡ true) ⌝ }
     ensures { λ r. ⌜ r ≡ joined (unprotected (now (marks .entry))) place ⌝ }
@@ -38,7 +39,7 @@ fn is_joined(marks: &[u8], place: Place) -> bool
     false
 }
 
-pub fn starts_field(marks: &[u8], place: Place) -> bool
+pub fn starts_field(marks: &[Mark], place: Place) -> bool
     requires { ⌜ place .cell < length (now marks) ⌝ }
     requires { ⌜ (place .cell ≡ 0 → opensStretch place ≡ true) ⌝ }
     ensures { λ r. ⌜ r ≡ startsField (unprotected (now (marks .entry))) place ⌝ }
@@ -50,7 +51,7 @@ pub fn starts_field(marks: &[u8], place: Place) -> bool
 }
 
 // The first cell of the field that has the cell.
-pub fn field_start(marks: &[u8], place: Place, columns: usize) -> Place
+pub fn field_start(marks: &[Mark], place: Place, columns: usize) -> Place
     requires { ⌜ Counted columns place ⌝ }
     requires { ⌜ place .cell < length (now marks) ⌝ }
     ensures { λ r. ⌜ r ≡ placeOf columns (fieldStart (unprotected (now (marks .entry))) columns (place .cell)) ⌝ }
@@ -63,7 +64,7 @@ pub fn field_start(marks: &[u8], place: Place, columns: usize) -> Place
 }
 
 // The cell after the last of the field that has the cell.
-pub fn field_end(marks: &[u8], place: Place, columns: usize) -> usize
+pub fn field_end(marks: &[Mark], place: Place, columns: usize) -> usize
     requires { ⌜ Counted columns place ⌝ }
     requires { ⌜ place .cell < length (now marks) ⌝ }
     requires { ⌜ length (now marks) ≤ 7680 ⌝ }
@@ -81,10 +82,10 @@ pub fn field_end(marks: &[u8], place: Place, columns: usize) -> usize
 }
 
 // The first field that starts at the place or after it; the place may be one past the page.
-fn seek_field(marks: &[u8], place: Place, columns: usize) -> Sought
+fn seek_field(marks: &[Mark], place: Place, columns: usize) -> Sought
     requires { ⌜ Counted columns place ⌝ }
     requires { ⌜ (place .cell ≤ length (now marks)) × (length (now marks) ≤ 7680) ⌝ }
-    ensures { λ r. ⌜ r ≡ firstField columns (fieldsFrom (unprotected (now (marks .entry))) columns (length (now (marks .entry))) (length (now (marks .entry)) - place .cell) (place .cell)) ⌝ }
+    ensures { λ r. ⌜ r ≡ firstField columns (fieldsFrom (unprotected (now (marks .entry))) columns (length (now (marks .entry))) (place .cell) (length (now (marks .entry)) - place .cell)) ⌝ }
 {
     let mut here = place;
     while here.cell < marks.len() {
@@ -97,10 +98,10 @@ fn seek_field(marks: &[u8], place: Place, columns: usize) -> Sought
 }
 
 // The last field that starts before the place; the place may be one past the page.
-fn seek_field_back(marks: &[u8], place: Place, columns: usize) -> Sought
+fn seek_field_back(marks: &[Mark], place: Place, columns: usize) -> Sought
     requires { ⌜ Counted columns place ⌝ }
     requires { ⌜ (place .cell ≤ length (now marks)) × (length (now marks) ≤ 7680) ⌝ }
-    ensures { λ r. ⌜ r ≡ lastField columns (fieldsFrom (unprotected (now (marks .entry))) columns (length (now (marks .entry))) (place .cell) 0) ⌝ }
+    ensures { λ r. ⌜ r ≡ lastField columns (fieldsFrom (unprotected (now (marks .entry))) columns (length (now (marks .entry))) 0 (place .cell)) ⌝ }
 {
     let mut here = place;
     while 0 < here.cell {
@@ -113,10 +114,10 @@ fn seek_field_back(marks: &[u8], place: Place, columns: usize) -> Sought
 }
 
 // The first unprotected cell at the place or after it; the place may be one past the page.
-fn seek_unprotected(marks: &[u8], place: Place, columns: usize) -> Sought
+fn seek_unprotected(marks: &[Mark], place: Place, columns: usize) -> Sought
     requires { ⌜ Counted columns place ⌝ }
     requires { ⌜ (place .cell ≤ length (now marks)) × (length (now marks) ≤ 7680) ⌝ }
-    ensures { λ r. ⌜ r ≡ firstFree (unprotected (now (marks .entry))) columns (length (now (marks .entry)) - place .cell) (place .cell) ⌝ }
+    ensures { λ r. ⌜ r ≡ firstUnprotectedFrom (unprotected (now (marks .entry))) columns (place .cell) (length (now (marks .entry)) - place .cell) ⌝ }
 {
     let mut here = place;
     while here.cell < marks.len() {
@@ -129,7 +130,7 @@ fn seek_unprotected(marks: &[u8], place: Place, columns: usize) -> Sought
 }
 
 // Key 260: the first field that starts after the place, else the first.
-pub fn next_field(marks: &[u8], place: Place, columns: usize) -> Sought
+pub fn next_field(marks: &[Mark], place: Place, columns: usize) -> Sought
     requires { ⌜ Counted columns place ⌝ }
     requires { ⌜ (place .cell < length (now marks)) × (length (now marks) ≤ 7680) ⌝ }
     ensures { λ r. ⌜ r ≡ nextField columns (place .cell) (fieldsOf (unprotected (now (marks .entry))) columns (length (now (marks .entry)))) ⌝ }
@@ -142,7 +143,7 @@ pub fn next_field(marks: &[u8], place: Place, columns: usize) -> Sought
 }
 
 // Key 261: the last field that starts before the place, else the last.
-pub fn previous_field(marks: &[u8], place: Place, rows: usize, columns: usize) -> Sought
+pub fn previous_field(marks: &[Mark], place: Place, rows: usize, columns: usize) -> Sought
     requires { ⌜ Counted columns place ⌝ }
     requires { ⌜ (place .cell < length (now marks)) × (rows ≤ 48) × (columns ≤ 160) × (length (now marks) ≡ rows * columns) ⌝ }
     ensures { λ r. ⌜ r ≡ previousField columns (place .cell) (fieldsOf (unprotected (now (marks .entry))) columns (length (now (marks .entry)))) ⌝ }
@@ -155,7 +156,7 @@ pub fn previous_field(marks: &[u8], place: Place, rows: usize, columns: usize) -
 }
 
 // Key 262.
-pub fn first_unprotected(marks: &[u8], columns: usize) -> Sought
+pub fn first_unprotected(marks: &[Mark], columns: usize) -> Sought
     requires { ⌜ (0 < columns) × (length (now marks) ≤ 7680) ⌝ }
     ensures { λ r. ⌜ r ≡ firstUnprotected (unprotected (now (marks .entry))) columns (length (now (marks .entry))) ⌝ }
 {
@@ -163,7 +164,7 @@ pub fn first_unprotected(marks: &[u8], columns: usize) -> Sought
 }
 
 // Where the cursor goes after a typed character: the next unprotected cell, going round the page.
-pub fn next_unprotected(marks: &[u8], place: Place, columns: usize) -> Sought
+pub fn next_unprotected(marks: &[Mark], place: Place, columns: usize) -> Sought
     requires { ⌜ Counted columns place ⌝ }
     requires { ⌜ (place .cell < length (now marks)) × (length (now marks) ≤ 7680) ⌝ }
     ensures { λ r. ⌜ r ≡ nextUnprotected (unprotected (now (marks .entry))) columns (length (now (marks .entry))) (place .cell) ⌝ }

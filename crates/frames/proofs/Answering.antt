@@ -18,8 +18,8 @@ use Rattle.frames.specs.declared.Held.{Held}
 use Rattle.frames.specs.declared.Printed.{Printed}
 use Rattle.frames.specs.Frames.{host, key}
 use Rattle.frames.specs.Printing.{printed}
-use Rattle.frames.specs.Sessions.{Session, noSession, session, Call, output, started, hosted, keyed, uncalled, callOf}
-use Rattle.frames.specs.Held.{frameAt, kept, charactersOf, marksOf, sessionIn, Lent, lent, Enough, Did}
+use Rattle.frames.specs.Sessions.{Session, noSession, session, FrameCall, output, started, hosted, keyed, uncalled, callOf}
+use Rattle.frames.specs.Held.{frameAt, kept, charactersOf, marksOf, sessionIn, Lent, lent, Enough, CallDone}
 use Rattle.frames.proofs.Calling.{Alike, printed-same, output-long, host-within}
 use Rattle.frames.proofs.Lending.{placed-front, take-least, held-again}
 
@@ -28,8 +28,8 @@ unfolding sessionIn
 no-session-in held characters marks stopped = else-case _ _ _ stopped
 
 -- Which call a frame makes.
-pub did-as : {call other : Call} {from : ℕ} {before after : Lent} {r : Printed} → call ≡ other → Did other from before r after → Did call from before r after
-did-as {from = from} {before} {after} {r} is did = subst (λ (c : Call). Did c from before r after) (sym is) did
+pub did-as : {call other : FrameCall} {from : ℕ} {before after : Lent} {r : Printed} → call ≡ other → CallDone other from before r after → CallDone call from before r after
+did-as {from = from} {before} {after} {r} is did = subst (λ (c : FrameCall). CallDone c from before r after) (sym is) did
 
 module _ {s : Session} (none : s ≡ noSession) where
   pub host-uncalled : (bytes : List ℕ) → callOf (host bytes) s ≡ uncalled s
@@ -63,14 +63,14 @@ goes-on held cells before enough going is =
     ∙ (λ i. session (terminalIn held (sym is i) before))
 
 -- The session after a call, with its line, the bytes it sent and those it took.
-abbrev pub calledWith : Outcome → ℕ → Bool → Call
+abbrev pub calledWith : Outcome → ℕ → Bool → FrameCall
 calledWith one taken more = record { after = session (one .terminal); text = printed one; sent = bytesSent one; taken = taken; more = more }
 
 module _ (one : Outcome) (reply : Reply) (characters marks out text : List ℕ) (cells from end : ℕ) (before : Lent)
     (alike : Alike one (given reply (pageOf characters marks) out) (before .out))
     (as-many : length characters ≡ cells) (marks-too : length marks ≡ cells)
     (wrote : Wrote 0 (printed (given reply (pageOf characters marks) out)) (before .text) end text) where
-  pub answered : (taken on : ℕ) (more more-on : Bool) → on ≡ from + taken → more-on ≡ more → Did (calledWith one taken more) from before (record { held = record { going = true; cells = cells; state = reply .state }; end = end; from = on; more = more-on }) (lent (characters ++ drop cells (before .characters)) (marks ++ drop cells (before .marks)) out text)
+  pub answered : (taken on : ℕ) (more more-on : Bool) → on ≡ from + taken → more-on ≡ more → CallDone (calledWith one taken more) from before (record { held = record { going = true; cells = cells; state = reply .state }; end = end; from = on; more = more-on }) (lent (characters ++ drop cells (before .characters)) (marks ++ drop cells (before .marks)) out text)
   unfolding kept charactersOf marksOf
   answered taken on more more-on is-on as-more =
       let cells-are = sym as-many ∙ ap (λ (t : Terminal). length (t .page .characters)) (alike .terminal) in
@@ -105,6 +105,6 @@ inside (Key number) line from (session t) long here = omega arith
 inside Other line from s long here = omega arith
 
 -- The call of a kind of frame that was told.
-pub called : {kind is : Kind} (line : List ℕ) (from : ℕ) (s : Session) {before after : Lent} {r : Printed} → length line ≡ 512 → from ≤ 512 → kind ≡ is → Did (callOf (frameAt is line from) s) from before r after → Did (callOf (frameAt kind line from) s) from before r after × (r .from ≤ 512)
+pub called : {kind is : Kind} (line : List ℕ) (from : ℕ) (s : Session) {before after : Lent} {r : Printed} → length line ≡ 512 → from ≤ 512 → kind ≡ is → CallDone (callOf (frameAt is line from) s) from before r after → CallDone (callOf (frameAt kind line from) s) from before r after × (r .from ≤ 512)
 called {is = is} line from s long here told did =
     (did-as (ap (λ (kind : Kind). callOf (frameAt kind line from) s) told) did, omega (arith, did .from-on, inside is line from s long here))

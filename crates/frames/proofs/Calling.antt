@@ -10,12 +10,12 @@ use Rattle.words.specs.Output.{placed}
 use Rattle.words.proofs.Choosing.{either-line}
 use Rattle.words.proofs.Output.{placed-before, wrote-none}
 use Rattle.steps.specs.Steps.{Terminal, Stepped, bytesOf}
-use Rattle.steps.specs.Keys.{keyStep}
+use Rattle.keys.specs.Keys.{keyStep}
 use Rattle.terminal.specs.declared.Answer.{Answer}
 use Rattle.terminal.specs.declared.Answer.the-variants.{Done, WrongSize, WrongState, NoRoom, UnknownKey, Locked, TooLong, NoCell}
-use Rattle.terminal.specs.Runs.{stepsOf, fitting, sentBy}
-use Rattle.terminal.specs.Answers.{Outcome, numberOf, unchanged, did, gives, bytesSent}
-use Rattle.terminal.specs.Lines.{firstOf, hostLines, keyLines}
+use Rattle.terminal.specs.Runs.{stepsOf, fitting, bytesSentBy}
+use Rattle.terminal.specs.Answers.{Outcome, numberOf, unchanged, afterSteps, gives, bytesSent}
+use Rattle.terminal.specs.Tests.{firstOf, hostLines, keyLines}
 use Rattle.terminal.specs.Calls.{hostCall, keyCall}
 use Rattle.terminal.proofs.Running.{steps-count}
 use Rattle.frames.specs.Printing.{highFirst, lineOf, printed}
@@ -53,16 +53,16 @@ module _ (t : Terminal) (taken : ℕ) (steps : List Stepped) (one other : List �
   unfolding unchanged
   unchanged-alike answer = record { number = refl; taken = refl; terminal = refl; stored = refl; sends = refl; output = wrote-none 0 other .left }
 
-  did-alike : (answer : Answer) → Alike (did answer taken t one steps) (did answer taken t other steps) other
-  unfolding did
+  did-alike : (answer : Answer) → Alike (afterSteps answer taken t one steps) (afterSteps answer taken t other steps) other
+  unfolding afterSteps
   did-alike answer =
       record {
         number = refl;
         taken = refl;
         terminal = refl;
         stored = refl;
-        sends = placed-before (sentBy steps) other ∙ sym (placed-before (sentBy steps) one);
-        output = ap (λ (bytes : List ℕ). placed 0 bytes other) (sym (placed-before (sentBy steps) one));
+        sends = placed-before (bytesSentBy steps) other ∙ sym (placed-before (bytesSentBy steps) one);
+        output = ap (λ (bytes : List ℕ). placed 0 bytes other) (sym (placed-before (bytesSentBy steps) one));
       }
 
   gives-alike : (answer : Answer) → Alike (gives answer taken t one steps) (gives answer taken t other steps) other
@@ -77,22 +77,22 @@ module _ (t : Terminal) (taken : ℕ) (steps : List Stepped) (one other : List �
   gives-alike NoCell = unchanged-alike NoCell
 
 -- Of steps that fit, the bytes do; and they are no more steps than there are.
-fitting-sends : (room : ℕ) (steps : List Stepped) → length (sentBy (fitting room steps)) ≤ room
-unfolding fitting sentBy
+fitting-sends : (room : ℕ) (steps : List Stepped) → length (bytesSentBy (fitting room steps)) ≤ room
+unfolding fitting bytesSentBy
 fitting-sends room [] = omega arith
 fitting-sends room (step ∷ later) =
-    either-line (λ (done : List Stepped). length (sentBy done) ≤ room) (leb (length (bytesOf (step .message))) room) _ _
+    either-line (λ (done : List Stepped). length (bytesSentBy done) ≤ room) (leb (length (bytesOf (step .transmission))) room) _ _
     (λ fits.
-    let further = fitting-sends (room - length (bytesOf (step .message))) later in
-    simp length-append (omega (arith, further, leb-true (length (bytesOf (step .message))) room fits)))
+    let further = fitting-sends (room - length (bytesOf (step .transmission))) later in
+    simp length-append (omega (arith, further, leb-true (length (bytesOf (step .transmission))) room fits)))
     (λ exceeds. omega arith)
 
 fitting-few : (room : ℕ) (steps : List Stepped) → length (fitting room steps) ≤ length steps
 unfolding fitting
 fitting-few room [] = omega arith
 fitting-few room (step ∷ later) =
-    either-line (λ (done : List Stepped). length done ≤ length (step ∷ later)) (leb (length (bytesOf (step .message))) room) _ _
-    (λ fits. let further = fitting-few (room - length (bytesOf (step .message))) later in omega arith)
+    either-line (λ (done : List Stepped). length done ≤ length (step ∷ later)) (leb (length (bytesOf (step .transmission))) room) _ _
+    (λ fits. let further = fitting-few (room - length (bytesOf (step .transmission))) later in omega arith)
     (λ exceeds. omega arith)
 
 -- What a call sends and takes at most.
@@ -100,8 +100,8 @@ pub record Within (outcome : Outcome) (room most : ℕ) : Type 0 where
   pub sent : outcome .sent ≤ room
   pub taken : outcome .taken ≤ most
 
-gives-within : (answer : Answer) (taken : ℕ) (t : Terminal) (held : List ℕ) (steps : List Stepped) (room : ℕ) → length (sentBy steps) ≤ room → Within (gives answer taken t held steps) room taken
-unfolding gives did unchanged
+gives-within : (answer : Answer) (taken : ℕ) (t : Terminal) (held : List ℕ) (steps : List Stepped) (room : ℕ) → length (bytesSentBy steps) ≤ room → Within (gives answer taken t held steps) room taken
+unfolding gives afterSteps unchanged
 gives-within Done taken t held steps room fits = record { sent = fits; taken = omega arith }
 gives-within WrongSize taken t held steps room fits = record { sent = omega arith; taken = omega arith }
 gives-within WrongState taken t held steps room fits = record { sent = omega arith; taken = omega arith }

@@ -1,4 +1,4 @@
--- 256 calls are enough for a frame: no message of a host byte exceeds the output, so a call given 3 takes a byte at least.
+-- 256 calls are enough for a frame: no transmission of a host byte exceeds the output, so a call given 3 takes a byte at least.
 use mathlib.Core.Path.{_≡_, sym, ap, _∙_}
 use mathlib.Core.Bool.{true}
 use mathlib.Core.List.{List, [], _∷_, _++_}
@@ -8,16 +8,16 @@ use borrow.Author.Tests.{eqb-true, leb-true, ltb-true, ltb-false}
 use lib.Dec.{ltb}
 use lib.ListN.{length, length-drop}
 use Rattle.words.proofs.Choosing.{true-is-not-false, then-case, else-case, either-line, either-way, both}
-use Rattle.state.specs.Validity.{sizeFits}
+use Rattle.state.specs.Tests.{sizeFits}
 use Rattle.steps.specs.Steps.{Terminal, Stepped, bytesOf}
-use Rattle.steps.specs.Host.{hostStep}
+use Rattle.commands.specs.Host.{hostStep}
 use Rattle.commands.proofs.Lengths.{step-short}
 use Rattle.terminal.specs.Runs.{stepsOf, fitting}
-use Rattle.terminal.specs.Answers.{Outcome, numberOf, unchanged, did}
-use Rattle.terminal.specs.Lines.{exceedsRoom, passesLine2}
+use Rattle.terminal.specs.Answers.{Outcome, numberOf, unchanged, afterSteps}
+use Rattle.terminal.specs.Tests.{exceedsRoom, passesLine2}
 use Rattle.terminal.specs.Calls.{hostCall}
 use Rattle.terminal.proofs.Deciding.{fits-on, host-wrong-size, host-wrong-state, host-too-long, host-no-room, host-done}
-use Rattle.figures.specs.Hexadecimal.{bytesIn}
+use Rattle.numerals.specs.Hexadecimal.{bytesIn}
 use Rattle.frames.specs.Frames.{Frame, start, host, key, noFrame, frameIn, frameOf, restOf}
 use Rattle.frames.specs.Sessions.{Session, noSession, session, output, started, hosted, keyed, uncalled, callOf, frameDone, lineDone}
 use Rattle.frames.proofs.Calling.{output-long, host-within}
@@ -28,11 +28,11 @@ module _ (t : Terminal) (size : sizeFits (t .state .size) (t .page) ≡ true) wh
   unfolding exceedsRoom stepsOf fitting
   takes-one [] exceeds = absurd (true-is-not-false (sym exceeds))
   takes-one (byte ∷ later) exceeds =
-      let fits : length (bytesOf (hostStep byte t .message)) ≤ length output = omega (arith, step-short byte t size, output-long) in
+      let fits : length (bytesOf (hostStep byte t .transmission)) ≤ length output = omega (arith, step-short byte t size, output-long) in
       omega (arith, ap (length {A = Stepped}) (fits-on (length output) (hostStep byte t) (stepsOf (hostStep byte t .terminal) later) fits))
 
 pub three-takes : (t : Terminal) (bytes : List ℕ) → hostCall t bytes output .number ≡ 3 → 0 < hostCall t bytes output .taken
-unfolding unchanged did numberOf
+unfolding unchanged afterSteps numberOf
 three-takes t bytes three =
     either-way (sizeFits (t .state .size) (t .page))
     (λ size. either-way (passesLine2 t)

@@ -10,10 +10,10 @@ use native.Mathlib.Omega.{arith}
 use lib.ListN.{length, take, set, length-append, length-set}
 use lib.Seq.{take-suc-set}
 use Rattle.words.proofs.Choosing.{then-case, else-case, either-line, either-way, less-or-not, both}
-use Rattle.figures.specs.Hexadecimal.{isHexadecimal, bytesIn, pairsOf}
+use Rattle.numerals.specs.Hexadecimal.{isHexadecimal, bytesIn, pairsOf}
 use Rattle.frames.specs.Frames.{noFrame, frameIn, frameOf}
 use Rattle.frames.specs.Held.{longer, lineIn, Collected}
-use Rattle.figures.proofs.Digits.{pairs-least}
+use Rattle.numerals.proofs.Digits.{pairs-least}
 use Rattle.frames.proofs.Framing.{no-bytes, too-many-bytes}
 
 no-bytes-in : bytesIn [] ≡ []

@@ -10,13 +10,13 @@ use lib.Seq.{drop-drop}
 use Rattle.words.specs.Output.{placed}
 use Rattle.words.proofs.Choosing.{then-case, else-case, either-line}
 use Rattle.words.proofs.Output.{placed-before}
-use Rattle.figures.specs.Hexadecimal.{bytesIn}
+use Rattle.numerals.specs.Hexadecimal.{bytesIn}
 use Rattle.frames.specs.declared.Kind.{Kind}
 use Rattle.frames.specs.declared.Kind.the-variants.{Start, Host, Key, Other}
 use Rattle.frames.specs.declared.Printed.{Printed}
 use Rattle.frames.specs.Frames.{Frame, host, frameIn, frameOf, restOf}
-use Rattle.frames.specs.Sessions.{Session, Call, Done, callOf, frameDone, lineDone}
-use Rattle.frames.specs.Held.{kindOf, frameAt, sessionIn, Lent, Did}
+use Rattle.frames.specs.Sessions.{Session, FrameCall, Done, callOf, frameDone, lineDone}
+use Rattle.frames.specs.Held.{kindOf, frameAt, sessionIn, Lent, CallDone}
 
 -- The place to carry on from leaves the rest of the frame.
 rest-at : (kind : Kind) (line : List ℕ) (from taken : ℕ) → restOf (frameAt kind line from) taken ≡ frameAt kind line (from + taken)
@@ -51,8 +51,8 @@ module _ (line buffer : List ℕ) where
   all-to-come is says s = (λ i. toCome (is i) (says i) 0 1 s) ∙ ap (λ (frame : Frame). frameDone 256 frame s) (stands (bytesIn line))
 
 -- One call, and then there is more or there is not.
-module _ (kind : Kind) (line : List ℕ) (calls : ℕ) (s : Session) {from : ℕ} {before after : Lent} {r : Printed} (fewer : calls < 256) (did : Did (callOf (frameAt kind line from) s) from before r after) where
-  abbrev call : Call
+module _ (kind : Kind) (line : List ℕ) (calls : ℕ) (s : Session) {from : ℕ} {before after : Lent} {r : Printed} (fewer : calls < 256) (did : CallDone (callOf (frameAt kind line from) s) from before r after) where
+  abbrev call : FrameCall
   call = callOf (frameAt kind line from) s
 
   abbrev left : Session

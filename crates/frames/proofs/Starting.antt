@@ -16,7 +16,7 @@ use Rattle.page.specs.Page.{Page, pageOf}
 use Rattle.state.specs.declared.Size.{Size}
 use Rattle.state.specs.declared.State.{State}
 use Rattle.state.specs.State.{freshState, zeroState}
-use Rattle.state.specs.Validity.{listedSize, sizeFits}
+use Rattle.state.specs.Tests.{listedSize, sizeFits}
 use Rattle.state.proofs.Keeping.{size-bounds}
 use Rattle.commands.proofs.Laws.{erased-is-fresh}
 use Rattle.terminal.specs.declared.Answer.the-variants.{WrongSize}
@@ -27,7 +27,7 @@ use Rattle.terminal.proofs.Deciding.{start-wrong-size, start-leaves}
 use Rattle.frames.specs.Frames.{start}
 use Rattle.frames.specs.Printing.{printed}
 use Rattle.frames.specs.Sessions.{Session, session, lentPage, started, callOf}
-use Rattle.frames.specs.Held.{kept, charactersOf, marksOf, sessionIn, Lent, lent, Enough, Did}
+use Rattle.frames.specs.Held.{kept, charactersOf, marksOf, sessionIn, Lent, lent, Enough, CallDone}
 use Rattle.frames.proofs.Lending.{placed-front, held-again}
 use Rattle.frames.proofs.Calling.{printed-same}
 use Rattle.frames.proofs.Answering.{no-session-in, did-as}
@@ -120,7 +120,7 @@ module _ (rows columns cells from end : ℕ) (before : Lent) (enough : Enough be
       (printed-same (given reply (pageOf [] []) (before .out)) one number state stored (ap (λ (n : ℕ). take n (before .out)) sent ∙ sym none))
       (wrote (pageOf [] []))
 
-  good-did : listedSize size ≡ true → Did (started (fresh size)) from before (record { held = record { going = true; cells = cells; state = reply .state }; end = end; from = from; more = false }) whole
+  good-did : listedSize size ≡ true → CallDone (started (fresh size)) from before (record { held = record { going = true; cells = cells; state = reply .state }; end = end; from = from; more = false }) whole
   unfolding started kept charactersOf marksOf if_then_else_
   good-did listed =
       let told = is ∙ good-start size _ sizes listed in
@@ -145,7 +145,7 @@ module _ (rows columns cells from end : ℕ) (before : Lent) (enough : Enough be
         going = (λ i. sessionIn (held i) (all-characters i) (all-marks i)) ∙ held-again (fresh size .terminal) (before .characters) (before .marks) (marks-long ∙ sym long);
       }
 
-  refused-did : listedSize size ≡ false → (zero : State) → zero ≡ zeroState → Did (started (unchanged WrongSize (unstarted (lentPage rows columns)) [])) from before (record { held = record { going = false; cells = 0; state = zero }; end = end; from = from; more = false }) whole
+  refused-did : listedSize size ≡ false → (zero : State) → zero ≡ zeroState → CallDone (started (unchanged WrongSize (unstarted (lentPage rows columns)) [])) from before (record { held = record { going = false; cells = 0; state = zero }; end = end; from = from; more = false }) whole
   unfolding started kept charactersOf marksOf if_then_else_ unchanged numberOf
   refused-did unlisted zero is-zero =
       let told = is ∙ refused-start size _ sizes unlisted in
@@ -169,14 +169,14 @@ module _ (rows columns cells from end : ℕ) (before : Lent) (enough : Enough be
   unfolding unchanged numberOf
   refused-number unlisted = ap (λ (o : Outcome). o .number) (is ∙ refused-start size _ sizes unlisted)
 
-  pub started-well : numberOf (reply .answer) ≡ 0 → Did (callOf (start rows columns) s) from before (record { held = record { going = true; cells = cells; state = reply .state }; end = end; from = from; more = false }) whole
+  pub started-well : numberOf (reply .answer) ≡ 0 → CallDone (callOf (start rows columns) s) from before (record { held = record { going = true; cells = cells; state = reply .state }; end = end; from = from; more = false }) whole
   unfolding callOf
   started-well good =
       either-way (listedSize size)
       (λ listed. did-as (ap started (good-start size (lentPage rows columns) (lent-sizes rows columns) listed)) (good-did listed))
       (λ unlisted. absurd (omega (arith, good, refused-number unlisted)))
 
-  pub started-badly : (numberOf (reply .answer) ≡ 0 → ⊥) → (zero : State) → zero ≡ zeroState → Did (callOf (start rows columns) s) from before (record { held = record { going = false; cells = 0; state = zero }; end = end; from = from; more = false }) whole
+  pub started-badly : (numberOf (reply .answer) ≡ 0 → ⊥) → (zero : State) → zero ≡ zeroState → CallDone (callOf (start rows columns) s) from before (record { held = record { going = false; cells = 0; state = zero }; end = end; from = from; more = false }) whole
   unfolding callOf
   started-badly bad zero is-zero =
       either-way (listedSize size)

@@ -4,7 +4,7 @@ use Prim.Native.Nat.{ℕ, _+_, _*_}
 use lib.Dec.{eqb, leb}
 use lib.ListN.{length, getD, drop}
 use Rattle.words.specs.Choice.{if_then_else_, _and_}
-use Rattle.figures.specs.Hexadecimal.{bytesIn}
+use Rattle.numerals.specs.Hexadecimal.{bytesIn}
 
 pub data Frame : Type 0 where
   start : ℕ → ℕ → Frame

@@ -14,7 +14,7 @@ use Rattle.frames.specs.declared.Kind.the-variants.{Start, Host, Key, Ot
 use Rattle.frames.specs.declared.Held.{Held}
 use Rattle.frames.specs.declared.Printed.{Printed}
 use Rattle.frames.specs.Frames.{Frame, start, host, key, noFrame}
-use Rattle.frames.specs.Sessions.{Session, noSession, session, Call}
+use Rattle.frames.specs.Sessions.{Session, noSession, session, FrameCall}
 use Rattle.frames.specs.Transcript.{SoFar}
 
 -- The room for a line is 512 bytes. Of a longer line only that it is longer is kept (the length 513), and it is read as an empty one:
@@ -89,7 +89,7 @@ pub record Enough (before : Lent) : Type 0 where
   pub text : 131087 ≤ length (before .text)
 
 -- The code did this call.
-pub record Did (call : Call) (from : ℕ) (before : Lent) (r : Printed) (after : Lent) : Type 0 where
+pub record CallDone (call : FrameCall) (from : ℕ) (before : Lent) (r : Printed) (after : Lent) : Type 0 where
   pub held : r .held ≡ kept (call .after)
   pub characters : after .characters ≡ placed 0 (charactersOf (call .after)) (before .characters)
   pub marks : after .marks ≡ placed 0 (marksOf (call .after)) (before .marks)

@@ -2,7 +2,7 @@
 use mathlib.Core.List.{List, [], _∷_, _++_}
 use Prim.Native.Nat.{ℕ, zero, suc, _/_, _%_}
 use Rattle.terminal.specs.Answers.{Outcome, bytesSent}
-use Rattle.figures.specs.Hexadecimal.{hexOf}
+use Rattle.numerals.specs.Hexadecimal.{hexOf}
 
 -- A number in so many bytes, the high byte first.
 unfoldable pub highFirst : ℕ → ℕ → List ℕ

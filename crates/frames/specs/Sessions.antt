@@ -25,7 +25,7 @@ unfoldable pub output : List ℕ
 output = replicate 65536 0
 
 -- One call of a frame: the session after it, the line printed, the bytes sent, the host bytes taken, and whether to carry on.
-pub record Call : Type 0 where
+pub record FrameCall : Type 0 where
   pub after : Session
   pub text : List ℕ
   pub sent : List ℕ
@@ -33,7 +33,7 @@ pub record Call : Type 0 where
   pub more : Bool
 
 -- A good start begins a session; a refused one ends the session before it.
-unfoldable pub started : Outcome → Call
+unfoldable pub started : Outcome → FrameCall
 started outcome =
     record {
       after = if eqb (outcome .number) 0 then session (outcome .terminal) else noSession;
@@ -44,7 +44,7 @@ started outcome =
     }
 
 -- On 3 the rest of a host frame is to be carried on with.
-unfoldable pub hosted : Outcome → Call
+unfoldable pub hosted : Outcome → FrameCall
 hosted outcome =
     record {
       after = session (outcome .terminal);
@@ -54,13 +54,13 @@ hosted outcome =
       more = eqb (outcome .number) 3;
     }
 
-unfoldable pub keyed : Outcome → Call
+unfoldable pub keyed : Outcome → FrameCall
 keyed outcome = record { after = session (outcome .terminal); text = printed outcome; sent = bytesSent outcome; taken = 0; more = false }
 
-unfoldable pub uncalled : Session → Call
+unfoldable pub uncalled : Session → FrameCall
 uncalled before = record { after = before; text = refusal; sent = []; taken = 0; more = false }
 
-unfoldable pub callOf : Frame → Session → Call
+unfoldable pub callOf : Frame → Session → FrameCall
 callOf (start rows columns) before = started (startCall (record { rows = rows; columns = columns }) (lentPage rows columns))
 callOf (host bytes) (session t) = hosted (hostCall t bytes output)
 callOf (host bytes) noSession = uncalled noSession

@@ -1,4 +1,5 @@
 // The frames of the transcript program: a line read, its frame, and what its calls print. What they mean is defined in specs/.
+use page::Mark;
 use state::State;
 use terminal::Reply;
 ghost use mathlib.Core.Path.{_≡_};
@@ -8,11 +9,11 @@ ghost use lib.ListN.{length, take, drop, set};
 ghost use Rattle.words.specs.Output.{Wrote, placed};
 ghost use Rattle.page.specs.Page.{Page};
 ghost use Rattle.terminal.specs.Answers.{given};
-ghost use Rattle.figures.specs.Hexadecimal.{bytesIn};
+ghost use Rattle.numerals.specs.Hexadecimal.{bytesIn};
 ghost use Rattle.frames.specs.Frames.{frameIn, frameOf, start, host, key};
 ghost use Rattle.frames.specs.Printing.{lineOf, printed, refusal};
 ghost use Rattle.frames.specs.Sessions.{Session, callOf, uncalled};
-ghost use Rattle.frames.specs.Held.{longer, lineIn, kindOf, frameAt, kept, sessionIn, lent, Enough, Did};
+ghost use Rattle.frames.specs.Held.{longer, lineIn, kindOf, frameAt, kept, sessionIn, lent, Enough, CallDone};
 
 // What a line says. The host bytes stand in the line from place 1 to before the place named.
 pub enum Kind {
@@ -97,10 +98,10 @@ pub fn bytes(line: &mut [u8], digits: usize) -> usize
     if 512 < digits {
         return 0;
     }
-    if !figures::is_hexadecimal(&line[..digits]) {
+    if !numerals::is_hexadecimal(&line[..digits]) {
         return 0;
     }
-    figures::decode(line, digits)
+    numerals::decode(line, digits)
 }
 
 // Its frame.
@@ -114,11 +115,11 @@ pub fn frame(line: &mut [u8], digits: usize) -> Kind
 
 // A line of these bytes.
 fn put_line(text: &mut [u8], head: &[u8], message: &[u8]) -> usize
-    requires { ⌜ 2 * length (now head) + 2 * length (now message) < length (now text) ⌝ }
-    ensures { λ r. ⌜ Wrote 0 (lineOf (now (head .entry) ++ now (message .entry))) (now (text .entry)) r (now (text .exit)) ⌝ }
+    requires { ⌜ 2 * length (now head) + 2 * length (now transmission) < length (now text) ⌝ }
+    ensures { λ r. ⌜ Wrote 0 (lineOf (now (head .entry) ++ now (transmission .entry))) (now (text .entry)) r (now (text .exit)) ⌝ }
 {
-    let middle = figures::put_hex(text, 0, head);
-    let end = figures::put_hex(text, middle, message);
+    let middle = numerals::put_hex(text, 0, head);
+    let end = numerals::put_hex(text, middle, message);
     output::put_byte(text, end, 0x0A)
 }
 
@@ -154,7 +155,7 @@ fn print_refusal(text: &mut [u8]) -> usize
     ensures { λ r. ⌜ Wrote 0 refusal (now (text .entry)) r (now (text .exit)) ⌝ }
 {
     let head = [0xFF];
-    let end = figures::put_hex(text, 0, &head);
+    let end = numerals::put_hex(text, 0, &head);
     output::put_byte(text, end, 0x0A)
 }
 
@@ -181,7 +182,7 @@ fn settled(held: Held) -> Held
 // No call is made, and the session stays.
 fn no_call(held: Held, from: usize, text: &mut [u8]) -> Printed
     requires { ⌜ 131087 ≤ length (now text) ⌝ }
-    ensures { λ r. ⌜ ((characters marks out : List ℕ) → length characters ≡ 7680 → length marks ≡ 7680 → Did (uncalled (sessionIn held characters marks)) from (lent characters marks out (now (text .entry))) r (lent characters marks out (now (text .exit)))) ⌝ }
+    ensures { λ r. ⌜ ((characters marks out : List ℕ) → length characters ≡ 7680 → length marks ≡ 7680 → CallDone (uncalled (sessionIn held characters marks)) from (lent characters marks out (now (text .entry))) r (lent characters marks out (now (text .exit)))) ⌝ }
 {
     let end = print_refusal(text);
     Printed {
@@ -197,12 +198,12 @@ fn start_call(
     columns: u8,
     from: usize,
     characters: &mut [u8],
-    marks: &mut [u8],
+    marks: &mut [Mark],
     out: &[u8],
     text: &mut [u8],
 ) -> Printed
     requires { ⌜ Enough (lent (now characters) (now marks) (now out) (now text)) ⌝ }
-    ensures { λ r. ⌜ ((before : Session) → Did (callOf (start rows columns) before) from (lent (now (characters .entry)) (now (marks .entry)) (now (out .entry)) (now (text .entry))) r (lent (now (characters .exit)) (now (marks .exit)) (now (out .entry)) (now (text .exit)))) ⌝ }
+    ensures { λ r. ⌜ ((before : Session) → CallDone (callOf (start rows columns) before) from (lent (now (characters .entry)) (now (marks .entry)) (now (out .entry)) (now (text .entry))) r (lent (now (characters .exit)) (now (marks .exit)) (now (out .entry)) (now (text .exit)))) ⌝ }
 {
     let cells = least(rows as usize * columns as usize, 7680);
     let reply = terminal::start(
@@ -245,13 +246,13 @@ fn host_call(
     from: usize,
     to: usize,
     characters: &mut [u8],
-    marks: &mut [u8],
+    marks: &mut [Mark],
     out: &mut [u8],
     text: &mut [u8],
 ) -> Printed
     requires { ⌜ Enough (lent (now characters) (now marks) (now out) (now text)) ⌝ }
     requires { ⌜ (length (now line) ≡ 512) × (from ≤ 512) ⌝ }
-    ensures { λ r. ⌜ Did (callOf (host (drop from (take to (now (line .entry))))) (sessionIn held (now (characters .entry)) (now (marks .entry)))) from (lent (now (characters .entry)) (now (marks .entry)) (now (out .entry)) (now (text .entry))) r (lent (now (characters .exit)) (now (marks .exit)) (now (out .exit)) (now (text .exit))) ⌝ }
+    ensures { λ r. ⌜ CallDone (callOf (host (drop from (take to (now (line .entry))))) (sessionIn held (now (characters .entry)) (now (marks .entry)))) from (lent (now (characters .entry)) (now (marks .entry)) (now (out .entry)) (now (text .entry))) r (lent (now (characters .exit)) (now (marks .exit)) (now (out .exit)) (now (text .exit))) ⌝ }
 {
     if !held.going {
         return no_call(held, from, text);
@@ -287,12 +288,12 @@ fn key_call(
     number: u16,
     from: usize,
     characters: &mut [u8],
-    marks: &mut [u8],
+    marks: &mut [Mark],
     out: &mut [u8],
     text: &mut [u8],
 ) -> Printed
     requires { ⌜ Enough (lent (now characters) (now marks) (now out) (now text)) ⌝ }
-    ensures { λ r. ⌜ Did (callOf (key number) (sessionIn held (now (characters .entry)) (now (marks .entry)))) from (lent (now (characters .entry)) (now (marks .entry)) (now (out .entry)) (now (text .entry))) r (lent (now (characters .exit)) (now (marks .exit)) (now (out .exit)) (now (text .exit))) ⌝ }
+    ensures { λ r. ⌜ CallDone (callOf (key number) (sessionIn held (now (characters .entry)) (now (marks .entry)))) from (lent (now (characters .entry)) (now (marks .entry)) (now (out .entry)) (now (text .entry))) r (lent (now (characters .exit)) (now (marks .exit)) (now (out .exit)) (now (text .exit))) ⌝ }
 {
     if !held.going {
         return no_call(held, from, text);
@@ -327,13 +328,13 @@ pub fn call(
     line: &[u8],
     from: usize,
     characters: &mut [u8],
-    marks: &mut [u8],
+    marks: &mut [Mark],
     out: &mut [u8],
     text: &mut [u8],
 ) -> Printed
     requires { ⌜ Enough (lent (now characters) (now marks) (now out) (now text)) ⌝ }
     requires { ⌜ (length (now line) ≡ 512) × (from ≤ 512) ⌝ }
-    ensures { λ r. ⌜ Did (callOf (frameAt kind (now (line .entry)) from) (sessionIn held (now (characters .entry)) (now (marks .entry)))) from (lent (now (characters .entry)) (now (marks .entry)) (now (out .entry)) (now (text .entry))) r (lent (now (characters .exit)) (now (marks .exit)) (now (out .exit)) (now (text .exit))) ⌝ }
+    ensures { λ r. ⌜ CallDone (callOf (frameAt kind (now (line .entry)) from) (sessionIn held (now (characters .entry)) (now (marks .entry)))) from (lent (now (characters .entry)) (now (marks .entry)) (now (out .entry)) (now (text .entry))) r (lent (now (characters .exit)) (now (marks .exit)) (now (out .exit)) (now (text .exit))) ⌝ }
     ensures { λ r. ⌜ r .from ≤ 512 ⌝ }
 {
     match kind {

@@ -24,10 +24,11 @@ use Rattle.state.specs.State.{unlocked}
 use Rattle.state.specs.Moves.{upBy, downBy, rightBy, leftBy}
 use Rattle.blocks.specs.Blocks.{block}
 use Rattle.steps.specs.Steps.{Terminal, Stepped, goesTo, stores, cursorCell}
-use Rattle.steps.specs.Commands.{sendBlock}
-use Rattle.steps.specs.Seen.{free}
-use Rattle.steps.specs.Keys.{isTyping, cellsFrom, startHere, endHere, goneTo, typedStep, toNextField, toPreviousField, toFirstUnprotected, fieldBlanked, restShifted, keyStep}
-use Rattle.steps.proofs.Messages.{silent-is-no-full, silent-is-no-changed, silent-is-no-report, told-full, told-changed, block-is-no-report}
+use Rattle.sending.specs.Sending.{sendBlock}
+use Rattle.steps.specs.Seen.{unprotectedAt}
+use Rattle.keys.specs.Keys.{isTyping, cellsFrom, goneTo, typedStep, toNextField, toPreviousField, toFirstUnprotected, fieldBlanked, restShifted, keyStep}
+use Rattle.steps.specs.Seen.{startHere, endHere}
+use Rattle.steps.proofs.Transmissions.{silent-is-no-full, silent-is-no-changed, silent-is-no-report, told-full, told-changed, block-is-no-report}
 use Rattle.keys.proofs.Claims.{KeyStores, no-cell, typed-cell, whole-field, rest-of-field, KeyAlways}
 use Rattle.steps.specs.Claims.{ProtectedKept}
 
@@ -43,8 +44,8 @@ blockKey true = 267
 blockKey false = 266
 
 -- The cursor's field, in any state.
-pub field-free : (t : Terminal) → free t (cursorCell (t .state)) ≡ true → FreeAround (free t) (t .state .size .columns) (length (t .page .marks)) (cursorCell (t .state))
-field-free t = free-around (free t) (t .state .size .columns) (length (t .page .marks)) (cursorCell (t .state))
+pub field-free : (t : Terminal) → unprotectedAt t (cursorCell (t .state)) ≡ true → FreeAround (unprotectedAt t) (t .state .size .columns) (length (t .page .marks)) (cursorCell (t .state))
+field-free t = free-around (unprotectedAt t) (t .state .size .columns) (length (t .page .marks)) (cursorCell (t .state))
 
 module _ (key : ℕ) (t : Terminal) where
   abbrev Always : Stepped → Type 0
@@ -54,7 +55,7 @@ module _ (key : ℕ) (t : Terminal) where
   line {test} {a} {b} first rest = either-line Always test a b first (λ _. rest)
 
   -- The kinds of steps.
-  puts : {cells : List ℕ} (s : State) (page : Page) → KeyStores key t cells → ((key ≡ 268 → ⊥) → s .locks ≡ t .state .locks) → ((cell : ℕ) → free t cell ≡ false → ProtectedKept (t .page) page cell) → ((cell : ℕ) → unprotected (page .marks) cell ≡ free t cell) → Always (stores cells false s page)
+  puts : {cells : List ℕ} (s : State) (page : Page) → KeyStores key t cells → ((key ≡ 268 → ⊥) → s .locks ≡ t .state .locks) → ((cell : ℕ) → unprotectedAt t cell ≡ false → ProtectedKept (t .page) page cell) → ((cell : ℕ) → unprotected (page .marks) cell ≡ unprotectedAt t cell) → Always (stores cells false s page)
   puts s page names locks protected protection = record {
     stored = names;
     full-block = λ bytes e. absurd (silent-is-no-full bytes e);
@@ -96,11 +97,11 @@ module _ (key : ℕ) (t : Terminal) where
       }
 
   -- Storing: no cell that is stored is protected.
-  puts-part : {change : List ℕ → List ℕ} → KeepsPart change → (from to : ℕ) → from < to → ((cell : ℕ) → from ≤ cell → cell < to → free t cell ≡ true) → KeyStores key t (cellsFrom from to) → (s : State) → s .locks ≡ t .state .locks → Always (stores (cellsFrom from to) false s (partStored change from to (t .page)))
-  puts-part {change} keeps from to some all-free names s locks =
+  puts-part : {change : List ℕ → List ℕ} → KeepsPart change → (from to : ℕ) → from < to → ((cell : ℕ) → from ≤ cell → cell < to → unprotectedAt t cell ≡ true) → KeyStores key t (cellsFrom from to) → (s : State) → s .locks ≡ t .state .locks → Always (stores (cellsFrom from to) false s (partStored change from to (t .page)))
+  puts-part {change} keeps from to some all-unprotected names s locks =
       puts s (partStored change from to (t .page)) names (λ _. locks)
       (λ cell p.
-      let outside : from ≤ cell → cell < to → ⊥ = λ low high. not-both (all-free cell low high) p in
+      let outside : from ≤ cell → cell < to → ⊥ = λ low high. not-both (all-unprotected cell low high) p in
       record {
         character = λ here. outside-part from to change (t .page .characters) some (keeps .size) cell here outside;
         mark = untagged from to (t .page .marks) cell outside;
@@ -124,7 +125,7 @@ module _ (key : ℕ) (t : Terminal) where
   blanked-always asked =
       line (λ here.
       let field = field-free t here in
-      puts-part blanked-keeps (startHere t) (endHere t) (omega arith) (field .all-free) (whole-field here asked) _ (gone-keeps-locks _ (t .state)))
+      puts-part blanked-keeps (startHere t) (endHere t) (omega arith) (field .all-unprotected) (whole-field here asked) _ (gone-keeps-locks _ (t .state)))
       stays
 
   shifted-always : {change : List ℕ → List ℕ} → KeepsPart change → (key ≡ 264) ⊎ (key ≡ 265) → Always (restShifted change t)
@@ -132,7 +133,7 @@ module _ (key : ℕ) (t : Terminal) where
   shifted-always keeps asked =
       line (λ here.
       let field = field-free t here in
-      puts-part keeps (cursorCell (t .state)) (endHere t) (field .high) (λ cell low high. field .all-free cell (omega arith) high) (rest-of-field here asked) (t .state) refl)
+      puts-part keeps (cursorCell (t .state)) (endHere t) (field .high) (λ cell low high. field .all-unprotected cell (omega arith) high) (rest-of-field here asked) (t .state) refl)
       stays
 
   pub key-always : KeyAlways key t (keyStep key t)

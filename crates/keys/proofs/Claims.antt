@@ -9,23 +9,24 @@ use Rattle.page.specs.Marks.{isModified, unprotected}
 use Rattle.page.specs.Page.{Page}
 use Rattle.steps.specs.Steps.{Terminal, report, fullBlock, changedBlock, Stepped, cursorCell}
 use Rattle.steps.specs.Claims.{SendsBlock, Sound, ProtectedKept}
-use Rattle.steps.specs.Seen.{free}
-use Rattle.steps.specs.Keys.{isTyping, cellsFrom, startHere, endHere}
+use Rattle.steps.specs.Seen.{unprotectedAt}
+use Rattle.keys.specs.Keys.{isTyping, cellsFrom}
+use Rattle.steps.specs.Seen.{startHere, endHere}
 
 -- The cells that a key may store: none; and where the cursor's cell is unprotected, that cell, for a typed character;
 -- its field, for 263; from the cursor to its field's end, for 264 and 265.
 pub data KeyStores (key : ℕ) (t : Terminal) : List ℕ → Type 0 where
   no-cell : KeyStores key t []
-  typed-cell : free t (cursorCell (t .state)) ≡ true → isTyping key ≡ true → KeyStores key t (cursorCell (t .state) ∷ [])
-  whole-field : free t (cursorCell (t .state)) ≡ true → key ≡ 263 → KeyStores key t (cellsFrom (startHere t) (endHere t))
-  rest-of-field : free t (cursorCell (t .state)) ≡ true → (key ≡ 264) ⊎ (key ≡ 265) → KeyStores key t (cellsFrom (cursorCell (t .state)) (endHere t))
+  typed-cell : unprotectedAt t (cursorCell (t .state)) ≡ true → isTyping key ≡ true → KeyStores key t (cursorCell (t .state) ∷ [])
+  whole-field : unprotectedAt t (cursorCell (t .state)) ≡ true → key ≡ 263 → KeyStores key t (cellsFrom (startHere t) (endHere t))
+  rest-of-field : unprotectedAt t (cursorCell (t .state)) ≡ true → (key ≡ 264) ⊎ (key ≡ 265) → KeyStores key t (cellsFrom (cursorCell (t .state)) (endHere t))
 
 -- In any state, valid or not, whatever the lengths of the two slices.
 pub record KeyAlways (key : ℕ) (t : Terminal) (step : Stepped) : Type 0 where
   pub stored : KeyStores key t (step .cells)
-  pub full-block : (bytes : List ℕ) → step .message ≡ fullBlock bytes → SendsBlock true (key ≡ 267) t step bytes
-  pub changed-block : (bytes : List ℕ) → step .message ≡ changedBlock bytes → SendsBlock false (key ≡ 266) t step bytes
-  pub no-report : (bytes : List ℕ) → step .message ≡ report bytes → ⊥
+  pub full-block : (bytes : List ℕ) → step .transmission ≡ fullBlock bytes → SendsBlock true (key ≡ 267) t step bytes
+  pub changed-block : (bytes : List ℕ) → step .transmission ≡ changedBlock bytes → SendsBlock false (key ≡ 266) t step bytes
+  pub no-report : (bytes : List ℕ) → step .transmission ≡ report bytes → ⊥
   pub not-refused : step .wasRefused ≡ false
   pub locks : (key ≡ 268 → ⊥) → step .terminal .state .locks ≡ t .state .locks
   pub protected : (cell : ℕ) → unprotected (t .page .marks) cell ≡ false → ProtectedKept (t .page) (step .terminal .page) cell

@@ -7,17 +7,17 @@ use lib.ListN.{length}
 use Rattle.words.specs.Choice.{if_then_else_, _and_, _or_, _is_to_}
 use Rattle.words.specs.Lists.{within, eachFrom, numbersFrom, onPart, selected}
 use Rattle.page.specs.Marks.{unprotected}
-use Rattle.page.specs.Page.{Page, pageOf, typed, tagged, blanked, closedUp, movedRight, sentMark, modifiedCleared}
+use Rattle.page.specs.Page.{Page, pageOf, typed, tagged, blanked, closedUp, movedRight, markAfterBlock, modifiedCleared}
 use Rattle.places.specs.Places.{placeOf}
 use Rattle.output.specs.Decimal.{decimal, placeBytes}
 use Rattle.fields.specs.Fields.{opensStretch, joined, startsField, fieldStart, endFrom, fieldEnd, fieldsFrom, fieldsOf}
-use Rattle.fields.specs.Searches.{orElse, firstField, lastField, firstAfter, lastBefore, nextField, previousField, firstFree, firstUnprotected, nextUnprotected}
-use Rattle.blocks.specs.Blocks.{entryBytes, encode, entryOf, someModified, isSent, entriesSent, block}
-use Rattle.state.specs.State.{freshState, withCursor, withLocks, unlocked}
+use Rattle.fields.specs.Searches.{orElse, firstField, lastField, firstAfter, lastBefore, nextField, previousField, firstUnprotectedFrom, firstUnprotected, nextUnprotected}
+use Rattle.blocks.specs.Blocks.{entryBytes, encode, entryOf, someModified, isInBlock, entriesSent, block}
+use Rattle.state.specs.State.{freshState, withCursor, cursorAt, withLocks, unlocked}
 use Rattle.state.specs.Moves.{backBy, onBy, upBy, downBy, rightBy, leftBy}
-use Rattle.steps.specs.Steps.{Terminal, bytesOf, blockMessage}
-use Rattle.steps.specs.Commands.{sendBlock}
-use Rattle.steps.specs.Keys.{isTyping, isEditing, isFieldMove, isKnown, isLocked, isLockedOut, noField, lacksCell, goneTo, typedStep, toNextField, toPreviousField, toFirstUnprotected, fieldBlanked, restShifted, keyStep}
+use Rattle.steps.specs.Steps.{Terminal, bytesOf, blockTransmission}
+use Rattle.sending.specs.Sending.{sendBlock}
+use Rattle.keys.specs.Keys.{isTyping, isEditing, isFieldMove, isKnown, isLocked, isLockedOut, noField, lacksCell, goneTo, typedStep, toNextField, toPreviousField, toFirstUnprotected, fieldBlanked, restShifted, keyStep}
 
 -- A page of 2 rows by 8 columns, small enough to be shown whole. No call takes its size, which line 1 refuses; the steps go by
 -- the same rules on any R and C.
@@ -36,7 +36,7 @@ marks =
 
 -- The cursor at a row and a column, nothing locked.
 on : Page → ℕ → ℕ → Terminal
-on page row column = record { state = withCursor (freshState (record { rows = 2; columns = 8 })) row column; page = page }
+on page row column = record { state = withCursor (freshState (record { rows = 2; columns = 8 })) (cursorAt row column); page = page }
 
 -- What a key leaves, the cells that it stores and the bytes that it sends.
 record Seen : Type 0 where
@@ -58,7 +58,7 @@ asRun e =
       row = step .terminal .state .cursor .row;
       column = step .terminal .state .cursor .column;
       count = length (step .cells);
-      sent = bytesOf (step .message);
+      sent = bytesOf (step .transmission);
       page = step .terminal .page;
     }
 
@@ -194,14 +194,14 @@ examples =
 
 -- Each key leaves what the example says.
 as-worked-out : map asRun examples ≡ map (λ (e : Example). e .seen) examples
-unfolding characters marks on asRun goes stored sent closed goesOnClosed examples if_then_else_ _and_ _or_ _is_to_ within eachFrom numbersFrom onPart selected unprotected typed tagged blanked closedUp movedRight sentMark modifiedCleared placeOf decimal placeBytes opensStretch joined startsField fieldStart endFrom fieldEnd fieldsFrom fieldsOf orElse firstField lastField firstAfter lastBefore nextField previousField firstFree firstUnprotected nextUnprotected entryBytes encode entryOf someModified isSent entriesSent block unlocked backBy onBy upBy downBy rightBy leftBy bytesOf blockMessage sendBlock isTyping goneTo typedStep toNextField toPreviousField toFirstUnprotected fieldBlanked restShifted keyStep
+unfolding characters marks on asRun goes stored sent closed goesOnClosed examples if_then_else_ _and_ _or_ _is_to_ within eachFrom numbersFrom onPart selected unprotected typed tagged blanked closedUp movedRight markAfterBlock modifiedCleared placeOf decimal placeBytes opensStretch joined startsField fieldStart endFrom fieldEnd fieldsFrom fieldsOf orElse firstField lastField firstAfter lastBefore nextField previousField firstUnprotectedFrom firstUnprotected nextUnprotected entryBytes encode entryOf someModified isInBlock entriesSent block unlocked backBy onBy upBy downBy rightBy leftBy bytesOf blockTransmission sendBlock isTyping goneTo typedStep toNextField toPreviousField toFirstUnprotected fieldBlanked restShifted keyStep
 as-worked-out = refl
 
 -- 268: soft lock and message are cleared; the manual lock, and all else, stays. It is the one key that a lock lets pass.
 locked : Bool → Bool → ℕ → Terminal
 locked manual soft message =
     let t = on (pageOf characters marks) 1 3 in
-    record { state = withLocks (t .state) manual soft message; page = t .page }
+    record { state = withLocks (t .state) (record { manual = manual; soft = soft; message = message }); page = t .page }
 
 unlocks : map (λ (t : Terminal). keyStep 268 t .terminal) (locked false true 1 ∷ locked true true 1 ∷ locked true false 0 ∷ []) ≡ (locked false false 0 ∷ locked true false 0 ∷ locked true false 0 ∷ [])
 unfolding characters marks on locked if_then_else_ _and_ _is_to_ isTyping unlocked keyStep

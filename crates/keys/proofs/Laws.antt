@@ -21,8 +21,9 @@ use Rattle.fields.proofs.Bounds.{start-of, end-of}
 use Rattle.steps.specs.declared.Step.{Step}
 use Rattle.steps.specs.Steps.{Terminal, Stepped, Valid, goesTo, stores, cursorCell}
 use Rattle.steps.specs.Told.{told, tells}
-use Rattle.steps.specs.Seen.{free}
-use Rattle.steps.specs.Keys.{noField, cellsFrom, startHere, endHere, ifFree, restShifted}
+use Rattle.steps.specs.Seen.{unprotectedAt}
+use Rattle.keys.specs.Keys.{noField, cellsFrom, ifUnprotected, restShifted}
+use Rattle.steps.specs.Seen.{startHere, endHere}
 use Rattle.steps.proofs.Measuring.{measured}
 
 -- The cursor's place, as the code finds it on a valid terminal.
@@ -51,14 +52,14 @@ run-counted from end starts ends = run-length from (end - from) ∙ sym (λ i. e
 
 module _ {t : Terminal} {place : Place} (here : Found t place) where
   -- What the code was told of the cursor's cell.
-  pub asked : {answer : Bool} → answer ≡ free t (place .cell) → free t (cursorCell (t .state)) ≡ answer
-  asked told = ap (free t) (sym (here .cell)) ∙ sym told
+  pub asked : {answer : Bool} → answer ≡ unprotectedAt t (place .cell) → unprotectedAt t (cursorCell (t .state)) ≡ answer
+  asked told = ap (unprotectedAt t) (sym (here .cell)) ∙ sym told
 
-  pub is-free : {answer : Bool} → answer ≡ free t (place .cell) → not answer ≡ false → free t (cursorCell (t .state)) ≡ true
+  pub is-free : {answer : Bool} → answer ≡ unprotectedAt t (place .cell) → not answer ≡ false → unprotectedAt t (cursorCell (t .state)) ≡ true
   is-free told is = asked told ∙ not-false _ is
 
   -- On a protected cell a key that stores does nothing.
-  pub stays : (stepped : Stepped) {answer : Bool} {step : Step} → answer ≡ free t (place .cell) → not answer ≡ true → told step (t .page) ≡ tells (goesTo (t .state) t) → told step (t .page) ≡ tells (ifFree t stepped)
+  pub stays : (stepped : Stepped) {answer : Bool} {step : Step} → answer ≡ unprotectedAt t (place .cell) → not answer ≡ true → told step (t .page) ≡ tells (goesTo (t .state) t) → told step (t .page) ≡ tells (ifUnprotected t stepped)
   unfolding if_then_else_
   stays stepped told is quiet = rw (asked told ∙ not-true _ is) quiet
 
@@ -83,7 +84,7 @@ module _ {t : Terminal} {place : Place} (here : Found t place) where
     pub end-is : end ≡ endHere t
     end-is = is ∙ ap (fieldEnd (unprotected (t .page .marks)) (t .state .size .columns) (length (t .page .marks))) (here .cell)
 
-    pub rest-shifted : (change : List ℕ → List ℕ) {step : Step} {page : Page} → free t (cursorCell (t .state)) ≡ true → ((cells : List ℕ) (page : Page) → length cells ≡ end - place .cell → told step page ≡ tells (stores cells false (t .state) page)) → page ≡ partStored change (place .cell) end (t .page) → told step page ≡ tells (restShifted change t)
+    pub rest-shifted : (change : List ℕ → List ℕ) {step : Step} {page : Page} → unprotectedAt t (cursorCell (t .state)) ≡ true → ((cells : List ℕ) (page : Page) → length cells ≡ end - place .cell → told step page ≡ tells (stores cells false (t .state) page)) → page ≡ partStored change (place .cell) end (t .page) → told step page ≡ tells (restShifted change t)
     unfolding restShifted if_then_else_
     rest-shifted change is-free stored left =
         rw (is-free, stored (cellsFrom (cursorCell (t .state)) (endHere t)) _ (run-counted _ _ (here .cell) end-is), left, here .cell, end-is)

@@ -10,7 +10,7 @@ use Rattle.page.specs.Page.{Page}
 use Rattle.steps.specs.declared.Step.{Step}
 use Rattle.steps.specs.Steps.{Terminal, bytesOf}
 use Rattle.steps.specs.Told.{told, tells, written}
-use Rattle.steps.specs.Keys.{isTyping, typedStep, toNextField, toPreviousField, toFirstUnprotected, fieldBlanked, restShifted, keyStep}
+use Rattle.keys.specs.Keys.{isTyping, typedStep, toNextField, toPreviousField, toFirstUnprotected, fieldBlanked, restShifted, keyStep}
 use Rattle.steps.proofs.Writing.{Silent, told-silent}
 
 key-silent : (key : ℕ) (t : Terminal) → (key ≡ 266 → ⊥) → (key ≡ 267 → ⊥) → Silent (keyStep key t)

@@ -7,7 +7,7 @@ use native.Mathlib.Omega.{arith}
 use lib.ListN.{length}
 use Rattle.words.specs.Choice.{if_then_else_}
 use Rattle.words.proofs.Choosing.{either-line}
-use Rattle.page.specs.Page.{partStored, sentMark}
+use Rattle.page.specs.Page.{partStored, markAfterBlock}
 use Rattle.page.proofs.Keeping.{KeepsPart, blanked-keeps, closed-up-keeps, moved-right-keeps}
 use Rattle.page.proofs.Protecting.{typed-modified, tagged-modified}
 use Rattle.places.specs.Places.{placeOf}
@@ -19,11 +19,12 @@ use Rattle.fields.proofs.Searching.{either-lands}
 use Rattle.fields.proofs.Theorems.{next-field-lands, previous-field-lands, first-unprotected-lands, next-unprotected-lands}
 use Rattle.state.specs.declared.State.{State}
 use Rattle.state.proofs.Keeping.{KeepsValid, up-keeps-valid, down-keeps-valid, right-keeps-valid, left-keeps-valid, cursor-keeps-valid, unlocked-keeps-valid}
-use Rattle.steps.specs.Steps.{Terminal, blockMessage, Stepped, goesTo, stores, cursorCell, Valid}
+use Rattle.steps.specs.Steps.{Terminal, blockTransmission, Stepped, goesTo, stores, cursorCell, Valid}
 use Rattle.steps.specs.Claims.{markLeft, Sound}
-use Rattle.steps.specs.Commands.{sendBlock}
-use Rattle.steps.specs.Seen.{free}
-use Rattle.steps.specs.Keys.{isTyping, cellsFrom, startHere, endHere, goneTo, typedStep, toNextField, toPreviousField, toFirstUnprotected, fieldBlanked, restShifted, keyStep}
+use Rattle.sending.specs.Sending.{sendBlock}
+use Rattle.steps.specs.Seen.{unprotectedAt}
+use Rattle.keys.specs.Keys.{isTyping, cellsFrom, goneTo, typedStep, toNextField, toPreviousField, toFirstUnprotected, fieldBlanked, restShifted, keyStep}
+use Rattle.steps.specs.Seen.{startHere, endHere}
 use Rattle.steps.proofs.Naming.{named-between, places-rise}
 use Rattle.steps.proofs.Storing.{typed-stored, part-stored}
 use Rattle.steps.proofs.Soundness.{cursor-on-page, goes-soundly, stores-soundly, clears-soundly}
@@ -32,8 +33,8 @@ use Rattle.keys.proofs.Claims.{Tags, KeySound}
 use Rattle.keys.proofs.Always.{field-free, key-always}
 
 -- Both blocks clear modified.
-block-clears : (full : Bool) (bytes : List ℕ) (mark : ℕ) → markLeft (blockMessage full bytes) mark ≡ sentMark mark
-unfolding markLeft blockMessage
+block-clears : (full : Bool) (bytes : List ℕ) (mark : ℕ) → markLeft (blockTransmission full bytes) mark ≡ markAfterBlock mark
+unfolding markLeft blockTransmission
 block-clears true bytes mark = refl
 block-clears false bytes mark = refl
 
@@ -52,7 +53,7 @@ module _ (t : Terminal) (valid : Valid t) where
   on-page = cursor-on-page t valid
 
   end-on-page : endHere t ≤ length (t .page .marks)
-  end-on-page = end-of (free t) (t .state .size .columns) (length (t .page .marks)) (cursorCell (t .state)) on-page .on-page
+  end-on-page = end-of (unprotectedAt t) (t .state .size .columns) (length (t .page .marks)) (cursorCell (t .state)) on-page .on-page
 
   -- The cursor stays on the page.
   stays : KeepsValid (t .state) (t .state)
@@ -75,24 +76,24 @@ module _ (t : Terminal) (valid : Valid t) where
 
   clears : (full : Bool) → Holds (sendBlock full t)
   unfolding sendBlock
-  clears full = (clears-soundly t valid (blockMessage full _) (block-clears full _), λ cell named. absurd (List·Memᴰ·not-nil named))
+  clears full = (clears-soundly t valid (blockTransmission full _) (block-clears full _), λ cell named. absurd (List·Memᴰ·not-nil named))
 
   typed-holds : (key : ℕ) → isTyping key ≡ true → Holds (typedStep key t)
   unfolding typedStep isTyping
   typed-holds key typing =
       line (λ here.
       let cursor = cursorCell (t .state) in (
-        stores-soundly t valid _ false _ _ (gone-keeps-valid (next-unprotected-lands (free t) (t .state .size .columns) (length (t .page .marks)) cursor on-page)) (typed-stored (t .page) (valid .page) cursor key on-page typing),
+        stores-soundly t valid _ false _ _ (gone-keeps-valid (next-unprotected-lands (unprotectedAt t) (t .state .size .columns) (length (t .page .marks)) cursor on-page)) (typed-stored (t .page) (valid .page) cursor key on-page typing),
         λ cell named. let same = List·Memᴰ·eq-of-singleton named in (rw same here, rw same (typed-modified (t .page) cursor key on-page)),
       ))
       (goes (t .state) stays)
 
-  part-holds : {change : List ℕ → List ℕ} → KeepsPart change → (from to : ℕ) → from < to → to ≤ length (t .page .marks) → ((cell : ℕ) → from ≤ cell → cell < to → free t cell ≡ true) → (s : State) → KeepsValid (t .state) s → Holds (stores (cellsFrom from to) false s (partStored change from to (t .page)))
-  part-holds keeps from to some fits all-free s kept = (
+  part-holds : {change : List ℕ → List ℕ} → KeepsPart change → (from to : ℕ) → from < to → to ≤ length (t .page .marks) → ((cell : ℕ) → from ≤ cell → cell < to → unprotectedAt t cell ≡ true) → (s : State) → KeepsValid (t .state) s → Holds (stores (cellsFrom from to) false s (partStored change from to (t .page)))
+  part-holds keeps from to some fits all-unprotected s kept = (
     stores-soundly t valid (cellsFrom from to) false s _ kept (part-stored (t .page) (valid .page) (size .as-many) keeps from to some fits),
     λ cell named.
         let between = named-between (places-rise (λ _. true) to from (to - from) (omega arith)) cell named in
-        (all-free cell (between .0) (between .1), tagged-modified from to (t .page .marks) cell (between .0) (between .1) (omega arith)),
+        (all-unprotected cell (between .0) (between .1), tagged-modified from to (t .page .marks) cell (between .0) (between .1) (omega arith)),
   )
 
   blanked-holds : Holds (fieldBlanked t)
@@ -101,7 +102,7 @@ module _ (t : Terminal) (valid : Valid t) where
       line (λ here.
       let field = field-free t here in
       let end = end-on-page in
-      part-holds blanked-keeps (startHere t) (endHere t) (omega arith) end (field .all-free) _ (gone-keeps-valid (on-cell (startHere t) (omega arith))))
+      part-holds blanked-keeps (startHere t) (endHere t) (omega arith) end (field .all-unprotected) _ (gone-keeps-valid (on-cell (startHere t) (omega arith))))
       (goes (t .state) stays)
 
   shifted-holds : {change : List ℕ → List ℕ} → KeepsPart change → Holds (restShifted change t)
@@ -109,7 +110,7 @@ module _ (t : Terminal) (valid : Valid t) where
   shifted-holds keeps =
       line (λ here.
       let field = field-free t here in
-      part-holds keeps (cursorCell (t .state)) (endHere t) (field .high) end-on-page (λ cell low high. field .all-free cell (omega arith) high) (t .state) stays)
+      part-holds keeps (cursorCell (t .state)) (endHere t) (field .high) end-on-page (λ cell low high. field .all-unprotected cell (omega arith) high) (t .state) stays)
       (goes (t .state) stays)
 
   table-holds : (key : ℕ) → Holds (keyStep key t)
@@ -125,9 +126,9 @@ module _ (t : Terminal) (valid : Valid t) where
       (line (λ _. goes _ (down-keeps-valid s ok 1))
       (line (λ _. goes _ (left-keeps-valid s ok 1))
       (line (λ _. goes _ (right-keeps-valid s ok 1))
-      (line (λ _. goes-to (next-field-lands (free t) columns cells (cursorCell s)))
-      (line (λ _. goes-to (previous-field-lands (free t) columns cells (cursorCell s)))
-      (line (λ _. goes-to (either-lands columns (first-unprotected-lands (free t) columns cells) (on-cell 0 (omega arith))))
+      (line (λ _. goes-to (next-field-lands (unprotectedAt t) columns cells (cursorCell s)))
+      (line (λ _. goes-to (previous-field-lands (unprotectedAt t) columns cells (cursorCell s)))
+      (line (λ _. goes-to (either-lands columns (first-unprotected-lands (unprotectedAt t) columns cells) (on-cell 0 (omega arith))))
       (line (λ _. blanked-holds)
       (line (λ _. shifted-holds closed-up-keeps)
       (line (λ _. shifted-holds moved-right-keeps)

@@ -12,8 +12,9 @@ use Rattle.page.specs.Marks.{isModified, unprotected}
 use Rattle.state.specs.State.{withLocks, unlocked}
 use Rattle.steps.specs.Steps.{Terminal, report, fullBlock, changedBlock, goesTo, cursorCell, Valid}
 use Rattle.steps.specs.Claims.{Rising, TouchesOnly, KeepsProtection, KeepsText, SendsBlock, ProtectedKept, counted}
-use Rattle.steps.specs.Seen.{free}
-use Rattle.steps.specs.Keys.{isTyping, isEditing, startHere, endHere, typedStep, fieldBlanked, restShifted, keyStep}
+use Rattle.steps.specs.Seen.{unprotectedAt}
+use Rattle.keys.specs.Keys.{isTyping, isEditing, typedStep, fieldBlanked, restShifted, keyStep}
+use Rattle.steps.specs.Seen.{startHere, endHere}
 use Rattle.steps.proofs.Naming.{named-between}
 use Rattle.steps.proofs.Soundness.{names-none}
 use Rattle.keys.proofs.Claims.{KeyStores, no-cell, typed-cell, whole-field, rest-of-field}
@@ -30,7 +31,7 @@ module _ (key : ℕ) (t : Terminal) (valid : Valid t) where
   key-keeps-size = key-holds key t valid .sound .size
 
   -- No character and no mark changes outside the cells named, but for modified where a block is sent.
-  pub key-touches-only : TouchesOnly (keyStep key t .cells) (keyStep key t .message) (t .page) (keyStep key t .terminal .page)
+  pub key-touches-only : TouchesOnly (keyStep key t .cells) (keyStep key t .transmission) (t .page) (keyStep key t .terminal .page)
   key-touches-only = key-holds key t valid .sound .touches
 
   -- Each cell is named once, and is on the page.
@@ -55,14 +56,14 @@ module _ (key : ℕ) (t : Terminal) where
   key-stores = key-always key t .stored
 
   -- Only 267 sends a full block, and only 266 a changed one; either is that of the page as it was.
-  pub key-sends-full : (bytes : List ℕ) → keyStep key t .message ≡ fullBlock bytes → SendsBlock true (key ≡ 267) t (keyStep key t) bytes
+  pub key-sends-full : (bytes : List ℕ) → keyStep key t .transmission ≡ fullBlock bytes → SendsBlock true (key ≡ 267) t (keyStep key t) bytes
   key-sends-full = key-always key t .full-block
 
-  pub key-sends-changed : (bytes : List ℕ) → keyStep key t .message ≡ changedBlock bytes → SendsBlock false (key ≡ 266) t (keyStep key t) bytes
+  pub key-sends-changed : (bytes : List ℕ) → keyStep key t .transmission ≡ changedBlock bytes → SendsBlock false (key ≡ 266) t (keyStep key t) bytes
   key-sends-changed = key-always key t .changed-block
 
   -- No key sends a report.
-  pub key-sends-no-report : (bytes : List ℕ) → keyStep key t .message ≡ report bytes → ⊥
+  pub key-sends-no-report : (bytes : List ℕ) → keyStep key t .transmission ≡ report bytes → ⊥
   key-sends-no-report = key-always key t .no-report
 
   -- No key refuses a command.
@@ -84,12 +85,12 @@ module _ (key : ℕ) (t : Terminal) where
   only-268-unlocks = key-always key t .locks
 
 -- 268 clears the soft lock and the message, and does nothing else.
-pub unlocked-step : (t : Terminal) → keyStep 268 t ≡ goesTo (withLocks (t .state) (t .state .locks .manual) false 0) t
+pub unlocked-step : (t : Terminal) → keyStep 268 t ≡ goesTo (withLocks (t .state) (record { manual = t .state .locks .manual; soft = false; message = 0 })) t
 unfolding keyStep isTyping _is_to_ _and_ if_then_else_ unlocked
 unlocked-step t = refl
 
 -- A key that stores types or edits, on an unprotected cell.
-stores-where : (key : ℕ) (t : Terminal) {cells : List ℕ} → KeyStores key t cells → (cells ≡ []) ⊎ ((free t (cursorCell (t .state)) ≡ true) × ((isTyping key or isEditing key) ≡ true))
+stores-where : (key : ℕ) (t : Terminal) {cells : List ℕ} → KeyStores key t cells → (cells ≡ []) ⊎ ((unprotectedAt t (cursorCell (t .state)) ≡ true) × ((isTyping key or isEditing key) ≡ true))
 unfolding isTyping isEditing _is_to_ _and_ _or_
 stores-where key t no-cell = inl refl
 stores-where key t (typed-cell here typing) = inr (here, first-holds _ _ typing)
@@ -99,7 +100,7 @@ stores-where key t (rest-of-field here (inr asked)) = inr (here, ap (λ (k : ℕ
 
 -- The count of cells stored is the number of cells named, in any state.
 module _ (t : Terminal) where
-  module _ (here : free t (cursorCell (t .state)) ≡ true) where
+  module _ (here : unprotectedAt t (cursorCell (t .state)) ≡ true) where
     -- 1 for a typed character.
     pub typed-count : (key : ℕ) → isTyping key ≡ true → counted (keyStep key t) ≡ 1
     unfolding keyStep typedStep
@@ -123,5 +124,5 @@ module _ (t : Terminal) where
   pub other-count : (key : ℕ) → (isTyping key or isEditing key) ≡ false → counted (keyStep key t) ≡ 0
   other-count key other = ⊎-elim (ap length) (λ stores. absurd (not-both (stores .1) other)) (stores-where key t (key-stores key t))
 
-  pub protected-count : (key : ℕ) → free t (cursorCell (t .state)) ≡ false → counted (keyStep key t) ≡ 0
+  pub protected-count : (key : ℕ) → unprotectedAt t (cursorCell (t .state)) ≡ false → counted (keyStep key t) ≡ 0
   protected-count key protected = ⊎-elim (ap length) (λ stores. absurd (not-both (stores .0) protected)) (stores-where key t (key-stores key t))

@@ -1,5 +1,6 @@
 // Document 01, "Fields, keys and blocks": the keys. What each function gives is defined in specs/Keys.antt of `steps`.
 use fields::Sought;
+use page::Mark;
 use state::State;
 use steps::Step;
 ghost use mathlib.Core.Path.{_≡_};
@@ -8,7 +9,7 @@ ghost use Rattle.page.specs.Page.{pageOf, closedUp, movedRight};
 ghost use Rattle.steps.specs.Steps.{Valid, terminalOf};
 ghost use Rattle.steps.specs.Told.{told, tells, written};
 ghost use Rattle.steps.specs.Seen.{fieldsHere};
-ghost use Rattle.steps.specs.Keys.{isTyping, isEditing, isFieldMove, isKnown, isLocked, isLockedOut, noField, lacksCell, goneTo, typedStep, toNextField, toPreviousField, toFirstUnprotected, fieldBlanked, restShifted, keyStep};
+ghost use Rattle.keys.specs.Keys.{isTyping, isEditing, isFieldMove, isKnown, isLocked, isLockedOut, noField, lacksCell, goneTo, typedStep, toNextField, toPreviousField, toFirstUnprotected, fieldBlanked, restShifted, keyStep};
 
 fn is_typing(key: usize) -> bool
     ensures { λ r. ⌜ r ≡ isTyping key ⌝ }
@@ -70,7 +71,7 @@ pub fn is_locked_out(key: usize, state: State) -> bool
 }
 
 // `characters` is lent for the contract, which speaks of the whole terminal.
-fn has_no_field(state: State, characters: &[u8], marks: &[u8]) -> bool
+fn has_no_field(state: State, characters: &[u8], marks: &[Mark]) -> bool
     requires { ⌜ Valid (terminalOf state (now characters) (now marks)) ⌝ }
     ensures { λ r. ⌜ r ≡ noField (fieldsHere (terminalOf state (now (characters .entry)) (now (marks .entry)))) ⌝ }
 {
@@ -82,7 +83,7 @@ fn has_no_field(state: State, characters: &[u8], marks: &[u8]) -> bool
 }
 
 // Whether line 7 holds.
-pub fn lacks_cell(key: usize, state: State, characters: &[u8], marks: &[u8]) -> bool
+pub fn lacks_cell(key: usize, state: State, characters: &[u8], marks: &[Mark]) -> bool
     requires { ⌜ Valid (terminalOf state (now characters) (now marks)) ⌝ }
     ensures { λ r. ⌜ r ≡ lacksCell key (terminalOf state (now (characters .entry)) (now (marks .entry))) ⌝ }
 {
@@ -109,7 +110,7 @@ fn gone_to(sought: Sought, state: State) -> State
 }
 
 // 32 to 126.
-fn type_character(state: State, characters: &mut [u8], marks: &mut [u8], character: u8) -> Step
+fn type_character(state: State, characters: &mut [u8], marks: &mut [Mark], character: u8) -> Step
     requires { ⌜ Valid (terminalOf state (now characters) (now marks)) ⌝ }
     ensures { λ r. ⌜ told r (pageOf (now (characters .exit)) (now (marks .exit))) ≡ tells (typedStep character (terminalOf state (now (characters .entry)) (now (marks .entry)))) ⌝ }
 {
@@ -123,7 +124,7 @@ fn type_character(state: State, characters: &mut [u8], marks: &mut [u8], charact
 }
 
 // 260, 261 and 262.
-fn to_next_field(state: State, characters: &[u8], marks: &[u8]) -> Step
+fn to_next_field(state: State, characters: &[u8], marks: &[Mark]) -> Step
     requires { ⌜ Valid (terminalOf state (now characters) (now marks)) ⌝ }
     ensures { λ r. ⌜ told r (pageOf (now (characters .entry)) (now (marks .entry))) ≡ tells (toNextField (terminalOf state (now (characters .entry)) (now (marks .entry)))) ⌝ }
 {
@@ -131,7 +132,7 @@ fn to_next_field(state: State, characters: &[u8], marks: &[u8]) -> Step
     steps::quiet(gone_to(sought, state))
 }
 
-fn to_previous_field(state: State, characters: &[u8], marks: &[u8]) -> Step
+fn to_previous_field(state: State, characters: &[u8], marks: &[Mark]) -> Step
     requires { ⌜ Valid (terminalOf state (now characters) (now marks)) ⌝ }
     ensures { λ r. ⌜ told r (pageOf (now (characters .entry)) (now (marks .entry))) ≡ tells (toPreviousField (terminalOf state (now (characters .entry)) (now (marks .entry)))) ⌝ }
 {
@@ -139,7 +140,7 @@ fn to_previous_field(state: State, characters: &[u8], marks: &[u8]) -> Step
     steps::quiet(gone_to(sought, state))
 }
 
-fn to_first_unprotected(state: State, characters: &[u8], marks: &[u8]) -> Step
+fn to_first_unprotected(state: State, characters: &[u8], marks: &[Mark]) -> Step
     requires { ⌜ Valid (terminalOf state (now characters) (now marks)) ⌝ }
     ensures { λ r. ⌜ told r (pageOf (now (characters .entry)) (now (marks .entry))) ≡ tells (toFirstUnprotected (terminalOf state (now (characters .entry)) (now (marks .entry)))) ⌝ }
 {
@@ -151,7 +152,7 @@ fn to_first_unprotected(state: State, characters: &[u8], marks: &[u8]) -> Step
 }
 
 // 263.
-fn blank_field(state: State, characters: &mut [u8], marks: &mut [u8]) -> Step
+fn blank_field(state: State, characters: &mut [u8], marks: &mut [Mark]) -> Step
     requires { ⌜ Valid (terminalOf state (now characters) (now marks)) ⌝ }
     ensures { λ r. ⌜ told r (pageOf (now (characters .exit)) (now (marks .exit))) ≡ tells (fieldBlanked (terminalOf state (now (characters .entry)) (now (marks .entry)))) ⌝ }
 {
@@ -170,7 +171,7 @@ fn blank_field(state: State, characters: &mut [u8], marks: &mut [u8]) -> Step
 }
 
 // 264.
-fn delete_here(state: State, characters: &mut [u8], marks: &mut [u8]) -> Step
+fn delete_here(state: State, characters: &mut [u8], marks: &mut [Mark]) -> Step
     requires { ⌜ Valid (terminalOf state (now characters) (now marks)) ⌝ }
     ensures { λ r. ⌜ told r (pageOf (now (characters .exit)) (now (marks .exit))) ≡ tells (restShifted closedUp (terminalOf state (now (characters .entry)) (now (marks .entry)))) ⌝ }
 {
@@ -184,7 +185,7 @@ fn delete_here(state: State, characters: &mut [u8], marks: &mut [u8]) -> Step
 }
 
 // 265.
-fn insert_here(state: State, characters: &mut [u8], marks: &mut [u8]) -> Step
+fn insert_here(state: State, characters: &mut [u8], marks: &mut [Mark]) -> Step
     requires { ⌜ Valid (terminalOf state (now characters) (now marks)) ⌝ }
     ensures { λ r. ⌜ told r (pageOf (now (characters .exit)) (now (marks .exit))) ≡ tells (restShifted movedRight (terminalOf state (now (characters .entry)) (now (marks .entry)))) ⌝ }
 {
@@ -198,7 +199,7 @@ fn insert_here(state: State, characters: &mut [u8], marks: &mut [u8]) -> Step
 }
 
 // The keys from 256 on that send nothing; a number that is no key does nothing.
-fn act(state: State, characters: &mut [u8], marks: &mut [u8], key: usize) -> Step
+fn act(state: State, characters: &mut [u8], marks: &mut [Mark], key: usize) -> Step
     requires { ⌜ Valid (terminalOf state (now characters) (now marks)) ⌝ }
     requires { ⌜ (isTyping key ≡ false) × (key ≡ 266 → ⊥) × (key ≡ 267 → ⊥) ⌝ }
     ensures { λ r. ⌜ told r (pageOf (now (characters .exit)) (now (marks .exit))) ≡ tells (keyStep key (terminalOf state (now (characters .entry)) (now (marks .entry)))) ⌝ }
@@ -219,11 +220,11 @@ fn act(state: State, characters: &mut [u8], marks: &mut [u8], key: usize) -> Ste
     }
 }
 
-// The step of a key. Its message is written into the output; where it does not fit nothing happens.
+// The step of a key. Its transmission is written into the output; where it does not fit nothing happens.
 pub fn step(
     state: State,
     characters: &mut [u8],
-    marks: &mut [u8],
+    marks: &mut [Mark],
     out: &mut [u8],
     key: usize,
 ) -> Step

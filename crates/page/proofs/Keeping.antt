@@ -11,7 +11,7 @@ use Rattle.words.proofs.Choosing.{either-line, both, both-hold, range-is}
 use Rattle.words.proofs.Writing.{length-each, length-onPart}
 use Rattle.words.proofs.Passing.{passes, every-append, every-set, every-replicate, every-take, every-drop, every-each, every-onPart}
 use Rattle.page.specs.Marks.{validCharacter, validMark, withModified, withoutModified}
-use Rattle.page.specs.Page.{Page, pageOf, validPage, textStored, typed, erased, scrolledUp, scrolledDown, tagged, blanked, closedUp, movedRight, partStored, sentMark, modifiedCleared}
+use Rattle.page.specs.Page.{Page, pageOf, validPage, textStored, typed, erased, scrolledUp, scrolledDown, tagged, blanked, closedUp, movedRight, partStored, markAfterBlock, modifiedCleared}
 
 -- An operation takes no cell away and adds none.
 pub record SameSize (before after : Page) : Type 0 where
@@ -54,8 +54,8 @@ module _ (page : Page) (columns : ℕ) (fits : columns ≤ length (page .charact
 modified-valid : (mark : ℕ) → validMark mark ≡ true → validMark (withModified mark) ≡ true
 modified-valid mark p = lt-ltb (withModified mark) 0x80 (omega (arith, ltb-true mark 0x80 p))
 
-sent-valid : (mark : ℕ) → validMark mark ≡ true → validMark (sentMark mark) ≡ true
-unfolding sentMark
+sent-valid : (mark : ℕ) → validMark mark ≡ true → validMark (markAfterBlock mark) ≡ true
+unfolding markAfterBlock
 sent-valid mark p =
     either-line (λ m. validMark m ≡ true) _ _ _ (λ _. p) (λ _. lt-ltb (withoutModified mark) 0x80 (omega (arith, ltb-true mark 0x80 p)))
 

@@ -11,14 +11,14 @@ use Rattle.words.specs.Lists.{within}
 use Rattle.words.proofs.Choosing.{then-case, else-case, either-line}
 use Rattle.words.proofs.Writing.{each-at, each-keeps, set-keeps, inside, outside-range}
 use Rattle.page.specs.Marks.{isProtected, isModified, withModified, unprotected}
-use Rattle.page.specs.Page.{Page, typed, tagged, sentMark, modifiedCleared}
+use Rattle.page.specs.Page.{Page, typed, tagged, markAfterBlock, modifiedCleared}
 
 -- Tagging and sending leave bit 0 of a mark.
 modified-protection : (mark : ℕ) → isProtected (withModified mark) ≡ isProtected mark
 modified-protection mark = let bit : (mark / 4 * 4 + 2 + mark % 2) % 2 ≡ mark % 2 = omega arith in rw bit
 
-pub sent-protection : (mark : ℕ) → isProtected (sentMark mark) ≡ isProtected mark
-unfolding sentMark
+pub sent-protection : (mark : ℕ) → isProtected (markAfterBlock mark) ≡ isProtected mark
+unfolding markAfterBlock
 sent-protection mark =
     either-line (λ (m : ℕ). isProtected m ≡ isProtected mark) _ _ _
     (λ _. refl)
@@ -63,5 +63,5 @@ module _ (marks : List ℕ) (cell : ℕ) where
   cleared-protection = ap not (each-keeps _ marks cell isProtected (sent-protection (getD marks cell 0)))
 
   pub protected-uncleared : unprotected marks cell ≡ false → getD (modifiedCleared marks) cell 0 ≡ getD marks cell 0
-  unfolding unprotected modifiedCleared sentMark
+  unfolding unprotected modifiedCleared markAfterBlock
   protected-uncleared protected = each-keeps _ marks cell (λ (mark : ℕ). mark) (then-case _ _ _ (not-false _ protected))

@@ -102,10 +102,10 @@ abbrev pub partStored : (List ℕ → List ℕ) → ℕ → ℕ → Page → Pag
 partStored change from to page = record { characters = onPart from to change (page .characters); marks = tagged from to (page .marks) }
 
 -- What a block that was sent leaves of the marks.
-unfoldable pub sentMark : ℕ → ℕ
-sentMark mark =
+unfoldable pub markAfterBlock : ℕ → ℕ
+markAfterBlock mark =
     if isProtected mark then mark
     else withoutModified mark
 
 unfoldable pub modifiedCleared : List ℕ → List ℕ
-modifiedCleared marks = each (λ cell mark. sentMark mark) marks
+modifiedCleared marks = each (λ cell mark. markAfterBlock mark) marks

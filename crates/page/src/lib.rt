@@ -5,78 +5,81 @@ ghost use Prim.Native.Nat.{_≤_, _<_};
 ghost use lib.ListN.{length, getD, set};
 ghost use Rattle.words.specs.Lists.{every};
 ghost use Rattle.page.specs.Marks.{isProtected, isModified, isBold, isUnderlined, isBlinking, isReversed, isConcealed, withModified, withoutModified, validCharacter, validMark, unprotected};
-ghost use Rattle.page.specs.Page.{pageOf, validPage, textStored, typed, erasable, HasErased, scrolledUp, scrolledDown, tagged, blanked, closedUp, movedRight, partStored, sentMark, modifiedCleared, pulledUp, pushedDown};
+ghost use Rattle.page.specs.Page.{pageOf, validPage, textStored, typed, erasable, HasErased, scrolledUp, scrolledDown, tagged, blanked, closedUp, movedRight, partStored, markAfterBlock, modifiedCleared, pulledUp, pushedDown};
 
-pub fn is_protected(mark: u8) -> bool
+// What a cell has beside its character, a bit for each mark; bit 7 is zero.
+pub type Mark = u8;
+
+pub fn is_protected(mark: Mark) -> bool
     ensures { λ r. ⌜ r ≡ isProtected mark ⌝ }
 {
     mark % 2 == 1
 }
 
-pub fn is_modified(mark: u8) -> bool
+pub fn is_modified(mark: Mark) -> bool
     ensures { λ r. ⌜ r ≡ isModified mark ⌝ }
 {
     mark / 2 % 2 == 1
 }
 
-pub fn is_bold(mark: u8) -> bool
+pub fn is_bold(mark: Mark) -> bool
     ensures { λ r. ⌜ r ≡ isBold mark ⌝ }
 {
     mark / 4 % 2 == 1
 }
 
-pub fn is_underlined(mark: u8) -> bool
+pub fn is_underlined(mark: Mark) -> bool
     ensures { λ r. ⌜ r ≡ isUnderlined mark ⌝ }
 {
     mark / 8 % 2 == 1
 }
 
-pub fn is_blinking(mark: u8) -> bool
+pub fn is_blinking(mark: Mark) -> bool
     ensures { λ r. ⌜ r ≡ isBlinking mark ⌝ }
 {
     mark / 16 % 2 == 1
 }
 
-pub fn is_reversed(mark: u8) -> bool
+pub fn is_reversed(mark: Mark) -> bool
     ensures { λ r. ⌜ r ≡ isReversed mark ⌝ }
 {
     mark / 32 % 2 == 1
 }
 
-pub fn is_concealed(mark: u8) -> bool
+pub fn is_concealed(mark: Mark) -> bool
     ensures { λ r. ⌜ r ≡ isConcealed mark ⌝ }
 {
     mark / 64 % 2 == 1
 }
 
-pub fn with_modified(mark: u8) -> u8
+pub fn with_modified(mark: Mark) -> Mark
     ensures { λ r. ⌜ r ≡ withModified mark ⌝ }
 {
     mark / 4 * 4 + 2 + mark % 2
 }
 
-pub fn without_modified(mark: u8) -> u8
+pub fn without_modified(mark: Mark) -> Mark
     ensures { λ r. ⌜ r ≡ withoutModified mark ⌝ }
 {
     mark / 4 * 4 + mark % 2
 }
 
 // The one function that reads a mark, and the one that writes it: nothing else indexes the marks.
-pub fn mark_at(marks: &[u8], cell: usize) -> u8
+pub fn mark_at(marks: &[Mark], cell: usize) -> Mark
     requires { ⌜ cell < length (now marks) ⌝ }
     ensures { λ r. ⌜ r ≡ getD (now (marks .entry)) cell 0 ⌝ }
 {
     marks[cell]
 }
 
-pub fn set_mark(marks: &mut [u8], cell: usize, mark: u8)
+pub fn set_mark(marks: &mut [Mark], cell: usize, mark: Mark)
     requires { ⌜ cell < length (now marks) ⌝ }
     ensures { λ _. ⌜ now (marks .exit) ≡ set (now (marks .entry)) cell mark ⌝ }
 {
     marks[cell] = mark;
 }
 
-pub fn is_unprotected(marks: &[u8], cell: usize) -> bool
+pub fn is_unprotected(marks: &[Mark], cell: usize) -> bool
     requires { ⌜ cell < length (now marks) ⌝ }
     ensures { λ r. ⌜ r ≡ unprotected (now (marks .entry)) cell ⌝ }
 {
@@ -100,7 +103,7 @@ fn characters_are_valid(characters: &[u8]) -> bool
     true
 }
 
-fn marks_are_valid(marks: &[u8]) -> bool
+fn marks_are_valid(marks: &[Mark]) -> bool
     ensures { λ r. ⌜ r ≡ every validMark (now (marks .entry)) ⌝ }
 {
     let mut cell = 0;
@@ -114,7 +117,7 @@ fn marks_are_valid(marks: &[u8]) -> bool
 }
 
 // Document 01's number 2 asks this of the lent page.
-pub fn is_valid_page(characters: &[u8], marks: &[u8]) -> bool
+pub fn is_valid_page(characters: &[u8], marks: &[Mark]) -> bool
     ensures { λ r. ⌜ r ≡ validPage (pageOf (now (characters .entry)) (now (marks .entry))) ⌝ }
 {
     if characters_are_valid(characters) {
@@ -123,7 +126,7 @@ pub fn is_valid_page(characters: &[u8], marks: &[u8]) -> bool
     false
 }
 
-pub fn store_text(characters: &mut [u8], marks: &mut [u8], cell: usize, character: u8, pen: u8)
+pub fn store_text(characters: &mut [u8], marks: &mut [Mark], cell: usize, character: u8, pen: Mark)
     requires { ⌜ (cell < length (now characters)) × (length (now marks) ≡ length (now characters)) ⌝ }
     ensures { λ _. ⌜ pageOf (now (characters .exit)) (now (marks .exit)) ≡ textStored cell character pen (pageOf (now (characters .entry)) (now (marks .entry))) ⌝ }
 {
@@ -131,7 +134,7 @@ pub fn store_text(characters: &mut [u8], marks: &mut [u8], cell: usize, characte
     set_mark(marks, cell, pen);
 }
 
-pub fn store_typed(characters: &mut [u8], marks: &mut [u8], cell: usize, character: u8)
+pub fn store_typed(characters: &mut [u8], marks: &mut [Mark], cell: usize, character: u8)
     requires { ⌜ (cell < length (now characters)) × (length (now marks) ≡ length (now characters)) ⌝ }
     ensures { λ _. ⌜ pageOf (now (characters .exit)) (now (marks .exit)) ≡ typed cell character (pageOf (now (characters .entry)) (now (marks .entry))) ⌝ }
 {
@@ -140,7 +143,7 @@ pub fn store_typed(characters: &mut [u8], marks: &mut [u8], cell: usize, charact
     set_mark(marks, cell, with_modified(mark));
 }
 
-fn is_erasable(marks: &[u8], cell: usize, mode: bool) -> bool
+fn is_erasable(marks: &[Mark], cell: usize, mode: bool) -> bool
     requires { ⌜ cell < length (now marks) ⌝ }
     ensures { λ r. ⌜ r ≡ erasable mode (now (marks .entry)) cell ⌝ }
 {
@@ -151,7 +154,7 @@ fn is_erasable(marks: &[u8], cell: usize, mode: bool) -> bool
 }
 
 // Erases the cells from `from` to before `to`, and counts them.
-pub fn erase(characters: &mut [u8], marks: &mut [u8], from: usize, to: usize, mode: bool) -> usize
+pub fn erase(characters: &mut [u8], marks: &mut [Mark], from: usize, to: usize, mode: bool) -> usize
     requires { ⌜ (from ≤ to) × (to ≤ length (now characters)) × (length (now marks) ≡ length (now characters)) ⌝ }
     ensures { λ r. ⌜ HasErased mode from to (pageOf (now (characters .entry)) (now (marks .entry))) (pageOf (now (characters .exit)) (now (marks .exit))) r ⌝ }
 {
@@ -170,7 +173,7 @@ pub fn erase(characters: &mut [u8], marks: &mut [u8], from: usize, to: usize, mo
 }
 
 // All cells but those of the first row, a row higher; the last row stays.
-fn pull_up(characters: &mut [u8], marks: &mut [u8], columns: usize)
+fn pull_up(characters: &mut [u8], marks: &mut [Mark], columns: usize)
     requires { ⌜ (columns ≤ length (now characters)) × (length (now marks) ≡ length (now characters)) ⌝ }
     ensures { λ _. ⌜ pageOf (now (characters .exit)) (now (marks .exit)) ≡ pulledUp columns (pageOf (now (characters .entry)) (now (marks .entry))) ⌝ }
 {
@@ -185,7 +188,7 @@ fn pull_up(characters: &mut [u8], marks: &mut [u8], columns: usize)
 }
 
 // All cells but those of the last row, a row lower; the first row stays.
-fn push_down(characters: &mut [u8], marks: &mut [u8], columns: usize)
+fn push_down(characters: &mut [u8], marks: &mut [Mark], columns: usize)
     requires { ⌜ (columns ≤ length (now characters)) × (length (now marks) ≡ length (now characters)) ⌝ }
     ensures { λ _. ⌜ pageOf (now (characters .exit)) (now (marks .exit)) ≡ pushedDown columns (pageOf (now (characters .entry)) (now (marks .entry))) ⌝ }
 {
@@ -199,7 +202,7 @@ fn push_down(characters: &mut [u8], marks: &mut [u8], columns: usize)
 }
 
 // A scroll moves protected cells too, whatever the erasure mode.
-pub fn scroll_up(characters: &mut [u8], marks: &mut [u8], columns: usize)
+pub fn scroll_up(characters: &mut [u8], marks: &mut [Mark], columns: usize)
     requires { ⌜ (columns ≤ length (now characters)) × (length (now marks) ≡ length (now characters)) ⌝ }
     ensures { λ _. ⌜ pageOf (now (characters .exit)) (now (marks .exit)) ≡ scrolledUp columns (pageOf (now (characters .entry)) (now (marks .entry))) ⌝ }
 {
@@ -208,7 +211,7 @@ pub fn scroll_up(characters: &mut [u8], marks: &mut [u8], columns: usize)
     erase(characters, marks, end - columns, end, true);
 }
 
-pub fn scroll_down(characters: &mut [u8], marks: &mut [u8], columns: usize)
+pub fn scroll_down(characters: &mut [u8], marks: &mut [Mark], columns: usize)
     requires { ⌜ (columns ≤ length (now characters)) × (length (now marks) ≡ length (now characters)) ⌝ }
     ensures { λ _. ⌜ pageOf (now (characters .exit)) (now (marks .exit)) ≡ scrolledDown columns (pageOf (now (characters .entry)) (now (marks .entry))) ⌝ }
 {
@@ -216,7 +219,7 @@ pub fn scroll_down(characters: &mut [u8], marks: &mut [u8], columns: usize)
     erase(characters, marks, 0, columns, true);
 }
 
-fn tag(marks: &mut [u8], from: usize, to: usize)
+fn tag(marks: &mut [Mark], from: usize, to: usize)
     requires { ⌜ (from ≤ to) × (to ≤ length (now marks)) ⌝ }
     ensures { λ _. ⌜ now (marks .exit) ≡ tagged from to (now (marks .entry)) ⌝ }
 {
@@ -264,7 +267,7 @@ fn move_right(part: &mut [u8])
 }
 
 // Key 263: the cells from `from` to before `to` become 20s.
-pub fn blank_cells(characters: &mut [u8], marks: &mut [u8], from: usize, to: usize)
+pub fn blank_cells(characters: &mut [u8], marks: &mut [Mark], from: usize, to: usize)
     requires { ⌜ (from ≤ to) × (to ≤ length (now characters)) × (length (now marks) ≡ length (now characters)) ⌝ }
     ensures { λ _. ⌜ pageOf (now (characters .exit)) (now (marks .exit)) ≡ partStored blanked from to (pageOf (now (characters .entry)) (now (marks .entry))) ⌝ }
 {
@@ -273,7 +276,7 @@ pub fn blank_cells(characters: &mut [u8], marks: &mut [u8], from: usize, to: usi
 }
 
 // Key 264: the characters from `from` to before `to` close up.
-pub fn delete_character(characters: &mut [u8], marks: &mut [u8], from: usize, to: usize)
+pub fn delete_character(characters: &mut [u8], marks: &mut [Mark], from: usize, to: usize)
     requires { ⌜ (from < to) × (to ≤ length (now characters)) × (length (now marks) ≡ length (now characters)) ⌝ }
     ensures { λ _. ⌜ pageOf (now (characters .exit)) (now (marks .exit)) ≡ partStored closedUp from to (pageOf (now (characters .entry)) (now (marks .entry))) ⌝ }
 {
@@ -282,7 +285,7 @@ pub fn delete_character(characters: &mut [u8], marks: &mut [u8], from: usize, to
 }
 
 // Key 265: a 20 at `from`, and the characters before `to` move right.
-pub fn insert_blank(characters: &mut [u8], marks: &mut [u8], from: usize, to: usize)
+pub fn insert_blank(characters: &mut [u8], marks: &mut [Mark], from: usize, to: usize)
     requires { ⌜ (from < to) × (to ≤ length (now characters)) × (length (now marks) ≡ length (now characters)) ⌝ }
     ensures { λ _. ⌜ pageOf (now (characters .exit)) (now (marks .exit)) ≡ partStored movedRight from to (pageOf (now (characters .entry)) (now (marks .entry))) ⌝ }
 {
@@ -291,8 +294,8 @@ pub fn insert_blank(characters: &mut [u8], marks: &mut [u8], from: usize, to: us
 }
 
 // What sending does to one mark.
-fn sent_mark(mark: u8) -> u8
-    ensures { λ r. ⌜ r ≡ sentMark mark ⌝ }
+fn mark_after_block(mark: Mark) -> Mark
+    ensures { λ r. ⌜ r ≡ markAfterBlock mark ⌝ }
 {
     if is_protected(mark) {
         return mark;
@@ -301,13 +304,13 @@ fn sent_mark(mark: u8) -> u8
 }
 
 // Sending clears modified on all unprotected cells.
-pub fn clear_modified(marks: &mut [u8])
+pub fn clear_modified(marks: &mut [Mark])
     ensures { λ _. ⌜ now (marks .exit) ≡ modifiedCleared (now (marks .entry)) ⌝ }
 {
     let mut cell = 0;
     while cell < marks.len() {
         let mark = mark_at(marks, cell);
-        set_mark(marks, cell, sent_mark(mark));
+        set_mark(marks, cell, mark_after_block(mark));
         cell += 1;
     }
 }

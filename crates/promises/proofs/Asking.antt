@@ -7,11 +7,12 @@ use Rattle.words.specs.Choice.{if_then_else_, _and_, _or_, _is_to_}
 use Rattle.sequence.specs.declared.HalfRead.{HalfRead}
 use Rattle.sequence.specs.declared.Event.the-variants.{EscCommand}
 use Rattle.sequence.specs.Reading.{ends, isCancel, afterEsc, insideSequence, advanceOf}
-use Rattle.steps.specs.Steps.{Terminal, Stepped, blockMessage, Valid}
+use Rattle.steps.specs.Steps.{Terminal, Stepped, blockTransmission, Valid}
 use Rattle.steps.specs.Seen.{blockHere}
-use Rattle.steps.specs.Commands.{sendBlock, escStep}
-use Rattle.steps.specs.Host.{eventStep}
-use Rattle.steps.specs.Keys.{isTyping, keyStep}
+use Rattle.sending.specs.Sending.{sendBlock}
+use Rattle.commands.specs.Commands.{escStep}
+use Rattle.commands.specs.Host.{eventStep}
+use Rattle.keys.specs.Keys.{isTyping, keyStep}
 use Rattle.commands.proofs.Theorems.{step-sends-full, step-sends-no-changed}
 use Rattle.keys.proofs.Theorems.{key-sends-full, key-sends-changed}
 use Rattle.promises.specs.Rules.{ourRules, Input, byte, press, stepOf}
@@ -24,14 +25,14 @@ unfolding advanceOf insideSequence isCancel afterEsc if_then_else_ _or_ _is_to_ 
 s-event half after-esc = rw after-esc
 
 module _ (t : Terminal) where
-  pub block-asked : (full : Bool) (input : Input) → Asks t full input → stepOf ourRules input t .message ≡ blockMessage full (blockHere full t)
+  pub block-asked : (full : Bool) (input : Input) → Asks t full input → stepOf ourRules input t .transmission ≡ blockTransmission full (blockHere full t)
   unfolding stepOf keyStep isTyping eventStep escStep sendBlock if_then_else_ _is_to_ _and_
   block-asked _ _ changed-by-266 = refl
   block-asked _ _ full-by-267 = refl
-  block-asked _ _ (full-by-esc-s after-esc) = ap (λ (s : Stepped). s .message) (step-is t 0x53 (s-event (t .state .half) after-esc))
+  block-asked _ _ (full-by-esc-s after-esc) = ap (λ (s : Stepped). s .transmission) (step-is t 0x53 (s-event (t .state .half) after-esc))
 
-  block-sent : Valid t → (full : Bool) (input : Input) (bytes : List ℕ) → stepOf ourRules input t .message ≡ blockMessage full bytes → Asks t full input × (bytes ≡ blockHere full t)
-  unfolding stepOf blockMessage
+  block-sent : Valid t → (full : Bool) (input : Input) (bytes : List ℕ) → stepOf ourRules input t .transmission ≡ blockTransmission full bytes → Asks t full input × (bytes ≡ blockHere full t)
+  unfolding stepOf blockTransmission
   block-sent valid true (byte b) bytes sends =
       let sent = step-sends-full b t valid bytes sends in
       (subst (λ (b : ℕ). Asks t true (byte b)) (sym (sent .asked .1)) (full-by-esc-s (sent .asked .0)), sent .of-page)
@@ -45,4 +46,4 @@ module _ (t : Terminal) where
 
 pub our-sends-blocks : SendsBlocks ourRules
 our-sends-blocks t valid input full bytes =
-    (block-sent t valid full input bytes, λ asked. block-asked t full input (asked .0) ∙ ap (blockMessage full) (sym (asked .1)))
+    (block-sent t valid full input bytes, λ asked. block-asked t full input (asked .0) ∙ ap (blockTransmission full) (sym (asked .1)))

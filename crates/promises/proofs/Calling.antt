@@ -5,7 +5,7 @@ use Prim.Native.Nat.{ℕ, _+_}
 use lib.ListN.{take, drop, length-append, take-append-drop}
 use Rattle.steps.specs.Steps.{Terminal, Stepped, Valid}
 use Rattle.terminal.specs.Answers.{Outcome, bytesSent}
-use Rattle.terminal.specs.Runs.{after, sentBy, storedBy}
+use Rattle.terminal.specs.Runs.{after, bytesSentBy, cellsStoredBy}
 use Rattle.promises.specs.Rules.{Rules, Input, byte, stepOf, steps, byteSteps, Total, totalOf}
 use Rattle.promises.specs.Entries.{Entries, Call, outcomeOf, outcomes, total, inputsOf, inputsDone, AllDone, done, Read, reads, joinedBytes, readOne, Carries, ended, taken, stopped}
 use Rattle.promises.specs.Demands.{Cutting}
@@ -23,13 +23,13 @@ unfolding after
 after-joined t [] second = refl
 after-joined t (step ∷ later) second = after-joined (step .terminal) later second
 
-pub sent-joined : (first second : List Stepped) → sentBy (first ++ second) ≡ sentBy first ++ sentBy second
-unfolding sentBy
+pub sent-joined : (first second : List Stepped) → bytesSentBy (first ++ second) ≡ bytesSentBy first ++ bytesSentBy second
+unfolding bytesSentBy
 sent-joined [] second = refl
 sent-joined (step ∷ later) second = rw (append-assoc, sent-joined later second)
 
-stored-joined : (first second : List Stepped) → storedBy (first ++ second) ≡ storedBy first ++ storedBy second
-unfolding storedBy
+stored-joined : (first second : List Stepped) → cellsStoredBy (first ++ second) ≡ cellsStoredBy first ++ cellsStoredBy second
+unfolding cellsStoredBy
 stored-joined [] second = refl
 stored-joined (step ∷ later) second = rw (append-assoc, stored-joined later second)
 
@@ -41,7 +41,7 @@ steps-joined rules t (input ∷ later) second = rw (steps-joined rules (stepOf r
 -- A call that did steps, in front of further steps.
 total-joined : (t : Terminal) (first second : List Stepped) (outcome : Outcome) → DidSteps t first outcome → inFront outcome (totalOf (after t first) second) ≡ totalOf t (first ++ second)
 total-joined t first second outcome did =
-    rw (after-joined t first second, sent-joined first second, stored-joined first second, length-append (storedBy first) (storedBy second), did .sent, did .stored)
+    rw (after-joined t first second, sent-joined first second, stored-joined first second, length-append (cellsStoredBy first) (cellsStoredBy second), did .sent, did .stored)
 
 -- What a call did, in front of what later calls did.
 pub inputs-in-front : (entries : Entries) (t : Terminal) (call : Call) (calls : List Call) {outcome : Outcome} → outcomeOf entries call t ≡ outcome → inputsDone entries t (call ∷ calls) ≡ inputsOf call outcome ++ inputsDone entries (outcome .terminal) calls
@@ -62,7 +62,7 @@ steps-keep-valid rules laws t valid (input ∷ later) = steps-keep-valid rules l
 
 module _ (rules : Rules) (entries : Entries) (kept : Keeps rules entries) where
   pub calls-are-steps-of : CallsAreSteps rules entries
-  unfolding outcomes total inputsDone steps after sentBy storedBy
+  unfolding outcomes total inputsDone steps after bytesSentBy cellsStoredBy
   calls-are-steps-of t [] = refl
   calls-are-steps-of t (call ∷ later) =
       let outcome = outcomeOf entries call t in

@@ -5,27 +5,31 @@ use Rattle.words.specs.Output.{placed}
 use Rattle.sequence.specs.Record.{argumentsFit, largestArgument, validHalfRead, withDigit, withNextArgument}
 use Rattle.sequence.specs.Reading.{isControl, isCancel, outsideSequence, afterEsc, afterIntermediate, afterBracket, insideSequence, advanceOf}
 use Rattle.page.specs.Marks.{unprotected}
-use Rattle.page.specs.Page.{validPage, textStored, typed, tagged, blanked, sentMark, modifiedCleared}
+use Rattle.page.specs.Page.{validPage, textStored, typed, tagged, blanked, markAfterBlock, modifiedCleared}
 use Rattle.places.specs.Places.{placeOf}
 use Rattle.output.specs.Decimal.{decimal, placeBytes}
 use Rattle.fields.specs.Fields.{opensStretch, joined, startsField, fieldStart, endFrom, fieldEnd, fieldsFrom}
-use Rattle.fields.specs.Searches.{orElse, firstFree, firstUnprotected, nextUnprotected}
-use Rattle.blocks.specs.Blocks.{entryBytes, encode, entryOf, someModified, isSent}
+use Rattle.fields.specs.Searches.{orElse, firstUnprotectedFrom, firstUnprotected, nextUnprotected}
+use Rattle.blocks.specs.Blocks.{entryBytes, encode, entryOf, someModified, isInBlock}
 use Rattle.blocks.specs.Decode.{inFront, split, readNumber, readEntry, decode}
 use Rattle.blocks.specs.Lay.{samePlace, laidOn, lay}
 use Rattle.blocks.specs.Finding.{endsReport, endsHead, outside, inside, afterByte, blocksFrom}
 use Rattle.state.specs.State.{refused, inputDisabled, unlocked}
 use Rattle.state.specs.Moves.{onBy, rightBy}
 use Rattle.state.specs.Pen.{validPen}
-use Rattle.state.specs.Validity.{listedRows, listedColumns, listedSize, sizeFits, cursorFits, stopsFit, validState}
-use Rattle.steps.specs.Steps.{bytesOf, blockMessage}
-use Rattle.steps.specs.Table.{allowed, valueOf}
-use Rattle.steps.specs.Commands.{toNextCell, textStep, sendBlock, escStep, readyReport, cursorReport, statusReport, listedStep, bracketStep}
-use Rattle.steps.specs.Host.{eventStep, hostStep}
-use Rattle.steps.specs.Keys.{isTyping, isEditing, isFieldMove, isKnown, isLocked, isLockedOut, lacksCell, goneTo, typedStep, fieldBlanked, keyStep}
-use Rattle.terminal.specs.Runs.{stepsOf, fitting, after, sentBy, storedBy}
-use Rattle.terminal.specs.Answers.{numberOf, unchanged, did, gives}
-use Rattle.terminal.specs.Lines.{firstOf, exceedsRoom, passesLine2, startLines, hostLines, keyLines}
+use Rattle.state.specs.Tests.{listedRows, listedColumns, listedSize, sizeFits, cursorFits, stopsFit, validState}
+use Rattle.steps.specs.Steps.{bytesOf, blockTransmission}
+use Rattle.table.specs.Table.{allowed, valueOf}
+use Rattle.state.specs.Moves.{toNextCell}
+use Rattle.commands.specs.Text.{textStep}
+use Rattle.sending.specs.Sending.{sendBlock, readyReport, cursorReport, statusReport}
+use Rattle.table.specs.Moves.{isMove, moveStep}
+use Rattle.commands.specs.Commands.{escStep, listedStep, bracketStep}
+use Rattle.commands.specs.Host.{eventStep, hostStep}
+use Rattle.keys.specs.Keys.{isTyping, isEditing, isFieldMove, isKnown, isLocked, isLockedOut, lacksCell, goneTo, typedStep, fieldBlanked, keyStep}
+use Rattle.terminal.specs.Runs.{stepsOf, fitting, after, bytesSentBy, cellsStoredBy}
+use Rattle.terminal.specs.Answers.{numberOf, unchanged, afterSteps, gives}
+use Rattle.terminal.specs.Tests.{firstOf, exceedsRoom, passesLine2, startLines, hostLines, keyLines}
 use Rattle.terminal.specs.Calls.{startCall, hostCall, keyCall}
 use Rattle.promises.specs.Rules.{stepOf, steps}
 use Rattle.promises.specs.Entries.{outcomeOf, outcomes, total, inputsOf, inputsDone, joinedBytes}
@@ -41,7 +45,7 @@ validity = tt
 
 -- The bytes of a block whose fields are known, and a block laid over a copy.
 unfoldable pub blockBytes : Unit {0}
-unfolding tests selected unprotected placeOf decimal placeBytes opensStretch joined startsField endFrom fieldEnd fieldsFrom entryBytes encode entryOf someModified isSent
+unfolding tests selected unprotected placeOf decimal placeBytes opensStretch joined startsField endFrom fieldEnd fieldsFrom entryBytes encode entryOf someModified isInBlock
 blockBytes = tt
 
 unfoldable pub laying : Unit {0}
@@ -55,16 +59,16 @@ finding = tt
 
 -- The steps of host bytes and of keys.
 unfoldable pub hostSteps : Unit {0}
-unfolding tests withDigit withNextArgument isControl isCancel outsideSequence afterEsc afterIntermediate afterBracket insideSequence advanceOf textStored sentMark modifiedCleared eachFrom refused inputDisabled decimal placeBytes bytesOf blockMessage allowed valueOf toNextCell textStep sendBlock escStep readyReport cursorReport statusReport listedStep bracketStep eventStep hostStep
+unfolding tests withDigit withNextArgument isControl isCancel outsideSequence afterEsc afterIntermediate afterBracket insideSequence advanceOf textStored markAfterBlock modifiedCleared eachFrom refused inputDisabled decimal placeBytes bytesOf blockTransmission allowed valueOf toNextCell textStep sendBlock escStep readyReport cursorReport statusReport isMove moveStep listedStep bracketStep eventStep hostStep
 hostSteps = tt
 
 unfoldable pub keySteps : Unit {0}
-unfolding tests within eachFrom numbersFrom onPart unprotected typed tagged blanked sentMark modifiedCleared placeOf opensStretch joined fieldStart endFrom fieldEnd orElse firstFree firstUnprotected nextUnprotected onBy rightBy unlocked bytesOf blockMessage sendBlock isTyping isEditing isFieldMove isKnown isLocked isLockedOut lacksCell goneTo typedStep fieldBlanked keyStep
+unfolding tests within eachFrom numbersFrom onPart unprotected typed tagged blanked markAfterBlock modifiedCleared placeOf opensStretch joined fieldStart endFrom fieldEnd orElse firstUnprotectedFrom firstUnprotected nextUnprotected onBy rightBy unlocked bytesOf blockTransmission sendBlock isTyping isEditing isFieldMove isKnown isLocked isLockedOut lacksCell goneTo typedStep fieldBlanked keyStep
 keySteps = tt
 
 -- Calls, with all but their steps; and what several of them leave.
 unfoldable pub calls : Unit {0}
-unfolding validity bytesOf placed stepsOf fitting after sentBy storedBy numberOf unchanged did gives firstOf exceedsRoom passesLine2 startLines hostLines keyLines startCall hostCall keyCall
+unfolding validity bytesOf placed stepsOf fitting after bytesSentBy cellsStoredBy numberOf unchanged afterSteps gives firstOf exceedsRoom passesLine2 startLines hostLines keyLines startCall hostCall keyCall
 calls = tt
 
 unfoldable pub streams : Unit {0}

@@ -11,7 +11,7 @@ use Rattle.blocks.specs.Blocks.{block}
 use Rattle.blocks.specs.Lay.{lay}
 use Rattle.blocks.proofs.Claims.{Sendable, SameForm, UnmodifiedKept}
 use Rattle.blocks.proofs.Theorems.{copy-changed, copy-replaced}
-use Rattle.steps.specs.Steps.{Terminal, Message, silent, report, fullBlock, changedBlock, Stepped, Valid}
+use Rattle.steps.specs.Steps.{Terminal, Transmission, silent, report, fullBlock, changedBlock, Stepped, Valid}
 use Rattle.steps.specs.Seen.{blockHere}
 use Rattle.steps.specs.Claims.{StoresNoCell, markLeft}
 use Rattle.promises.specs.Rules.{Rules, stepOf}
@@ -48,7 +48,7 @@ form-then one other = record {
 
 module _ (copy : List ℕ) (t : Terminal) (valid : Valid t) (step : Stepped) (law : StepLaw t step) (tag : TagLaw t step) (copied : IsCopy copy t) where
   -- A step that sends no block leaves the copy as good as it was: what it names is modified, and the rest stays.
-  stays-copy : ((mark : ℕ) → markLeft (step .message) mark ≡ mark) → IsCopy copy (step .terminal)
+  stays-copy : ((mark : ℕ) → markLeft (step .transmission) mark ≡ mark) → IsCopy copy (step .terminal)
   stays-copy keeps = record {
     page = copied .page;
     is = rw (law .size) (copied .is);
@@ -74,7 +74,7 @@ module _ (copy : List ℕ) (t : Terminal) (valid : Valid t) (step : Stepped) (la
     unfolding copies
     and-later bytes now = λ i. now .0 i ∷ rest (lay bytes copy) (now .1) i
 
-    copied-on : (message : Message) → step .message ≡ message
+    copied-on : (transmission : Transmission) → step .transmission ≡ transmission
         → copies copy (blockIn message ++ blocksSent later) ≡ map (blockHere true) (map (λ (block : List ℕ). step .terminal) (blockIn message) ++ standings later)
     unfolding blockIn markLeft
     copied-on silent is = rest copy (stays-copy (leaves step is))
@@ -92,7 +92,7 @@ copies-right : {t : Terminal} {run : List Stepped} → Follow t run → (copy : 
 unfolding copies blocksSent standings
 copies-right no-more copy copied = refl
 copies-right (one-more {t} {step} {later} valid law tag further) copy copied =
-    copied-on copy t valid step law tag copied later (λ next is-copy. copies-right further next is-copy) (step .message) refl
+    copied-on copy t valid step law tag copied later (λ next is-copy. copies-right further next is-copy) (step .transmission) refl
 
 -- Right after the first full block, too, the copy is the full block of the page as it stands.
 pub copying-of : (rules : Rules) → StepLaws rules → CopyingSteps rules

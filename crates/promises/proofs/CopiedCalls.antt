@@ -3,8 +3,8 @@ use mathlib.Core.Path.{_≡_, refl, ap, _∙_}
 use mathlib.Core.List.{List, [], _∷_, _++_}
 use Prim.Native.Nat.{ℕ}
 use Rattle.blocks.specs.Finding.{blocksFrom, blocksIn}
-use Rattle.steps.specs.Steps.{Terminal, fullBlock, Message}
-use Rattle.terminal.specs.Runs.{after, sentBy}
+use Rattle.steps.specs.Steps.{Terminal, fullBlock, Transmission}
+use Rattle.terminal.specs.Runs.{after, bytesSentBy}
 use Rattle.promises.specs.Rules.{Rules, Input, stepOf, steps, Total}
 use Rattle.promises.specs.Entries.{Entries, Call, inputsDone}
 use Rattle.promises.specs.Copying.{blockIn, blocksSent}
@@ -17,9 +17,9 @@ use Rattle.promises.proofs.Copied.{copying-of}
 use Rattle.promises.proofs.Omitted.{omission-of}
 
 -- The first of some steps sends a block.
-block-first : (rules : Rules) (t : Terminal) (asks : Input) (later : List Input) (block : List ℕ) → stepOf rules asks t .message ≡ fullBlock block → blocksSent (steps rules t (asks ∷ later)) ≡ block ∷ blocksSent (steps rules (stepOf rules asks t .terminal) later)
+block-first : (rules : Rules) (t : Terminal) (asks : Input) (later : List Input) (block : List ℕ) → stepOf rules asks t .transmission ≡ fullBlock block → blocksSent (steps rules t (asks ∷ later)) ≡ block ∷ blocksSent (steps rules (stepOf rules asks t .terminal) later)
 unfolding steps blocksSent blockIn
-block-first rules t asks later block sends = ap (λ (message : Message). blockIn message ++ blocksSent (steps rules (stepOf rules asks t .terminal) later)) sends
+block-first rules t asks later block sends = ap (λ (message : Transmission). blockIn message ++ blocksSent (steps rules (stepOf rules asks t .terminal) later)) sends
 
 -- Inputs that begin with some, and go on.
 first-input : (before : List Input) (asks : Input) (later : List Input) → (input : Input) × (rest : List Input) × (before ++ (asks ∷ later) ≡ input ∷ rest)
@@ -28,8 +28,8 @@ first-input (input ∷ before) asks later = (input, before ++ (asks ∷ later), 
 
 module _ (rules : Rules) (laws : StepLaws rules) (entries : Entries) (kept : Keeps rules entries) where
   -- In all that calls wrote, the host finds the blocks of the steps that they did. Calls that did nothing wrote nothing.
-  found-by : (t : Terminal) (calls : List Call) (inputs : List Input) → inputsDone entries t calls ≡ inputs → blocksIn (sentBy (steps rules t inputs)) ≡ blocksSent (steps rules t inputs)
-  unfolding steps sentBy blocksSent blocksFrom
+  found-by : (t : Terminal) (calls : List Call) (inputs : List Input) → inputsDone entries t calls ≡ inputs → blocksIn (bytesSentBy (steps rules t inputs)) ≡ blocksSent (steps rules t inputs)
+  unfolding steps bytesSentBy blocksSent blocksFrom
   found-by t calls [] did = refl
   found-by t calls (input ∷ later) did = blocks-found rules laws t (found-valid rules entries kept t calls input later did) (input ∷ later)
 

@@ -12,13 +12,13 @@ use Rattle.words.specs.Choice.{_and_}
 use Rattle.words.proofs.Choosing.{not-both, then-case, else-case, either-way, both, both-hold}
 use Rattle.page.specs.Page.{validPage}
 use Rattle.state.specs.Lines.{Line1, Line2}
-use Rattle.state.specs.Validity.{sizeFits, validState}
+use Rattle.state.specs.Tests.{sizeFits, validState}
 use Rattle.state.proofs.Lines.{line-1, line-2}
 use Rattle.steps.specs.Steps.{Terminal, Stepped, Valid}
-use Rattle.terminal.specs.Runs.{after, sentBy, storedBy}
+use Rattle.terminal.specs.Runs.{after, bytesSentBy, cellsStoredBy}
 use Rattle.terminal.specs.Answers.{Outcome}
 use Rattle.terminal.specs.Claims.{Leaves, Did}
-use Rattle.terminal.specs.Table.{TableLine, _when_, Decides, this-holds, not-this}
+use Rattle.terminal.specs.Lines.{TableLine, _when_, Decides, this-holds, not-this}
 use Rattle.terminal.proofs.Theorems.{bytes-sent}
 use Rattle.promises.specs.Rules.{Rules, Input, byte, stepOf, steps, byteSteps}
 use Rattle.promises.specs.Entries.{Entries, Call, read, keyPress, outcomeOf, inputsOf, inputsDone}
@@ -29,7 +29,7 @@ in-steps : {taken : ℕ} {t : Terminal} {lent : List ℕ} {run : List Stepped} {
 in-steps did = record { terminal = did .terminal; sent = bytes-sent did; stored = did .stored }
 
 no-steps : {t : Terminal} {lent : List ℕ} {outcome : Outcome} → Leaves t lent outcome → DidSteps t [] outcome
-unfolding after sentBy storedBy
+unfolding after bytesSentBy cellsStoredBy
 no-steps {outcome} left = record { terminal = left .terminal; sent = ap (λ (n : ℕ). take n (outcome .output)) (left .sent); stored = left .stored }
 
 -- The steps of the first bytes are the first steps.

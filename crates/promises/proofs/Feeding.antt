@@ -13,15 +13,15 @@ use Rattle.blocks.specs.Blocks.{block, encode}
 use Rattle.blocks.proofs.Claims.{fieldsOn}
 use Rattle.blocks.proofs.Pages.{all-sent}
 use Rattle.state.specs.declared.Size.{Size}
-use Rattle.steps.specs.Steps.{Terminal, bytesOf, fullBlock, Message, Valid}
-use Rattle.steps.specs.Seen.{free}
+use Rattle.steps.specs.Steps.{Terminal, bytesOf, fullBlock, Transmission, Valid}
+use Rattle.steps.specs.Seen.{unprotectedAt}
 use Rattle.steps.proofs.Measuring.{measured}
 use Rattle.promises.specs.Rules.{ourRules, Input, stepOf}
 use Rattle.promises.specs.Entries.{ourEntries, Read, joinedBytes, readAll}
 use Rattle.promises.specs.FeedingBack.{Receives, FedBack}
 use Rattle.promises.specs.Demands.{FeedingBack}
 use Rattle.promises.proofs.OurLaws.{our-step-laws}
-use Rattle.promises.proofs.Keeping.{past-free}
+use Rattle.promises.proofs.Keeping.{past-unprotected}
 use Rattle.promises.proofs.FeedingRuns.{Leads, leads-validly, leads-sized, none-refused}
 use Rattle.promises.proofs.FeedingReads.{ReadThrough, read-through}
 use Rattle.promises.proofs.FeedingCells.{Filled, Kept}
@@ -47,10 +47,10 @@ module _ (sender : Terminal) (valid : Valid sender) where
         end = feeds .0;
         leads = subst (λ (bytes : List ℕ). Leads receiver bytes (feeds .0)) (sym (ap encode (all-sent columns (sender .page)))) (feeds .1 .leads);
         filled = λ cell here free. feeds .1 .fills cell (lists .every-cell cell here free);
-        kept = λ cell protected. feeds .1 .keeps cell (λ some. not-both (lists .only-fields (some .0) (some .1) .all-free cell (some .2)) protected);
+        kept = λ cell protected. feeds .1 .keeps cell (λ some. not-both (lists .only-fields (some .0) (some .1) .all-unprotected cell (some .2)) protected);
       }
 
-module _ (sender receiver : Terminal) (asks : Input) (bytes : List ℕ) (cut : List Read) (valid : Valid sender) (sends : stepOf ourRules asks sender .message ≡ fullBlock bytes) (receives : Receives sender receiver) (joined : joinedBytes cut ≡ bytes) where
+module _ (sender receiver : Terminal) (asks : Input) (bytes : List ℕ) (cut : List Read) (valid : Valid sender) (sends : stepOf ourRules asks sender .transmission ≡ fullBlock bytes) (receives : Receives sender receiver) (joined : joinedBytes cut ≡ bytes) where
   reached : Fed sender receiver bytes
   reached = subst (Fed sender receiver) (sym (our-step-laws .every-step asks sender valid .full-block bytes sends .of-page)) (fed sender valid receiver receives)
 
@@ -59,7 +59,7 @@ module _ (sender receiver : Terminal) (asks : Input) (bytes : List ℕ) (cut : L
   unfolding bytesOf
   through =
       let short = our-step-laws .every-step asks sender valid .short in
-      let few : length (joinedBytes cut) ≤ 65536 = omega (arith, ap (length {A = ℕ}) joined, ap (λ (message : Message). length (bytesOf message)) sends, short) in
+      let few : length (joinedBytes cut) ≤ 65536 = omega (arith, ap (length {A = ℕ}) joined, ap (λ (transmission : Transmission). length (bytesOf transmission)) sends, short) in
       read-through cut (subst (λ (b : List ℕ). Leads receiver b (reached .end)) (sym joined) (reached .leads)) (receives .valid) few
 
   -- What the reads leave of a cell.
@@ -82,7 +82,7 @@ module _ (sender receiver : Terminal) (asks : Input) (bytes : List ℕ) (cut : L
       ∙ ap (λ (size : Size). size .rows * size .columns) (leads-sized (reached .leads) (receives .valid) ∙ receives .size)
       ∙ sym (measured valid .all-cells)
 
-  fed-characters : (cell : ℕ) → free sender cell ≡ true → getD (left .characters) cell 0 ≡ getD (sender .page .characters) cell 0
+  fed-characters : (cell : ℕ) → unprotectedAt sender cell ≡ true → getD (left .characters) cell 0 ≡ getD (sender .page .characters) cell 0
   fed-characters cell is-free =
       left-character cell
       ∙ less-or-not cell (length (sender .page .marks))
@@ -104,7 +104,7 @@ module _ (sender receiver : Terminal) (asks : Input) (bytes : List ℕ) (cut : L
       ap (λ (t : Terminal). unprotected (t .page .marks) cell) (through .terminal)
       ∙ less-or-not cell (length (sender .page .marks))
       (λ here. end-protection cell here)
-      (λ past. past-free (reached .end .page .marks) cell (omega (arith, as-many-marks)) ∙ sym (past-free (sender .page .marks) cell past))
+      (λ past. past-unprotected (reached .end .page .marks) cell (omega (arith, as-many-marks)) ∙ sym (past-unprotected (sender .page .marks) cell past))
 
   is-fed-back : FedBack ourRules ourEntries sender receiver bytes cut
   is-fed-back = record {

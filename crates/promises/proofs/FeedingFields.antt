@@ -19,7 +19,7 @@ use Rattle.fields.proofs.Claims.{IsField, _has_}
 use Rattle.blocks.specs.Blocks.{headBytes, entryBytes, entryOf, encode}
 use Rattle.state.specs.declared.Size.{Size}
 use Rattle.steps.specs.Steps.{Terminal, Valid}
-use Rattle.steps.specs.Host.{eventStep}
+use Rattle.commands.specs.Host.{eventStep}
 use Rattle.steps.proofs.Measuring.{measured}
 use Rattle.promises.proofs.FeedingRuns.{reading, step-is, Leads, arrived, leads-on}
 use Rattle.promises.proofs.FeedingPlace.{placedAt, place-leads}

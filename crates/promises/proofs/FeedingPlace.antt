@@ -16,11 +16,12 @@ use Rattle.sequence.specs.Record.{nothingRead, escRead, withDigit, withNextArgu
 use Rattle.sequence.specs.Reading.{readsOn, ends, isControl, isCancel, outsideSequence, afterEsc, afterBracket, insideSequence, advanceOf}
 use Rattle.output.specs.Decimal.{decimal, placeBytes}
 use Rattle.output.proofs.Digits.{one-digit, two-digits, three-digits}
-use Rattle.state.specs.State.{withCursor, withHalf}
+use Rattle.state.specs.State.{withCursor, cursorAt, withHalf}
 use Rattle.steps.specs.Steps.{Terminal, Stepped, goesTo}
-use Rattle.steps.specs.Table.{allowed, valueOf}
-use Rattle.steps.specs.Commands.{toPlace, keptColumn, listedStep, bracketStep}
-use Rattle.steps.specs.Host.{eventStep, hostStep}
+use Rattle.table.specs.Table.{allowed, valueOf}
+use Rattle.table.specs.Moves.{toPlace, keptColumn, isMove, moveStep}
+use Rattle.commands.specs.Commands.{listedStep, bracketStep}
+use Rattle.commands.specs.Host.{eventStep, hostStep}
 use Rattle.promises.proofs.FeedingRuns.{reading, step-is, reads-on, Leads, arrived, leads-on, leads-then}
 
 -- A byte that is read on.
@@ -98,7 +99,7 @@ final-event row column = refl
 
 -- HVP with a row and a column on the page.
 abbrev placing : Terminal → ℕ → ℕ → Stepped
-placing t row column = goesTo (withCursor (withHalf (t .state) nothingRead) row column) t
+placing t row column = goesTo (withCursor (withHalf (t .state) nothingRead) (cursorAt row column)) t
 
 abbrev pub placedAt : Terminal → ℕ → ℕ → Terminal
 placedAt t row column = placing t row column .terminal
@@ -117,7 +118,7 @@ module _ (t : Terminal) (row column : ℕ) (some-row : 1 ≤ row) (row-fits : ro
   column-kept second present = else-case _ _ _ (first-fails _ _ (ne-eqb column 0 (λ e. omega arith)))
 
   final-acts : bracketStep 0x66 (columnRead row column) (reading t nothingRead) ≡ placing t row column
-  unfolding bracketStep listedStep allowed if_then_else_ _or_ _is_to_ _and_
+  unfolding bracketStep isMove moveStep listedStep allowed if_then_else_ _or_ _is_to_ _and_
   final-acts =
       let arguments = columnRead row column .arguments in
       rw (column-kept, value-is 0x66 arguments 0 some-row, value-is 0x66 arguments 1 some-column) goes-there

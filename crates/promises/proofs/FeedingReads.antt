@@ -5,7 +5,7 @@ use Prim.Native.Nat.{ℕ, _≤_}
 use native.Mathlib.Omega.{arith}
 use lib.ListN.{length, length-append}
 use Rattle.steps.specs.Steps.{Terminal, Stepped, bytesOf, Valid}
-use Rattle.terminal.specs.Runs.{stepsOf, after, sentBy}
+use Rattle.terminal.specs.Runs.{stepsOf, after, bytesSentBy}
 use Rattle.terminal.specs.Answers.{numberOf, Outcome, bytesSent}
 use Rattle.terminal.specs.Calls.{hostCall}
 use Rattle.terminal.proofs.Cases.{host-did}
@@ -13,13 +13,13 @@ use Rattle.terminal.proofs.Theorems.{did-so, did-number, bytes-sent}
 use Rattle.promises.specs.Entries.{ourEntries, outcomeOf, outcomes, total, AllDone, no-more, done, Read, reads, joinedBytes, readAll}
 use Rattle.promises.proofs.FeedingRuns.{Quiet, Leads, arrived, onward, leads-cut, leads-validly}
 
-quiet-bytes : {step : Stepped} → Quiet step → bytesOf (step .message) ≡ []
+quiet-bytes : {step : Stepped} → Quiet step → bytesOf (step .transmission) ≡ []
 unfolding bytesOf
 quiet-bytes quiet = ap bytesOf (quiet .nothing-sent)
 
 -- The steps of quiet bytes send nothing, and leave the terminal to which they lead.
-sends-nothing : {t end : Terminal} {bytes : List ℕ} → Leads t bytes end → sentBy (stepsOf t bytes) ≡ []
-unfolding stepsOf sentBy
+sends-nothing : {t end : Terminal} {bytes : List ℕ} → Leads t bytes end → bytesSentBy (stepsOf t bytes) ≡ []
+unfolding stepsOf bytesSentBy
 sends-nothing (arrived _) = refl
 sends-nothing (onward first quiet way) = λ i. quiet-bytes quiet i ++ sends-nothing way i
 

@@ -9,7 +9,7 @@ use Rattle.sequence.specs.declared.Advanced.{Advanced}
 use Rattle.sequence.specs.Reading.{readsOn, advanceOf}
 use Rattle.state.specs.State.{withHalf}
 use Rattle.steps.specs.Steps.{Terminal, silent, Stepped, withState, goesTo, Valid}
-use Rattle.steps.specs.Host.{eventStep, hostStep}
+use Rattle.commands.specs.Host.{eventStep, hostStep}
 use Rattle.commands.proofs.Theorems.{step-keeps-valid, step-keeps-size}
 use Rattle.promises.specs.Rules.{ourRules, stepOf, steps, byteSteps}
 
@@ -27,7 +27,7 @@ unfolding eventStep
 reads-on t next on = step-is t next on
 
 pub record Quiet (step : Stepped) : Type 0 where
-  pub nothing-sent : step .message ≡ silent
+  pub nothing-sent : step .transmission ≡ silent
   pub not-refused : step .wasRefused ≡ false
 
 -- These bytes, read from the first terminal, lead to the second, each by a quiet step.
@@ -36,10 +36,10 @@ pub data Leads : Terminal → List ℕ → Terminal → Type 0 where
   onward : {t end : Terminal} (first : ℕ) {later : List ℕ} → Quiet (hostStep first t) → Leads (hostStep first t .terminal) later end → Leads t (first ∷ later) end
 
 -- A byte in front, by what its step is.
-pub leads-on : {t : Terminal} (first : ℕ) {later : List ℕ} {end : Terminal} {step : Stepped} → hostStep first t ≡ step → step .message ≡ silent → step .wasRefused ≡ false → Leads (step .terminal) later end → Leads t (first ∷ later) end
+pub leads-on : {t : Terminal} (first : ℕ) {later : List ℕ} {end : Terminal} {step : Stepped} → hostStep first t ≡ step → step .transmission ≡ silent → step .wasRefused ≡ false → Leads (step .terminal) later end → Leads t (first ∷ later) end
 leads-on first {later} {end} is nothing accepted on =
     onward first
-    (record { nothing-sent = ap (λ (s : Stepped). s .message) is ∙ nothing; not-refused = ap (λ (s : Stepped). s .wasRefused) is ∙ accepted })
+    (record { nothing-sent = ap (λ (s : Stepped). s .transmission) is ∙ nothing; not-refused = ap (λ (s : Stepped). s .wasRefused) is ∙ accepted })
     (subst (λ (s : Stepped). Leads (s .terminal) later end) (sym is) on)
 
 -- Bytes that follow bytes, and bytes that are cut in two.

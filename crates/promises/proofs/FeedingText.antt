@@ -21,8 +21,9 @@ use Rattle.page.specs.Marks.{isProtected, validCharacter, unprotected}
 use Rattle.page.specs.Page.{validPage, textStored}
 use Rattle.state.specs.declared.State.{State}
 use Rattle.steps.specs.Steps.{Terminal, cursorCell, Valid}
-use Rattle.steps.specs.Commands.{toNextCell, textStep}
-use Rattle.steps.specs.Host.{eventStep, hostStep}
+use Rattle.state.specs.Moves.{toNextCell}
+use Rattle.commands.specs.Text.{textStep}
+use Rattle.commands.specs.Host.{eventStep, hostStep}
 use Rattle.steps.proofs.Measuring.{measured}
 use Rattle.promises.proofs.FeedingRuns.{reading, step-is, arrived, leads-on}
 use Rattle.promises.proofs.FeedingCells.{Filled, Ready, Feeds, ready-again, same-lengths, feeds-none, feeds-then}

@@ -9,15 +9,15 @@ use borrow.Author.Tests.{ne-eqb, not-true, not-false}
 use lib.ListN.{length, getD, List·getD-eq-default}
 use Rattle.words.proofs.Choosing.{not-both, less-or-not, both, then-case, else-case}
 use Rattle.page.specs.Marks.{isProtected, isModified, unprotected}
-use Rattle.page.specs.Page.{Page, validPage, sentMark}
+use Rattle.page.specs.Page.{Page, validPage, markAfterBlock}
 use Rattle.page.proofs.Keeping.{SameSize}
 use Rattle.blocks.specs.Blocks.{encode, entryOf, block}
 use Rattle.blocks.proofs.Claims.{Sendable, SameForm, NothingModified}
 use Rattle.blocks.proofs.Pages.{all-sent}
 use Rattle.blocks.proofs.Laying.{same-fields}
 use Rattle.state.proofs.Keeping.{size-bounds}
-use Rattle.steps.specs.Steps.{Terminal, Message, silent, report, fullBlock, changedBlock, Stepped, Valid}
-use Rattle.steps.specs.Seen.{free, blockHere}
+use Rattle.steps.specs.Steps.{Terminal, Transmission, silent, report, fullBlock, changedBlock, Stepped, Valid}
+use Rattle.steps.specs.Seen.{unprotectedAt, blockHere}
 use Rattle.steps.specs.Claims.{markLeft, TouchesOnly, CellKept, KeepsProtection}
 use Rattle.steps.proofs.Naming.{all-stay-protected, same-characters}
 use Rattle.steps.proofs.Soundness.{Sized, sized}
@@ -43,28 +43,28 @@ unfolding block
 same-copy columns p q form characters =
     ap encode (all-sent columns p ∙ (λ i. map (entryOf columns (sym characters i)) (same-fields p q form columns i)) ∙ sym (all-sent columns q))
 
--- What a step leaves of marks goes by its message.
-pub leaves : (step : Stepped) {message : Message} → step .message ≡ message → (mark : ℕ) → markLeft (step .message) mark ≡ markLeft message mark
-leaves step is mark = ap (λ (message : Message). markLeft message mark) is
+-- What a step leaves of marks goes by its transmission.
+pub leaves : (step : Stepped) {transmission : Transmission} → step .transmission ≡ transmission → (mark : ℕ) → markLeft (step .transmission) mark ≡ markLeft transmission mark
+leaves step is mark = ap (λ (transmission : Transmission). markLeft transmission mark) is
 
 -- Sending clears modified on an unprotected cell.
-sent-unmodified : (mark : ℕ) → isProtected mark ≡ false → isModified (sentMark mark) ≡ false
-unfolding sentMark
+sent-unmodified : (mark : ℕ) → isProtected mark ≡ false → isModified (markAfterBlock mark) ≡ false
+unfolding markAfterBlock
 sent-unmodified mark free = ap isModified (else-case _ _ _ free) ∙ ne-eqb ((mark / 4 * 4 + mark % 2) / 2 % 2) 1 (λ bit. omega arith)
 
--- A protected cell is on the page, past which nothing is; and no message changes its mark.
-pub past-free : (marks : List ℕ) (cell : ℕ) → length marks ≤ cell → unprotected marks cell ≡ true
+-- A protected cell is on the page, past which nothing is; and no transmission changes its mark.
+pub past-unprotected : (marks : List ℕ) (cell : ℕ) → length marks ≤ cell → unprotected marks cell ≡ true
 unfolding unprotected
-past-free marks cell past = ap (λ (mark : ℕ). not (isProtected mark)) (List·getD-eq-default marks 0 past)
+past-unprotected marks cell past = ap (λ (mark : ℕ). not (isProtected mark)) (List·getD-eq-default marks 0 past)
 
 protected-on-page : (marks : List ℕ) (cell : ℕ) → unprotected marks cell ≡ false → cell < length marks
-protected-on-page marks cell protected = less-or-not cell (length marks) (λ here. here) (λ past. absurd (not-both (past-free marks cell past) protected))
+protected-on-page marks cell protected = less-or-not cell (length marks) (λ here. here) (λ past. absurd (not-both (past-unprotected marks cell past) protected))
 
-protected-stays : (marks : List ℕ) (cell : ℕ) → unprotected marks cell ≡ false → sentMark (getD marks cell 0) ≡ getD marks cell 0
-unfolding unprotected sentMark
+protected-stays : (marks : List ℕ) (cell : ℕ) → unprotected marks cell ≡ false → markAfterBlock (getD marks cell 0) ≡ getD marks cell 0
+unfolding unprotected markAfterBlock
 protected-stays marks cell protected = then-case _ _ _ (not-false _ protected)
 
-left-protected : (message : Message) (marks : List ℕ) (cell : ℕ) → unprotected marks cell ≡ false → markLeft message (getD marks cell 0) ≡ getD marks cell 0
+left-protected : (transmission : Transmission) (marks : List ℕ) (cell : ℕ) → unprotected marks cell ≡ false → markLeft transmission (getD marks cell 0) ≡ getD marks cell 0
 unfolding markLeft
 left-protected silent marks cell protected = refl
 left-protected (report bytes) marks cell protected = refl
@@ -85,32 +85,32 @@ module _ (t : Terminal) (valid : Valid t) (step : Stepped) (law : StepLaw t step
   was-on-page cell here = omega (arith, same-size .marks)
 
   -- A protected cell that isn't named is kept.
-  pub protected-kept : (cell : ℕ) → free t cell ≡ false → (List·Memᴰ cell (step .cells) → ⊥) → CellKept (t .page) (step .terminal .page) cell
+  pub protected-kept : (cell : ℕ) → unprotectedAt t cell ≡ false → (List·Memᴰ cell (step .cells) → ⊥) → CellKept (t .page) (step .terminal .page) cell
   protected-kept cell protected unnamed =
       let stays = law .touches cell (protected-on-page (t .page .marks) cell protected) unnamed in
-      record { character = stays .character; mark = stays .mark ∙ left-protected (step .message) (t .page .marks) cell protected }
+      record { character = stays .character; mark = stays .mark ∙ left-protected (step .transmission) (t .page .marks) cell protected }
 
   pub same-form : KeepsProtection (t .page) (step .terminal .page) → SameForm (t .page) (step .terminal .page)
   same-form protection = record { size = same-size; unprotected-cells = λ cell here. sym (protection cell (was-on-page cell here)) }
 
   -- A step that names no cell.
   module _ (no-cell : step .cells ≡ []) where
-    all-stay : TouchesOnly [] (step .message) (t .page) (step .terminal .page)
+    all-stay : TouchesOnly [] (step .transmission) (t .page) (step .terminal .page)
     all-stay = rw no-cell at (law .touches)
 
     pub names-none : TagLaw t step
     names-none = record {
-      protection = all-stay-protected (step .message) (t .page) (step .terminal .page) all-stay;
+      protection = all-stay-protected (step .transmission) (t .page) (step .terminal .page) all-stay;
       tags = λ cell named. absurd (List·Memᴰ·not-nil (subst (λ (cells : List ℕ). List·Memᴰ cell cells) no-cell named));
     }
 
     pub same-full-block : blockHere true t ≡ blockHere true (step .terminal)
     same-full-block =
         rw (law .size) (same-copy (t .state .size .columns) (t .page) (step .terminal .page) (same-form (names-none .protection))
-        (same-characters (step .message) (t .page) (step .terminal .page) all-stay same-size (was .characters ∙ sym (was .marks))))
+        (same-characters (step .transmission) (t .page) (step .terminal .page) all-stay same-size (was .characters ∙ sym (was .marks))))
 
     -- If it sends a block, nothing is modified any more.
-    pub nothing-modified : ((mark : ℕ) → markLeft (step .message) mark ≡ sentMark mark) → NothingModified (step .terminal .page)
+    pub nothing-modified : ((mark : ℕ) → markLeft (step .transmission) mark ≡ markAfterBlock mark) → NothingModified (step .terminal .page)
     unfolding unprotected
     nothing-modified clears cell here free =
         let on-page = was-on-page cell here in

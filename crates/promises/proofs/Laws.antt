@@ -7,10 +7,10 @@ use Prim.Native.Nat.{ℕ, _≤_}
 use lib.ListN.{length}
 use Rattle.blocks.proofs.Claims.{IsReport}
 use Rattle.steps.specs.Steps.{Terminal, report, fullBlock, changedBlock, Stepped, bytesOf, Valid}
-use Rattle.steps.specs.Seen.{seen, free, modifiedAt, blockHere}
+use Rattle.steps.specs.Seen.{seen, unprotectedAt, modifiedAt, blockHere}
 use Rattle.steps.specs.Claims.{StoresNoCell, TouchesOnly, KeepsProtection}
 use Rattle.terminal.specs.Answers.{Outcome, bytesSent}
-use Rattle.terminal.specs.Runs.{after, sentBy, storedBy}
+use Rattle.terminal.specs.Runs.{after, bytesSentBy, cellsStoredBy}
 use Rattle.promises.specs.Rules.{Rules, Input, stepOf}
 use Rattle.promises.specs.Entries.{Entries}
 use Rattle.promises.specs.Demands.{Numbers, Refusals, Follows}
@@ -25,11 +25,11 @@ pub record BlockOfPage (full : Bool) (t : Terminal) (step : Stepped) (bytes : Li
 pub record StepLaw (t : Terminal) (step : Stepped) : Type 0 where
   pub valid : Valid (step .terminal)
   pub size : step .terminal .state .size ≡ t .state .size
-  pub touches : TouchesOnly (step .cells) (step .message) (seen t) (seen (step .terminal))
-  pub reports : (bytes : List ℕ) → step .message ≡ report bytes → IsReport bytes
-  pub full-block : (bytes : List ℕ) → step .message ≡ fullBlock bytes → BlockOfPage true t step bytes
-  pub changed-block : (bytes : List ℕ) → step .message ≡ changedBlock bytes → BlockOfPage false t step bytes
-  pub short : length (bytesOf (step .message)) ≤ 35185
+  pub touches : TouchesOnly (step .cells) (step .transmission) (seen t) (seen (step .terminal))
+  pub reports : (bytes : List ℕ) → step .transmission ≡ report bytes → IsReport bytes
+  pub full-block : (bytes : List ℕ) → step .transmission ≡ fullBlock bytes → BlockOfPage true t step bytes
+  pub changed-block : (bytes : List ℕ) → step .transmission ≡ changedBlock bytes → BlockOfPage false t step bytes
+  pub short : length (bytesOf (step .transmission)) ≤ 35185
 
 -- Protection stays, and each cell named is modified.
 pub record TagLaw (t : Terminal) (step : Stepped) : Type 0 where
@@ -39,7 +39,7 @@ pub record TagLaw (t : Terminal) (step : Stepped) : Type 0 where
 -- Every key's step does that, and names unprotected cells only.
 pub record KeyLaw (t : Terminal) (step : Stepped) : Type 0 where
   pub tag-law : TagLaw t step
-  pub names-free : (cell : ℕ) → List·Memᴰ cell (step .cells) → free t cell ≡ true
+  pub names-unprotected : (cell : ℕ) → List·Memᴰ cell (step .cells) → unprotectedAt t cell ≡ true
 
 pub record StepLaws (rules : Rules) : Type 0 where
   pub every-step : (input : Input) (t : Terminal) → Valid t → StepLaw t (stepOf rules input t)
@@ -51,8 +51,8 @@ pub record Keeps (rules : Rules) (entries : Entries) : Type 1 where
   pub refusals : Refusals rules entries
   pub follows : Follows rules entries
 
--- A call did these steps: it leaves what they leave, its bytes are their messages joined, its count the cells that they name.
+-- A call did these steps: it leaves what they leave, its bytes are their transmissions joined, its count the cells that they name.
 pub record DidSteps (t : Terminal) (done : List Stepped) (outcome : Outcome) : Type 0 where
   pub terminal : outcome .terminal ≡ after t done
-  pub sent : bytesSent outcome ≡ sentBy done
-  pub stored : outcome .stored ≡ length (storedBy done)
+  pub sent : bytesSent outcome ≡ bytesSentBy done
+  pub stored : outcome .stored ≡ length (cellsStoredBy done)

@@ -8,11 +8,11 @@ use native.Mathlib.Omega.{arith}
 use lib.ListN.{length, getD}
 use Rattle.words.proofs.Choosing.{not-both, either-way, second-decides, neither}
 use Rattle.page.specs.Marks.{isModified, unprotected}
-use Rattle.page.specs.Page.{Page, sentMark}
-use Rattle.blocks.specs.Blocks.{isSent, block}
+use Rattle.page.specs.Page.{Page, markAfterBlock}
+use Rattle.blocks.specs.Blocks.{isInBlock, block}
 use Rattle.blocks.proofs.Pages.{none-modified}
 use Rattle.blocks.proofs.Laying.{unmodified}
-use Rattle.steps.specs.Steps.{Terminal, Message, silent, report, fullBlock, changedBlock, Stepped, Valid}
+use Rattle.steps.specs.Steps.{Terminal, Transmission, silent, report, fullBlock, changedBlock, Stepped, Valid}
 use Rattle.steps.specs.Claims.{markLeft}
 use Rattle.promises.specs.Rules.{Rules, stepOf}
 use Rattle.promises.specs.Copying.{OmitsExactly, storedSince, OmissionHolds}
@@ -29,7 +29,7 @@ record Tracks (stored : List ℕ) (page : Page) : Type 0 where
 
 -- So a changed block sends just the fields with a cell that was stored.
 omits-exactly : (t : Terminal) → Valid t → (stored : List ℕ) → Tracks stored (t .page) → OmitsExactly (changedBlock (block false (t .state .size .columns) (t .page))) t stored
-unfolding OmitsExactly isSent
+unfolding OmitsExactly isInBlock
 omits-exactly t valid stored tracks field listed =
     let columns = t .state .size .columns in
     let is = is-field t (sendable valid) field listed in (
@@ -43,11 +43,11 @@ omits-exactly t valid stored tracks field listed =
           unsent-omitted t (sendable valid) false field listed
           (second-decides false _ refl
           ∙ none-modified columns (t .page) (field .length) (field .start)
-          (λ cell low high. tracks .others-are-not cell (omega (arith, is .on-page)) (is .all-free cell (low, high)) (unstored .no-cell cell low high))),
+          (λ cell low high. tracks .others-are-not cell (omega (arith, is .on-page)) (is .all-unprotected cell (low, high)) (unstored .no-cell cell low high))),
     )
 
 -- A block leaves nothing modified.
-tracks-anew : (t : Terminal) → Valid t → (step : Stepped) → StepLaw t step → step .cells ≡ [] → ((mark : ℕ) → markLeft (step .message) mark ≡ sentMark mark) → Tracks [] (step .terminal .page)
+tracks-anew : (t : Terminal) → Valid t → (step : Stepped) → StepLaw t step → step .cells ≡ [] → ((mark : ℕ) → markLeft (step .transmission) mark ≡ markAfterBlock mark) → Tracks [] (step .terminal .page)
 tracks-anew t valid step law no-cell clears = record {
   stored-are = λ cell here was-stored. absurd (List·Memᴰ·not-nil was-stored);
   others-are-not = λ cell here free unstored. nothing-modified t valid step law no-cell clears cell here free;
@@ -55,7 +55,7 @@ tracks-anew t valid step law no-cell clears = record {
 
 module _ (t : Terminal) (valid : Valid t) (step : Stepped) (law : StepLaw t step) (tag : TagLaw t step) (stored : List ℕ) (tracks : Tracks stored (t .page)) where
   -- A step that sends no block: what it names is modified, and the rest stays.
-  tracks-on : ((mark : ℕ) → markLeft (step .message) mark ≡ mark) → Tracks (stored ++ step .cells) (step .terminal .page)
+  tracks-on : ((mark : ℕ) → markLeft (step .transmission) mark ≡ mark) → Tracks (stored ++ step .cells) (step .terminal .page)
   tracks-on keeps = record {
     stored-are = λ cell here was-stored.
         ⊎-elim
@@ -76,7 +76,7 @@ module _ (t : Terminal) (valid : Valid t) (step : Stepped) (law : StepLaw t step
       stays : (cell : ℕ) → cell < length (step .terminal .page .marks) → (List·Memᴰ cell (step .cells) → ⊥) → isModified (getD (step .terminal .page .marks) cell 0) ≡ isModified (getD (t .page .marks) cell 0)
       stays cell here unnamed = ap isModified (law .touches cell (on-page cell here) unnamed .mark ∙ keeps _)
 
-  omitted-on : (message : Message) → step .message ≡ message → OmitsExactly message t stored × Tracks (storedSince message stored (step .cells)) (step .terminal .page)
+  omitted-on : (transmission : Transmission) → step .transmission ≡ transmission → OmitsExactly transmission t stored × Tracks (storedSince transmission stored (step .cells)) (step .terminal .page)
   unfolding OmitsExactly storedSince markLeft
   omitted-on silent is = (tt, tracks-on (leaves step is))
   omitted-on (report bytes) is = (tt, tracks-on (leaves step is))
@@ -89,8 +89,8 @@ omission-holds : {t : Terminal} {run : List Stepped} → Follow t run → (store
 unfolding OmissionHolds
 omission-holds no-more stored tracks = tt
 omission-holds (one-more {t} {step} valid law tag further) stored tracks =
-    let now = omitted-on t valid step law tag stored tracks (step .message) refl in
-    (now .0, omission-holds further (storedSince (step .message) stored (step .cells)) (now .1))
+    let now = omitted-on t valid step law tag stored tracks (step .transmission) refl in
+    (now .0, omission-holds further (storedSince (step .transmission) stored (step .cells)) (now .1))
 
 pub omission-of : (rules : Rules) → StepLaws rules → OmissionSteps rules
 unfolding markLeft

@@ -10,7 +10,7 @@ use Rattle.page.specs.Page.{Page}
 use Rattle.state.specs.declared.Size.{Size}
 use Rattle.steps.specs.Steps.{Terminal, Stepped}
 use Rattle.terminal.specs.Answers.{Outcome}
-use Rattle.terminal.specs.Table.{TableLine}
+use Rattle.terminal.specs.Lines.{TableLine}
 use Rattle.terminal.specs.Claims.{NumberedBy, Leaves, Did, Started}
 use Rattle.terminal.proofs.Exceeding.{line-3-done}
 use Rattle.promises.specs.Rules.{Rules}

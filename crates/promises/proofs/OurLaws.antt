@@ -5,17 +5,17 @@ use mathlib.Core.List.{List, [], _∷_}
 use Prim.Native.Nat.{ℕ, _≤_}
 use native.Mathlib.Omega.{arith}
 use lib.ListN.{length}
-use Rattle.steps.specs.Steps.{Terminal, Message, silent, report, fullBlock, changedBlock, Stepped, bytesOf, Valid}
+use Rattle.steps.specs.Steps.{Terminal, Transmission, silent, report, fullBlock, changedBlock, Stepped, bytesOf, Valid}
 use Rattle.steps.specs.Claims.{SendsBlock}
-use Rattle.steps.specs.Host.{hostStep}
-use Rattle.steps.specs.Keys.{keyStep}
+use Rattle.commands.specs.Host.{hostStep}
+use Rattle.keys.specs.Keys.{keyStep}
 use Rattle.commands.proofs.Lengths.{block-short, step-short}
 use Rattle.commands.proofs.Theorems.{step-keeps-valid, step-keeps-size, step-touches-only, step-sends-full, step-sends-no-changed, step-reports}
 use Rattle.keys.proofs.Theorems.{key-keeps-valid, key-keeps-size, key-touches-only, key-tags, key-sends-full, key-sends-changed, key-sends-no-report, key-keeps-protection}
 use Rattle.terminal.specs.Runs.{stepsOf}
 use Rattle.terminal.specs.Calls.{hostCall}
 use Rattle.terminal.specs.Claims.{NumberedBy, Did}
-use Rattle.terminal.specs.Table.{Line3, hostTable}
+use Rattle.terminal.specs.Lines.{Line3, hostTable}
 use Rattle.terminal.proofs.Theorems
 use Rattle.promises.specs.Rules.{ourRules, Input, byte, press, stepOf, steps, byteSteps}
 use Rattle.promises.specs.Entries.{ourEntries}
@@ -26,7 +26,7 @@ is-block : {full : Bool} {Asked : Type 0} {t : Terminal} {step : Stepped} {bytes
 is-block sent = record { of-page = sent .of-page; no-cell = sent .no-cell }
 
 -- A key sends a block or nothing.
-key-short : (key : ℕ) (t : Terminal) → Valid t → (message : Message) → keyStep key t .message ≡ message → length (bytesOf message) ≤ 35185
+key-short : (key : ℕ) (t : Terminal) → Valid t → (transmission : Transmission) → keyStep key t .transmission ≡ transmission → length (bytesOf transmission) ≤ 35185
 unfolding bytesOf
 key-short key t valid silent is = omega arith
 key-short key t valid (report bytes) is = absurd (key-sends-no-report key t bytes is)
@@ -51,7 +51,7 @@ our-every-step (press key) t valid = record {
   reports = λ bytes sends. absurd (key-sends-no-report key t bytes sends);
   full-block = λ bytes sends. is-block (key-sends-full key t bytes sends);
   changed-block = λ bytes sends. is-block (key-sends-changed key t bytes sends);
-  short = key-short key t valid (keyStep key t .message) refl;
+  short = key-short key t valid (keyStep key t .transmission) refl;
 }
 
 pub our-step-laws : StepLaws ourRules
@@ -59,7 +59,7 @@ our-step-laws = record {
   every-step = our-every-step;
   every-key = λ key t valid. record {
     tag-law = record { protection = key-keeps-protection key t; tags = λ cell named. key-tags key t valid cell named .1 };
-    names-free = λ cell named. key-tags key t valid cell named .0;
+    names-unprotected = λ cell named. key-tags key t valid cell named .0;
   };
 }
 

@@ -8,8 +8,8 @@ use lib.ListN.{length, getD, List·getD-eq-default}
 use Rattle.words.specs.Choice.{if_then_else_}
 use Rattle.words.proofs.Choosing.{less-or-not}
 use Rattle.page.specs.Marks.{isModified}
-use Rattle.page.specs.Page.{sentMark}
-use Rattle.steps.specs.Steps.{Terminal, Message, bytesOf, blockMessage, Stepped, Valid}
+use Rattle.page.specs.Page.{markAfterBlock}
+use Rattle.steps.specs.Steps.{Terminal, Transmission, bytesOf, blockTransmission, Stepped, Valid}
 use Rattle.steps.specs.Claims.{markLeft, TouchesOnly}
 use Rattle.steps.proofs.Measuring.{measured}
 use Rattle.promises.specs.Rules.{Rules, Input, stepOf, steps}
@@ -20,18 +20,18 @@ use Rattle.promises.proofs.Keeping.{leaves, same-size, protected-kept, 
 use Rattle.promises.proofs.Doing.{host-valid}
 
 -- A block of either kind.
-is-block : (t : Terminal) (step : Stepped) → StepLaw t step → (full : Bool) (bytes : List ℕ) → step .message ≡ blockMessage full bytes → BlockOfPage full t step bytes
-unfolding blockMessage
+is-block : (t : Terminal) (step : Stepped) → StepLaw t step → (full : Bool) (bytes : List ℕ) → step .transmission ≡ blockTransmission full bytes → BlockOfPage full t step bytes
+unfolding blockTransmission
 is-block t step law true bytes sends = law .full-block bytes sends
 is-block t step law false bytes sends = law .changed-block bytes sends
 
-block-clears : (full : Bool) (bytes : List ℕ) (mark : ℕ) → markLeft (blockMessage full bytes) mark ≡ sentMark mark
-unfolding blockMessage markLeft
+block-clears : (full : Bool) (bytes : List ℕ) (mark : ℕ) → markLeft (blockTransmission full bytes) mark ≡ markAfterBlock mark
+unfolding blockTransmission markLeft
 block-clears true bytes mark = refl
 block-clears false bytes mark = refl
 
-block-bytes : (full : Bool) (bytes : List ℕ) → bytesOf (blockMessage full bytes) ≡ bytes
-unfolding blockMessage bytesOf
+block-bytes : (full : Bool) (bytes : List ℕ) → bytesOf (blockTransmission full bytes) ≡ bytes
+unfolding blockTransmission bytesOf
 block-bytes true bytes = refl
 block-bytes false bytes = refl
 
@@ -39,14 +39,14 @@ block-bytes false bytes = refl
 past-alike : (after before : List ℕ) (cell : ℕ) → length after ≤ cell → length before ≤ cell → getD after cell 0 ≡ getD before cell 0
 past-alike after before cell past past-too = List·getD-eq-default after 0 past ∙ sym (List·getD-eq-default before 0 past-too)
 
-past-unmarked : (after before : List ℕ) (cell : ℕ) → length after ≤ cell → length before ≤ cell → getD after cell 0 ≡ sentMark (getD before cell 0)
-unfolding sentMark if_then_else_
-past-unmarked after before cell past past-too = List·getD-eq-default after 0 past ∙ sym (ap sentMark (List·getD-eq-default before 0 past-too))
+past-unmarked : (after before : List ℕ) (cell : ℕ) → length after ≤ cell → length before ≤ cell → getD after cell 0 ≡ markAfterBlock (getD before cell 0)
+unfolding markAfterBlock if_then_else_
+past-unmarked after before cell past past-too = List·getD-eq-default after 0 past ∙ sym (ap markAfterBlock (List·getD-eq-default before 0 past-too))
 
 -- Of a run: how many bytes the first step sends (0 where there is none), and the other steps.
 unfoldable firstSent : List Stepped → ℕ
 firstSent [] = 0
-firstSent (step ∷ later) = length (bytesOf (step .message))
+firstSent (step ∷ later) = length (bytesOf (step .transmission))
 
 unfoldable others : List Stepped → List Stepped
 others [] = []
@@ -58,9 +58,9 @@ module _ (rules : Rules) (laws : StepLaws rules) where
       let step = stepOf rules asks t in
       let law = laws .every-step asks t valid in
       let sent = is-block t step law full bytes sends in
-      let touches : TouchesOnly [] (step .message) (t .page) (step .terminal .page) = rw (sent .no-cell) at (law .touches) in
+      let touches : TouchesOnly [] (step .transmission) (t .page) (step .terminal .page) = rw (sent .no-cell) at (law .touches) in
       let same = same-size t valid step law in
-      let clears : (mark : ℕ) → markLeft (step .message) mark ≡ sentMark mark = λ mark. leaves step sends mark ∙ block-clears full bytes mark in
+      let clears : (mark : ℕ) → markLeft (step .transmission) mark ≡ markAfterBlock mark = λ mark. leaves step sends mark ∙ block-clears full bytes mark in
       let cells = measured valid .as-many in
       record {
         characters = λ cell.
@@ -81,10 +81,10 @@ module _ (rules : Rules) (laws : StepLaws rules) where
   pub bounded-of : Bounded rules
   bounded-of t valid input full bytes sends =
       let short = laws .every-step input t valid .short in
-      omega (arith, short, ap (λ (message : Message). length (bytesOf message)) sends, ap (length {A = ℕ}) (block-bytes full bytes))
+      omega (arith, short, ap (λ (transmission : Transmission). length (bytesOf transmission)) sends, ap (length {A = ℕ}) (block-bytes full bytes))
 
   -- Every step of a run is short.
-  all-short : (t : Terminal) → Valid t → (inputs : List Input) (before : List Stepped) (next : Stepped) (later : List Stepped) → steps rules t inputs ≡ before ++ (next ∷ later) → length (bytesOf (next .message)) ≤ 35185
+  all-short : (t : Terminal) → Valid t → (inputs : List Input) (before : List Stepped) (next : Stepped) (later : List Stepped) → steps rules t inputs ≡ before ++ (next ∷ later) → length (bytesOf (next .transmission)) ≤ 35185
   unfolding steps firstSent others
   all-short t valid [] [] next later are = omega (arith, ap firstSent are)
   all-short t valid [] (first ∷ before) next later are = absurd (omega (arith, ap (length {A = Stepped}) are))

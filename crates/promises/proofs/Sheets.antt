@@ -14,8 +14,8 @@ use Rattle.page.specs.Marks.{isProtected, unprotected}
 use Rattle.page.specs.Page.{Page, pageOf}
 use Rattle.places.specs.Places.{placeOf}
 use Rattle.fields.specs.Fields.{Field, startsField, fieldFrom, fieldsFrom, fieldsOf}
-use Rattle.blocks.specs.Blocks.{encode, entryOf, isSent, entriesSent, block}
-use Rattle.state.specs.State.{freshState, withCursor}
+use Rattle.blocks.specs.Blocks.{encode, entryOf, isInBlock, entriesSent, block}
+use Rattle.state.specs.State.{freshState, withCursor, cursorAt}
 use Rattle.steps.specs.Steps.{Terminal}
 
 -- The characters and marks of the first five cells; all others are protected 20s.
@@ -24,18 +24,18 @@ sheet characters marks = pageOf (characters ++ replicate 1915 0x20) (marks ++ re
 
 -- A fresh state but for the cursor, which is in row 1.
 abbrev pub at : ℕ → Page → Terminal
-at column page = record { state = withCursor (freshState (record { rows = 24; columns = 80 })) 1 column; page = page }
+at column page = record { state = withCursor (freshState (record { rows = 24; columns = 80 })) (cursorAt 1 column); page = page }
 
 -- No field starts among protected cells.
 module _ (free : ℕ → Bool) (columns cells : ℕ) where
-  no-fields : (n cell : ℕ) → ((k : ℕ) → cell ≤ k → k < cell + n → free k ≡ false) → fieldsFrom free columns cells n cell ≡ []
+  no-fields : (n cell : ℕ) → ((k : ℕ) → cell ≤ k → k < cell + n → free k ≡ false) → fieldsFrom free columns cells cell n ≡ []
   unfolding fieldsFrom startsField placeOf
   no-fields zero cell protected = refl
   no-fields (suc n) cell protected =
       else-case _ _ _ (first-fails _ _ (protected cell (omega arith) (omega arith)))
       ∙ no-fields n (cell + 1) (λ k low high. protected k (omega arith) (omega arith))
 
-  fields-in-front : (front n cell : ℕ) → ((k : ℕ) → cell + front ≤ k → k < cell + front + n → free k ≡ false) → fieldsFrom free columns cells (front + n) cell ≡ fieldsFrom free columns cells front cell
+  fields-in-front : (front n cell : ℕ) → ((k : ℕ) → cell + front ≤ k → k < cell + front + n → free k ≡ false) → fieldsFrom free columns cells cell (front + n) ≡ fieldsFrom free columns cells cell front
   unfolding fieldsFrom
   fields-in-front zero n cell protected = rw (zero-add n) (no-fields n cell (λ k low high. protected k (omega arith) (omega arith)))
   fields-in-front (suc front) n cell protected =
@@ -55,10 +55,10 @@ module _ (marks : List ℕ) (five : length marks ≡ 5) where
   sheet-length : length (marks ++ replicate 1915 1) ≡ 1920
   sheet-length = length-append marks (replicate 1915 1) ∙ omega (arith, length-replicate {A = ℕ} 1915 1)
 
-  pub sheet-fields : fieldsOf (unprotected (marks ++ replicate 1915 1)) 80 (length (marks ++ replicate 1915 1)) ≡ fieldsFrom (unprotected (marks ++ replicate 1915 1)) 80 1920 5 0
+  pub sheet-fields : fieldsOf (unprotected (marks ++ replicate 1915 1)) 80 (length (marks ++ replicate 1915 1)) ≡ fieldsFrom (unprotected (marks ++ replicate 1915 1)) 80 1920 0 5
   unfolding fieldsOf
   sheet-fields = rw sheet-length (fields-in-front _ 80 1920 5 1915 0 (λ k low high. rest-protected k (omega arith) (omega arith)))
 
-  pub sheet-block : (full : Bool) (characters : List ℕ) → block full 80 (sheet characters marks) ≡ encode (map (entryOf 80 (characters ++ replicate 1915 0x20)) (selected (isSent full (marks ++ replicate 1915 1)) (fieldsFrom (unprotected (marks ++ replicate 1915 1)) 80 1920 5 0)))
+  pub sheet-block : (full : Bool) (characters : List ℕ) → block full 80 (sheet characters marks) ≡ encode (map (entryOf 80 (characters ++ replicate 1915 0x20)) (selected (isInBlock full (marks ++ replicate 1915 1)) (fieldsFrom (unprotected (marks ++ replicate 1915 1)) 80 1920 0 5)))
   unfolding block entriesSent
-  sheet-block full characters = ap (λ (fields : List Field). encode (map (entryOf 80 (characters ++ replicate 1915 0x20)) (selected (isSent full (marks ++ replicate 1915 1)) fields))) sheet-fields
+  sheet-block full characters = ap (λ (fields : List Field). encode (map (entryOf 80 (characters ++ replicate 1915 0x20)) (selected (isInBlock full (marks ++ replicate 1915 1)) fields))) sheet-fields

@@ -11,22 +11,22 @@ use Rattle.words.proofs.Choosing.{not-both, either-way, less-or-not}
 use Rattle.page.specs.Page.{Page, pageOf}
 use Rattle.state.specs.declared.Size.{Size}
 use Rattle.state.specs.State.{freshState}
-use Rattle.state.specs.Validity.{sizeFits}
+use Rattle.state.specs.Tests.{sizeFits}
 use Rattle.state.proofs.Lines.{line-1}
 use Rattle.state.proofs.Keeping.{fresh-valid}
 use Rattle.steps.specs.Steps.{Terminal, Valid}
-use Rattle.steps.specs.Seen.{free}
+use Rattle.steps.specs.Seen.{unprotectedAt}
 use Rattle.steps.specs.Claims.{CellKept}
 use Rattle.steps.proofs.Soundness.{sized, still-fits}
 use Rattle.steps.proofs.Storing.{blank-page-valid}
 use Rattle.terminal.specs.Runs.{after}
-use Rattle.terminal.specs.Table.{startTable, Decides, this-holds, not-this}
+use Rattle.terminal.specs.Lines.{startTable, Decides, this-holds, not-this}
 use Rattle.promises.specs.Rules.{Rules, press, stepOf, Total}
 use Rattle.promises.specs.Entries.{Entries, inputsDone}
 use Rattle.promises.specs.Demands.{KeysKeep}
 use Rattle.promises.specs.Further.{StaysValid}
 use Rattle.promises.proofs.Laws.{StepLaws, Keeps}
-use Rattle.promises.proofs.Keeping.{same-size, protected-kept, past-free}
+use Rattle.promises.proofs.Keeping.{same-size, protected-kept, past-unprotected}
 use Rattle.promises.proofs.Doing.{key-valid}
 use Rattle.promises.proofs.Calling.{steps-keep-valid, calls-are-steps-of}
 
@@ -74,24 +74,24 @@ module _ (rules : Rules) (laws : StepLaws rules) (entries : Entries) (kept : Kee
         subst P (sym (kept .follows .of-key t key lent is .terminal)) (as-stepped (key-valid rules entries kept t key lent is)))
         (λ other. subst P (sym (kept .refusals .of-key t key lent (eqb-false _ _ other) .terminal)) as-it-was)
 
-    protected-stay : (cell : ℕ) → free t cell ≡ false → CellKept (t .page) (entries .key t key lent .terminal .page) cell
+    protected-stay : (cell : ℕ) → unprotectedAt t cell ≡ false → CellKept (t .page) (entries .key t key lent .terminal .page) cell
     unfolding stepOf
     protected-stay cell protected =
         key-left (λ (left : Terminal). CellKept (t .page) (left .page) cell) (record { character = refl; mark = refl })
         (λ valid.
         protected-kept t valid (rules .onKey key t) (laws .every-step (press key) t valid) cell protected
-        (λ named. not-both (laws .every-key key t valid .names-free cell named) protected))
+        (λ named. not-both (laws .every-key key t valid .names-unprotected cell named) protected))
 
-    protection-stays : (cell : ℕ) → free (entries .key t key lent .terminal) cell ≡ free t cell
+    protection-stays : (cell : ℕ) → unprotectedAt (entries .key t key lent .terminal) cell ≡ unprotectedAt t cell
     unfolding stepOf
     protection-stays cell =
-        key-left (λ (left : Terminal). free left cell ≡ free t cell) refl
+        key-left (λ (left : Terminal). unprotectedAt left cell ≡ unprotectedAt t cell) refl
         (λ valid.
         let step = rules .onKey key t in
         let same = same-size t valid step (laws .every-step (press key) t valid) .marks in
         less-or-not cell (length (t .page .marks))
         (λ here. laws .every-key key t valid .tag-law .protection cell here)
-        (λ past. past-free (step .terminal .page .marks) cell (omega (arith, same)) ∙ sym (past-free (t .page .marks) cell past)))
+        (λ past. past-unprotected (step .terminal .page .marks) cell (omega (arith, same)) ∙ sym (past-unprotected (t .page .marks) cell past)))
 
   pub keys-keep-of : KeysKeep entries
   keys-keep-of = record { protected-cells = protected-stay; protection = protection-stays }

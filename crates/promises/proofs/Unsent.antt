@@ -14,7 +14,7 @@ use Rattle.places.specs.Places.{placeOf}
 use Rattle.fields.specs.Fields.{Field}
 use Rattle.fields.proofs.Claims.{IsField}
 use Rattle.fields.proofs.Theorems.{one-field, all-fields-listed}
-use Rattle.blocks.specs.Blocks.{Entry, entryOf, isSent, entriesSent, block}
+use Rattle.blocks.specs.Blocks.{Entry, entryOf, isInBlock, entriesSent, block}
 use Rattle.blocks.proofs.Claims.{Sendable, fieldsOn}
 use Rattle.blocks.proofs.Theorems.{block-read-back}
 use Rattle.blocks.proofs.Laying.{cell-told}
@@ -42,29 +42,29 @@ module _ (t : Terminal) (can-be-sent : Sendable (t .state .size .columns) (t .pa
       one-field (unprotected (page .marks)) columns (length (page .marks)) (can-be-sent .some-columns) one-is other-is (one .start) (omega arith) (omega arith)
 
   module _ (full : Bool) (field : Field) (listed : List·Memᴰ field (fieldsOn columns page)) where
-    pub omitted-unsent : Omitted t (block full columns page) field → isSent full (page .marks) field ≡ false
+    pub omitted-unsent : Omitted t (block full columns page) field → isInBlock full (page .marks) field ≡ false
     unfolding entriesSent entryOf
     omitted-unsent omitted =
         let entry = entryOf columns (page .characters) field in
-        either-way (isSent full (page .marks) field)
+        either-way (isInBlock full (page .marks) field)
         (λ sent.
         absurd (omitted .no-entry entry
         (subst (List·Memᴰ entry) (sym (block-read-back columns page can-be-sent full))
-        (Memᴰ·map (entryOf columns (page .characters)) (selected-has (isSent full (page .marks)) field (fieldsOn columns page) listed sent)))
+        (Memᴰ·map (entryOf columns (page .characters)) (selected-has (isInBlock full (page .marks)) field (fieldsOn columns page) listed sent)))
         refl refl))
         (λ unsent. unsent)
 
     -- An entry at the field's place is that of a field that is sent, and this is the same field.
-    pub unsent-omitted : isSent full (page .marks) field ≡ false → Omitted t (block full columns page) field
+    pub unsent-omitted : isInBlock full (page .marks) field ≡ false → Omitted t (block full columns page) field
     unfolding entriesSent entryOf
     unsent-omitted unsent = record {
       no-entry = λ entry found row column.
           let from =
-          Memᴰ·of-map (entryOf columns (page .characters)) (selected (isSent full (page .marks)) (fieldsOn columns page))
+          Memᴰ·of-map (entryOf columns (page .characters)) (selected (isInBlock full (page .marks)) (fieldsOn columns page))
           (subst (List·Memᴰ entry) (block-read-back columns page can-be-sent full) found) in
           let other = from .0 in
           let same =
-          same-field other field (selected-from (isSent full (page .marks)) other (fieldsOn columns page) (from .1)) listed
+          same-field other field (selected-from (isInBlock full (page .marks)) other (fieldsOn columns page) (from .1)) listed
           (ap (λ (e : Entry). e .row) (from .2) ∙ row) (ap (λ (e : Entry). e .column) (from .2) ∙ column) in
-          not-both (ap (isSent full (page .marks)) (sym same) ∙ selected-passes (isSent full (page .marks)) other (fieldsOn columns page) (from .1)) unsent;
+          not-both (ap (isInBlock full (page .marks)) (sym same) ∙ selected-passes (isInBlock full (page .marks)) other (fieldsOn columns page) (from .1)) unsent;
     }

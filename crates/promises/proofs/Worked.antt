@@ -12,7 +12,7 @@ use Rattle.blocks.specs.Finding.{blocksIn}
 use Rattle.page.specs.Page.{Page}
 use Rattle.steps.specs.Steps.{Terminal, silent, report, fullBlock, changedBlock, Stepped, Valid}
 use Rattle.words.specs.Output.{placed}
-use Rattle.terminal.specs.Runs.{stepsOf, after, sentBy}
+use Rattle.terminal.specs.Runs.{stepsOf, after, bytesSentBy}
 use Rattle.terminal.specs.Answers.{Outcome, bytesSent}
 use Rattle.terminal.specs.Calls.{hostCall, keyCall}
 use Rattle.terminal.proofs.Deciding.{valid-holds, key-done}
@@ -75,8 +75,8 @@ changed-secondTagged : block false 80 (form 0x58 0x59 secondTagged) ≡ changedB
 unfolding blockBytes
 changed-secondTagged = sheet-block secondTagged refl false (0x58 ∷ 0x42 ∷ 0x3A ∷ 0x59 ∷ 0x44 ∷ []) ∙ refl
 
--- The messages of the steps, one for each key and each host byte.
-messages : map (λ (step : Stepped). step .message) (steps ourRules start (press 267 ∷ afterFirst))
+-- The transmissions of the steps, one for each key and each host byte.
+transmissions : map (λ (step : Stepped). step .transmission) (steps ourRules start (press 267 ∷ afterFirst))
     ≡ fullBlock (fullBytes 0x41 0x43)  -- 267
     ∷ silent  -- X
     ∷ silent ∷ fullBlock (fullBytes 0x58 0x43)  -- ESC S
@@ -86,7 +86,7 @@ messages : map (λ (step : Stepped). step .message) (steps ourRules start (press
     ∷ changedBlock changedBytes  -- 266
     ∷ []
 unfolding hostSteps keySteps streams
-messages = λ i.
+transmissions = λ i.
     fullBlock (full-noTag 0x41 0x43 i)
     ∷ silent
     ∷ silent ∷ fullBlock (full-firstTagged i)
@@ -180,8 +180,8 @@ typedX-valid : Valid typedX
 unfolding validity
 typedX-valid = record { size = refl; state = refl; page = refl }
 
-host-sends : sentBy (stepsOf typedX hostBytes) ≡ fullBytes 0x58 0x43 ++ (reportBytes ++ fullBytes 0x58 0x43)
-unfolding hostSteps stepsOf sentBy
+host-sends : bytesSentBy (stepsOf typedX hostBytes) ≡ fullBytes 0x58 0x43 ++ (reportBytes ++ fullBytes 0x58 0x43)
+unfolding hostSteps stepsOf bytesSentBy
 host-sends = λ i. full-firstTagged i ++ (reportBytes ++ (full-noTag 0x58 0x43 i ++ []))
 
 call-host : hostCall typedX hostBytes (replicate 40 0) ≡ leaves 0 8 0 (fullBytes 0x58 0x43 ++ (reportBytes ++ fullBytes 0x58 0x43)) (sentTwice 2)

@@ -8,7 +8,7 @@ use Rattle.fields.specs.Fields.{Field}
 use Rattle.blocks.specs.Blocks.{Entry}
 use Rattle.blocks.specs.Decode.{decode}
 use Rattle.blocks.specs.Lay.{lay}
-use Rattle.steps.specs.Steps.{Terminal, Message, silent, report, fullBlock, changedBlock, Stepped}
+use Rattle.steps.specs.Steps.{Terminal, Transmission, silent, report, fullBlock, changedBlock, Stepped}
 use Rattle.steps.specs.Seen.{fieldsHere, entryHere, blockHere}
 use Rattle.steps.specs.Claims.{StoresNoCell}
 use Rattle.promises.specs.Rules.{Rules, Input, byte, press, steps}
@@ -21,7 +21,7 @@ HostStoresNothing rules t (byte b ∷ later) =
 HostStoresNothing rules t (press key ∷ later) = HostStoresNothing rules (rules .onKey key t .terminal) later
 
 -- The blocks among the messages of steps, in order; a report is none.
-unfoldable pub blockIn : Message → List (List ℕ)
+unfoldable pub blockIn : Transmission → List (List ℕ)
 blockIn silent = []
 blockIn (report bytes) = []
 blockIn (fullBlock bytes) = bytes ∷ []
@@ -29,12 +29,12 @@ blockIn (changedBlock bytes) = bytes ∷ []
 
 unfoldable pub blocksSent : List Stepped → List (List ℕ)
 blocksSent [] = []
-blocksSent (step ∷ later) = blockIn (step .message) ++ blocksSent later
+blocksSent (step ∷ later) = blockIn (step .transmission) ++ blocksSent later
 
 -- The terminal as it stands right after each of them.
 unfoldable pub standings : List Stepped → List Terminal
 standings [] = []
-standings (step ∷ later) = map (λ (block : List ℕ). step .terminal) (blockIn (step .message)) ++ standings later
+standings (step ∷ later) = map (λ (block : List ℕ). step .terminal) (blockIn (step .transmission)) ++ standings later
 
 -- The host lays each block over its copy: the copy that it has after each.
 unfoldable pub copies : List ℕ → List (List ℕ) → List (List ℕ)
@@ -51,7 +51,7 @@ pub record Unstored (stored : List ℕ) (field : Field) : Type 0 where
   pub no-cell : (cell : ℕ) → field .start ≤ cell → cell < field .start + field .length → List·Memᴰ cell stored → ⊥
 
 -- A changed block omits a field exactly when none of its cells was stored since the block before.
-unfoldable pub OmitsExactly : Message → Terminal → List ℕ → Type 0
+unfoldable pub OmitsExactly : Transmission → Terminal → List ℕ → Type 0
 OmitsExactly silent t stored = Unit {0}
 OmitsExactly (report bytes) t stored = Unit {0}
 OmitsExactly (fullBlock bytes) t stored = Unit {0}
@@ -59,7 +59,7 @@ OmitsExactly (changedBlock bytes) t stored =
     (field : Field) → List·Memᴰ field (fieldsHere t) → Omitted t bytes field ↔ Unstored stored field
 
 -- The cells that steps have named since the last block, of whichever kind.
-unfoldable pub storedSince : Message → List ℕ → List ℕ → List ℕ
+unfoldable pub storedSince : Transmission → List ℕ → List ℕ → List ℕ
 storedSince silent stored cells = stored ++ cells
 storedSince (report bytes) stored cells = stored ++ cells
 storedSince (fullBlock bytes) stored cells = []
@@ -70,8 +70,8 @@ storedSince (changedBlock bytes) stored cells = []
 unfoldable pub OmissionHolds : Terminal → List ℕ → List Stepped → Type 0
 OmissionHolds t stored [] = Unit {0}
 OmissionHolds t stored (step ∷ later) =
-    OmitsExactly (step .message) t stored
-    × OmissionHolds (step .terminal) (storedSince (step .message) stored (step .cells)) later
+    OmitsExactly (step .transmission) t stored
+    × OmissionHolds (step .terminal) (storedSince (step .transmission) stored (step .cells)) later
 
 -- What the host finds in all the bytes sent: the blocks of the steps before, this block, and the later ones. It has
 -- this block for its copy, and with each later one laid over it what is then a full block of the page as it stands; and

@@ -9,11 +9,11 @@ use Rattle.page.specs.Page.{Page}
 use Rattle.state.specs.declared.Size.{Size}
 use Rattle.blocks.specs.Finding.{blocksIn}
 use Rattle.steps.specs.Steps.{Terminal, fullBlock, Valid}
-use Rattle.steps.specs.Seen.{free}
+use Rattle.steps.specs.Seen.{unprotectedAt}
 use Rattle.steps.specs.Claims.{CellKept}
 use Rattle.terminal.specs.Runs.{after}
 use Rattle.terminal.specs.Calls.{unstarted}
-use Rattle.terminal.specs.Table.{startTable, hostTable, keyTable}
+use Rattle.terminal.specs.Lines.{startTable, hostTable, keyTable}
 use Rattle.terminal.specs.Claims.{NumberedBy, Refused, Leaves, StopsShort, Did, Started}
 use Rattle.promises.specs.Rules.{Rules, Input, stepOf, steps, byteSteps, totalOf}
 use Rattle.promises.specs.Entries.{Entries, Call, outcomes, callAll, inputsDone, AllDone, Read, reads}
@@ -62,15 +62,15 @@ Cutting rules entries = (t : Terminal) (cut : List Read) → AllDone (outcomes e
 -- A full block, whatever asked for it, is fed to a terminal of equal size and equal protected cells.
 abbrev pub FeedingBack : Rules → Entries → Type 0
 FeedingBack rules entries = (sender receiver : Terminal) (asks : Input) (block : List ℕ) (cut : List Read) →
-    Valid sender → stepOf rules asks sender .message ≡ fullBlock block → Receives sender receiver →
+    Valid sender → stepOf rules asks sender .transmission ≡ fullBlock block → Receives sender receiver →
     joinedBytes cut ≡ block → FedBack rules entries sender receiver block cut
 
 -- No key ever changes a protected cell, nor which cells are protected: in any state, with any slices and room.
 pub record KeysKeep (entries : Entries) : Type 0 where
-  pub protected-cells : (t : Terminal) (key : ℕ) (lent : List ℕ) (cell : ℕ) → free t cell ≡ false →
+  pub protected-cells : (t : Terminal) (key : ℕ) (lent : List ℕ) (cell : ℕ) → unprotectedAt t cell ≡ false →
       CellKept (t .page) (entries .key t key lent .terminal .page) cell
   pub protection : (t : Terminal) (key : ℕ) (lent : List ℕ) (cell : ℕ) →
-      free (entries .key t key lent .terminal) cell ≡ free t cell
+      unprotectedAt (entries .key t key lent .terminal) cell ≡ unprotectedAt t cell
 
 pub record Demand2 (rules : Rules) (entries : Entries) : Type 0 where
   pub follows : Follows rules entries
@@ -91,7 +91,7 @@ Copying finds rules entries =
     (t : Terminal) (calls : List Call) (before : List Input) (asks : Input) (later : List Input) (block : List ℕ) →
     inputsDone entries t calls ≡ before ++ (asks ∷ later) →
     let step = stepOf rules asks (after t (steps rules t before)) in
-    step .message ≡ fullBlock block → HostStoresNothing rules (step .terminal) later →
+    step .transmission ≡ fullBlock block → HostStoresNothing rules (step .terminal) later →
     CopyHolds finds rules t (callAll entries t calls .sent) before block (step .terminal) later
 
 pub record Demand3 (rules : Rules) (entries : Entries) : Type 0 where

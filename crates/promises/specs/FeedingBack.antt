@@ -6,7 +6,7 @@ use Prim.Native.Nat.{ℕ}
 use Rattle.sequence.specs.Record.{nothingRead}
 use Rattle.page.specs.Marks.{isProtected}
 use Rattle.steps.specs.Steps.{Terminal, Stepped, Valid}
-use Rattle.steps.specs.Seen.{characterAt, free}
+use Rattle.steps.specs.Seen.{characterAt, unprotectedAt}
 use Rattle.steps.specs.Claims.{CellKept}
 use Rattle.promises.specs.Rules.{Rules, byteSteps}
 use Rattle.promises.specs.Entries.{Entries, outcomes, AllDone, Read, reads, readAll}
@@ -16,7 +16,7 @@ use Rattle.promises.specs.Entries.{Entries, outcomes, AllDone, Read, rea
 pub record Receives (sender receiver : Terminal) : Type 0 where
   pub valid : Valid receiver
   pub size : receiver .state .size ≡ sender .state .size
-  pub protection : (cell : ℕ) → free receiver cell ≡ free sender cell
+  pub protection : (cell : ℕ) → unprotectedAt receiver cell ≡ unprotectedAt sender cell
   pub nothing-half-read : receiver .state .half ≡ nothingRead
   pub unprotected-pen : isProtected (receiver .state .modes .pen) ≡ false
 
@@ -27,8 +27,8 @@ pub record FedBack (rules : Rules) (entries : Entries) (sender receiver : Termin
   pub answered : AllDone (outcomes entries receiver (reads cut))
   pub nothing-sent : readAll entries receiver cut .sent ≡ []
   pub nothing-refused : (step : Stepped) → List·Memᴰ step (byteSteps rules receiver block) → step .wasRefused ≡ false
-  pub characters : (cell : ℕ) → free sender cell ≡ true →
+  pub characters : (cell : ℕ) → unprotectedAt sender cell ≡ true →
       characterAt (readAll entries receiver cut .terminal) cell ≡ characterAt sender cell
-  pub protected-cells : (cell : ℕ) → free sender cell ≡ false →
+  pub protected-cells : (cell : ℕ) → unprotectedAt sender cell ≡ false →
       CellKept (receiver .page) (readAll entries receiver cut .terminal .page) cell
-  pub protection : (cell : ℕ) → free (readAll entries receiver cut .terminal) cell ≡ free sender cell
+  pub protection : (cell : ℕ) → unprotectedAt (readAll entries receiver cut .terminal) cell ≡ unprotectedAt sender cell

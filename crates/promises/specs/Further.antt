@@ -6,11 +6,11 @@ use mathlib.Core.List.{List, [], _∷_, map}
 use mathlib.Core.Logic.{_↔_}
 use Prim.Native.Nat.{ℕ, _<_, _≤_}
 use lib.ListN.{length, getD}
-use Rattle.page.specs.Page.{Page, sentMark}
+use Rattle.page.specs.Page.{Page, markAfterBlock}
 use Rattle.state.specs.declared.Size.{Size}
 use Rattle.state.specs.Lines.{Line1, Line2}
-use Rattle.steps.specs.Steps.{Terminal, fullBlock, blockMessage, Valid}
-use Rattle.steps.specs.Seen.{seen, characterAt, free, modifiedAt, blockHere}
+use Rattle.steps.specs.Steps.{Terminal, fullBlock, blockTransmission, Valid}
+use Rattle.steps.specs.Seen.{seen, characterAt, unprotectedAt, modifiedAt, blockHere}
 use Rattle.steps.specs.Claims.{CellKept}
 use Rattle.terminal.specs.declared.Reply.{Reply}
 use Rattle.terminal.specs.Claims.{SameResult}
@@ -76,7 +76,7 @@ Progress entries =
     (t : Terminal) (bytes lent : List ℕ) → 35185 ≤ length lent → entries .host t bytes lent .number ≡ 3 →
     0 < entries .host t bytes lent .sent
 
--- Calls are the steps of what they did: their bytes are those messages joined, their count the cells that those steps
+-- Calls are the steps of what they did: their bytes are those transmissions joined, their count the cells that those steps
 -- name.
 abbrev pub CallsAreSteps : Rules → Entries → Type 0
 CallsAreSteps rules entries =
@@ -87,14 +87,14 @@ CallsAreSteps rules entries =
 -- protected cells keep theirs, modified too.
 pub record LeftByBlock (before after : Terminal) : Type 0 where
   pub characters : (cell : ℕ) → characterAt after cell ≡ characterAt before cell
-  pub marks : (cell : ℕ) → getD (seen after .marks) cell 0 ≡ sentMark (getD (seen before .marks) cell 0)
-  pub none-modified : (cell : ℕ) → free after cell ≡ true → modifiedAt after cell ≡ false
-  pub protected-cells : (cell : ℕ) → free before cell ≡ false → CellKept (before .page) (after .page) cell
+  pub marks : (cell : ℕ) → getD (seen after .marks) cell 0 ≡ markAfterBlock (getD (seen before .marks) cell 0)
+  pub none-modified : (cell : ℕ) → unprotectedAt after cell ≡ true → modifiedAt after cell ≡ false
+  pub protected-cells : (cell : ℕ) → unprotectedAt before cell ≡ false → CellKept (before .page) (after .page) cell
 
 abbrev pub BlocksKeep : Rules → Type 0
 BlocksKeep rules =
     (t : Terminal) → Valid t → (asks : Input) (full : Bool) (bytes : List ℕ) →
-    stepOf rules asks t .message ≡ blockMessage full bytes → LeftByBlock t (stepOf rules asks t .terminal)
+    stepOf rules asks t .transmission ≡ blockTransmission full bytes → LeftByBlock t (stepOf rules asks t .terminal)
 
 -- What asks for a block, full or changed: 266, 267, and S after ESC. A step sends one exactly when it is asked for, and
 -- it is that of the page as it stands.
@@ -106,18 +106,18 @@ pub data Asks (t : Terminal) : Bool → Input → Type 0 where
 abbrev pub SendsBlocks : Rules → Type 0
 SendsBlocks rules =
     (t : Terminal) → Valid t → (input : Input) (full : Bool) (bytes : List ℕ) →
-    (stepOf rules input t .message ≡ blockMessage full bytes) ↔ (Asks t full input × (bytes ≡ blockHere full t))
+    (stepOf rules input t .transmission ≡ blockTransmission full bytes) ↔ (Asks t full input × (bytes ≡ blockHere full t))
 
 -- No block that is sent exceeds 35,185 bytes.
 abbrev pub Bounded : Rules → Type 0
 Bounded rules =
     (t : Terminal) → Valid t → (input : Input) (full : Bool) (bytes : List ℕ) →
-    stepOf rules input t .message ≡ blockMessage full bytes → length bytes ≤ 35185
+    stepOf rules input t .transmission ≡ blockTransmission full bytes → length bytes ≤ 35185
 
 -- Demand 3 over steps: after a full block, whatever asked for it, keys and host bytes that store in no cell.
 abbrev pub CopyingSteps : Rules → Type 0
 CopyingSteps rules =
-    (t : Terminal) → Valid t → (asks : Input) (block : List ℕ) → stepOf rules asks t .message ≡ fullBlock block →
+    (t : Terminal) → Valid t → (asks : Input) (block : List ℕ) → stepOf rules asks t .transmission ≡ fullBlock block →
     let there = stepOf rules asks t .terminal in
     (later : List Input) → HostStoresNothing rules there later →
     let run = steps rules there later in
@@ -125,6 +125,6 @@ CopyingSteps rules =
 
 abbrev pub OmissionSteps : Rules → Type 0
 OmissionSteps rules =
-    (t : Terminal) → Valid t → (asks : Input) (block : List ℕ) → stepOf rules asks t .message ≡ fullBlock block →
+    (t : Terminal) → Valid t → (asks : Input) (block : List ℕ) → stepOf rules asks t .transmission ≡ fullBlock block →
     let there = stepOf rules asks t .terminal in
     (later : List Input) → HostStoresNothing rules there later → OmissionHolds there [] (steps rules there later)

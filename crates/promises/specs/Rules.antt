@@ -4,9 +4,9 @@ use mathlib.Core.List.{List, [], _∷_, map}
 use Prim.Native.Nat.{ℕ}
 use lib.ListN.{length}
 use Rattle.steps.specs.Steps.{Terminal, Stepped}
-use Rattle.steps.specs.Host.{hostStep}
-use Rattle.steps.specs.Keys.{keyStep}
-use Rattle.terminal.specs.Runs.{after, sentBy, storedBy}
+use Rattle.commands.specs.Host.{hostStep}
+use Rattle.keys.specs.Keys.{keyStep}
+use Rattle.terminal.specs.Runs.{after, bytesSentBy, cellsStoredBy}
 
 pub record Rules : Type 0 where
   pub onByte : ℕ → Terminal → Stepped
@@ -40,4 +40,4 @@ pub record Total : Type 0 where
   pub stored : ℕ
 
 abbrev pub totalOf : Terminal → List Stepped → Total
-totalOf t run = record { terminal = after t run; sent = sentBy run; stored = length (storedBy run) }
+totalOf t run = record { terminal = after t run; sent = bytesSentBy run; stored = length (cellsStoredBy run) }

@@ -1,5 +1,6 @@
 // What sends: a report, or a block, full or changed.
-// `before` is the state before the command's last byte; it is handed back where the message doesn't fit, and then nothing happens.
+// `before` is the state before the command's last byte; it is handed back where the transmission doesn't fit, and then nothing happens.
+use page::Mark;
 use state::State;
 use steps::Step;
 ghost use mathlib.Core.Path.{_≡_};
@@ -11,9 +12,9 @@ ghost use Rattle.page.specs.Page.{Page, pageOf};
 ghost use Rattle.state.specs.State.{OnPage};
 ghost use Rattle.steps.specs.Steps.{Valid, terminalOf};
 ghost use Rattle.steps.specs.Told.{told, tellsExceeding, written};
-ghost use Rattle.steps.specs.Commands.{readyBytes, readyReport, cursorReport, statusReport, sendBlock};
+ghost use Rattle.sending.specs.Sending.{readyBytes, readyReport, cursorReport, statusReport, sendBlock};
 
-// A message that doesn't fit: its command has no effect.
+// A transmission that doesn't fit: its command has no effect.
 fn no_room(before: State) -> Step
     ensures { λ r. ⌜ ((page : Page) → told r page ≡ tellsExceeding (record { state = before; page = page })) ⌝ }
 {
@@ -27,8 +28,8 @@ fn no_room(before: State) -> Step
     }
 }
 
-// A message of so many bytes was sent.
-fn sent(state: State, bytes: usize) -> Step
+// A transmission of so many bytes was sent.
+fn did_send(state: State, bytes: usize) -> Step
     ensures { λ r. ⌜ r ≡ record { state = state; stored = 0; sent = bytes; refused = false; protection = false; exceeds = false } ⌝ }
 {
     Step {
@@ -61,7 +62,7 @@ fn ready_report(state: State, before: State, out: &mut [u8], at: usize) -> Step
         return no_room(before);
     }
     put_ready(out, at);
-    sent(state, 4)
+    did_send(state, 4)
 }
 
 // CPR: ESC [ row ; column R.
@@ -77,7 +78,7 @@ fn cursor_report(state: State, before: State, out: &mut [u8], at: usize) -> Step
         return no_room(before);
     }
     output::put_place(out, at, row, column, 0x52);
-    sent(state, bytes)
+    did_send(state, bytes)
 }
 
 // DSR.
@@ -100,7 +101,7 @@ pub fn send_block(
     state: State,
     before: State,
     characters: &[u8],
-    marks: &mut [u8],
+    marks: &mut [Mark],
     out: &mut [u8],
     at: usize,
     full: bool,
@@ -109,9 +110,9 @@ pub fn send_block(
     requires { ⌜ at ≤ length (now out) ⌝ }
     ensures { λ r. ⌜ record { told = told r (pageOf (now (characters .entry)) (now (marks .exit))); output = now (out .exit) } ≡ written at (now (out .entry)) (terminalOf before (now (characters .entry)) (now (marks .entry))) (sendBlock full (terminalOf state (now (characters .entry)) (now (marks .entry)))) ⌝ }
 {
-    let answer = blocks::send_block(out, at, characters, marks, state.size.columns, full);
+    let answer = blocks::write_block(out, at, characters, marks, state.size.columns, full);
     match answer {
-        blocks::Sent::Bytes(bytes) => sent(state, bytes),
-        blocks::Sent::NoRoom => no_room(before),
+        blocks::BlockResult::Bytes(bytes) => did_send(state, bytes),
+        blocks::BlockResult::NoRoom => no_room(before),
     }
 }

@@ -18,11 +18,11 @@ use Rattle.sequence.proofs.Keeping.{nothing-valid}
 use Rattle.state.specs.declared.Size.{Size}
 use Rattle.state.specs.declared.Cursor.{Cursor}
 use Rattle.state.specs.declared.State.{State}
-use Rattle.state.specs.State.{OnPage, withCursor, withLocks, withStops, withHalf, freshState, refused, inputDisabled, inputEnabled, unlocked}
+use Rattle.state.specs.State.{OnPage, withCursor, cursorAt, withLocks, withStops, withHalf, freshState, refused, inputDisabled, inputEnabled, unlocked}
 use Rattle.state.specs.Moves.{backBy, onBy, upBy, downBy, rightBy, leftBy, toMargin}
 use Rattle.state.specs.Tabs.{stopSet, stopCleared, stopsCleared, stopsOn, stopsBack, tabbedOn, tabbedBack}
 use Rattle.state.specs.Pen.{penProtected, penUnprotected, penPlain, penBold, penUnderlined, penBlinking, penReversed, penConcealed, validPen, withPen, withErasure}
-use Rattle.state.specs.Validity.{listedRows, listedColumns, listedSize, cursorFits, stopsFit, validState}
+use Rattle.state.specs.Tests.{listedRows, listedColumns, listedSize, cursorFits, stopsFit, validState}
 use Rattle.state.proofs.Laws.{OneTo, right-within, left-within}
 
 -- A listed size, number by number, and its bounds.
@@ -188,10 +188,10 @@ module _ (s : State) (valid : validState s ≡ true) where
   column-was = column-range (s .size) (s .cursor) (was .cursor)
 
   -- moves
-  pub cursor-keeps-valid : (row column : ℕ) → OneTo (s .size .rows) row → OneTo (s .size .columns) column → KeepsValid s (withCursor s row column)
+  pub cursor-keeps-valid : (row column : ℕ) → OneTo (s .size .rows) row → OneTo (s .size .columns) column → KeepsValid s (withCursor s (cursorAt row column))
   cursor-keeps-valid row column h k = record {
     size = refl;
-    valid = whole (withCursor s row column) (in-range (s .size) (record { row = row; column = column }) h k) (was .stops) (was .pen) (was .message) (was .half);
+    valid = whole (withCursor s (cursorAt row column)) (in-range (s .size) (record { row = row; column = column }) h k) (was .stops) (was .pen) (was .message) (was .half);
   }
 
   pub up-keeps-valid : (n : ℕ) → KeepsValid s (upBy n s)
@@ -260,10 +260,10 @@ module _ (s : State) (valid : validState s ≡ true) where
   erasure-keeps-valid erasure = record { size = refl; valid = valid }
 
   -- locks and message
-  locks-keep-valid : (manual soft : Bool) (message : ℕ) → leb message 1 ≡ true → KeepsValid s (withLocks s manual soft message)
+  locks-keep-valid : (manual soft : Bool) (message : ℕ) → leb message 1 ≡ true → KeepsValid s (withLocks s (record { manual = manual; soft = soft; message = message }))
   locks-keep-valid manual soft message p = record {
     size = refl;
-    valid = whole (withLocks s manual soft message) (was .cursor) (was .stops) (was .pen) p (was .half);
+    valid = whole (withLocks s (record { manual = manual; soft = soft; message = message })) (was .cursor) (was .stops) (was .pen) p (was .half);
   }
 
   pub refused-keeps-valid : KeepsValid s (refused s)

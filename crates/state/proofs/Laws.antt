@@ -9,7 +9,7 @@ use Rattle.words.specs.Choice.{if_then_else_}
 use Rattle.words.proofs.Choosing.{either-line}
 use Rattle.words.proofs.Passing.{next-passes, next-fails, all-pass}
 use Rattle.state.specs.Tabs.{stopRight, stopLeft, stopsOn, stopsBack}
-use Rattle.state.specs.Validity.{stopsFit}
+use Rattle.state.specs.Tests.{stopsFit}
 
 -- A row or a column that the page has.
 abbrev pub OneTo : ℕ → ℕ → Type 0
@@ -31,14 +31,14 @@ module _ (stops : List Bool) (i : ℕ) where
 
 module _ (stops : List Bool) where
   -- One column on, and one back.
-  pub right-turn : (last at : ℕ) → at < last → stopRight stops (last - at) at ≡ (if getD stops at false then at + 1 else stopRight stops (last - (at + 1)) (at + 1))
+  pub right-turn : (last at : ℕ) → at < last → stopRight stops at (last - at) ≡ (if getD stops at false then at + 1 else stopRight stops (at + 1) (last - (at + 1)))
   unfolding stopRight
   right-turn last at h =
       let more : last - at ≡ suc (last - (at + 1)) = omega arith in
       let here : at + 1 - 1 ≡ at = omega arith in
       rw (more, here)
 
-  pub right-end : (last at : ℕ) → last ≤ at → stopRight stops (last - at) at ≡ at
+  pub right-end : (last at : ℕ) → last ≤ at → stopRight stops at (last - at) ≡ at
   unfolding stopRight
   right-end last at h = let none : last - at ≡ 0 = omega arith in rw none
 
@@ -56,7 +56,7 @@ module _ (stops : List Bool) where
 
   -- One stop on, and one back.
   module _ (last n column : ℕ) where
-    pub stops-on-turn : 0 < n → stopsOn stops last n column ≡ stopsOn stops last (n - 1) (stopRight stops (last - column) column)
+    pub stops-on-turn : 0 < n → stopsOn stops last n column ≡ stopsOn stops last (n - 1) (stopRight stops column (last - column))
     unfolding stopsOn
     stops-on-turn h = let more : n ≡ suc (n - 1) = omega arith in ap (λ (k : ℕ). stopsOn stops last k column) more
 
@@ -74,7 +74,7 @@ module _ (stops : List Bool) where
     stops-back-end h = let none : n ≡ 0 = omega arith in rw none
 
   -- A stop to the right is not past the last column, and one to the left not before the first.
-  pub right-within : (last more column : ℕ) → 1 ≤ column → column + more ≤ last → OneTo last (stopRight stops more column)
+  pub right-within : (last more column : ℕ) → 1 ≤ column → column + more ≤ last → OneTo last (stopRight stops column more)
   unfolding stopRight
   right-within last zero column h k = (h, omega arith)
   right-within last (suc more) column h k =

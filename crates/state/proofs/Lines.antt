@@ -20,7 +20,7 @@ use Rattle.page.specs.Page.{Page, validPage}
 use Rattle.state.specs.declared.Size.{Size}
 use Rattle.state.specs.declared.State.{State}
 use Rattle.state.specs.Pen.{validPen}
-use Rattle.state.specs.Validity.{listedRows, listedColumns, listedSize, sizeFits, cursorFits, stopsFit, validState}
+use Rattle.state.specs.Tests.{listedRows, listedColumns, listedSize, sizeFits, cursorFits, stopsFit, validState}
 use Rattle.state.specs.Lines.{Line1, rows-not-listed, columns-not-listed, characters-not-as-long, marks-not-as-long, Line2, above-first-row, below-last-row, before-first-column, past-last-column, cell-too-low, cell-too-high, marks-bit-7, stop-past-last-column, pen-bit-7, pen-modified, message-neither-0-nor-1, half-read-out-of-range}
 use Rattle.state.proofs.Laws.{OneTo}
 use Rattle.state.proofs.Keeping.{rows-listed, columns-listed, parts, row-range, column-range, pen-range}

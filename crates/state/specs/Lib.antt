@@ -2,5 +2,5 @@ pub mod State
 pub mod Moves
 pub mod Tabs
 pub mod Pen
-pub mod Validity
+pub mod Tests
 pub mod Lines

@@ -3,7 +3,7 @@ use Prim.Native.Nat.{ℕ, _+_, _-_}
 use lib.Dec.{ltb, leb}
 use Rattle.words.specs.Choice.{if_then_else_}
 use Rattle.state.specs.declared.State.{State}
-use Rattle.state.specs.State.{withCursor}
+use Rattle.state.specs.State.{withCursor, cursorAt}
 
 -- From a row or column so many back, and so many on; the first is 1.
 unfoldable pub backBy : ℕ → ℕ → ℕ
@@ -18,17 +18,24 @@ onBy n at last =
 
 -- CUU, CUD, CUF, CUB.
 unfoldable pub upBy : ℕ → State → State
-upBy n s = withCursor s (backBy n (s .cursor .row)) (s .cursor .column)
+upBy n s = withCursor s (cursorAt (backBy n (s .cursor .row)) (s .cursor .column))
 
 unfoldable pub downBy : ℕ → State → State
-downBy n s = withCursor s (onBy n (s .cursor .row) (s .size .rows)) (s .cursor .column)
+downBy n s = withCursor s (cursorAt (onBy n (s .cursor .row) (s .size .rows)) (s .cursor .column))
 
 unfoldable pub rightBy : ℕ → State → State
-rightBy n s = withCursor s (s .cursor .row) (onBy n (s .cursor .column) (s .size .columns))
+rightBy n s = withCursor s (cursorAt (s .cursor .row) (onBy n (s .cursor .column) (s .size .columns)))
 
 unfoldable pub leftBy : ℕ → State → State
-leftBy n s = withCursor s (s .cursor .row) (backBy n (s .cursor .column))
+leftBy n s = withCursor s (cursorAt (s .cursor .row) (backBy n (s .cursor .column)))
 
 -- To column 1 of the same row.
 unfoldable pub toMargin : State → State
-toMargin s = withCursor s (s .cursor .row) 1
+toMargin s = withCursor s (cursorAt (s .cursor .row) 1)
+
+-- Text: the next cell in page order, and from the last one 1;1.
+unfoldable pub toNextCell : State → State
+toNextCell s =
+    if ltb (s .cursor .column) (s .size .columns) then withCursor s (cursorAt (s .cursor .row) (s .cursor .column + 1))
+    else if ltb (s .cursor .row) (s .size .rows) then withCursor s (cursorAt (s .cursor .row + 1) 1)
+    else withCursor s (cursorAt 1 1)

@@ -37,8 +37,8 @@ unfoldable pub validPen : ℕ → Bool
 validPen pen = validMark pen and not (isModified pen)
 
 abbrev pub withPen : State → ℕ → State
-withPen s pen = withModes s pen (s .modes .erasure)
+withPen s pen = withModes s (record { pen = pen; erasure = s .modes .erasure })
 
 -- SM and RM of mode 6.
 abbrev pub withErasure : State → Bool → State
-withErasure s erasure = withModes s (s .modes .pen) erasure
+withErasure s erasure = withModes s (record { pen = s .modes .pen; erasure = erasure })

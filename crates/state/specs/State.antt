@@ -1,31 +1,45 @@
 -- Document 01, "The terminal and its sources": the state that travels by value, and the parts of it that commands and keys replace.
 use mathlib.Core.Bool.{Bool, true, false}
 use mathlib.Core.List.{List}
+use mathlib.Core.Path.{_≡_}
 use Prim.Native.Nat.{ℕ, _≤_}
-use lib.ListN.{replicate}
+use lib.ListN.{length, replicate}
 use Rattle.sequence.specs.declared.HalfRead.{HalfRead}
 use Rattle.sequence.specs.Record.{nothingRead}
 use Rattle.state.specs.declared.Size.{Size}
+use Rattle.state.specs.declared.Cursor.{Cursor}
+use Rattle.state.specs.declared.Modes.{Modes}
+use Rattle.state.specs.declared.Locks.{Locks}
 use Rattle.state.specs.declared.State.{State}
 
+abbrev pub cursorAt : ℕ → ℕ → Cursor
+cursorAt row column = record { row = row; column = column }
+
 -- The state with one part of it replaced.
-abbrev pub withCursor : State → ℕ → ℕ → State
-withCursor s row column =
-    record { size = s .size; cursor = record { row = row; column = column }; modes = s .modes; locks = s .locks; stops = s .stops; half = s .half }
+abbrev pub withCursor : State → Cursor → State
+withCursor s cursor =
+    record { size = s .size; cursor = cursor; modes = s .modes; locks = s .locks; stops = s .stops; half = s .half }
 
-abbrev pub withModes : State → ℕ → Bool → State
-withModes s pen erasure =
-    record { size = s .size; cursor = s .cursor; modes = record { pen = pen; erasure = erasure }; locks = s .locks; stops = s .stops; half = s .half }
+abbrev pub withModes : State → Modes → State
+withModes s modes =
+    record { size = s .size; cursor = s .cursor; modes = modes; locks = s .locks; stops = s .stops; half = s .half }
 
-abbrev pub withLocks : State → Bool → Bool → ℕ → State
-withLocks s manual soft message =
-    record { size = s .size; cursor = s .cursor; modes = s .modes; locks = record { manual = manual; soft = soft; message = message }; stops = s .stops; half = s .half }
+abbrev pub withLocks : State → Locks → State
+withLocks s locks =
+    record { size = s .size; cursor = s .cursor; modes = s .modes; locks = locks; stops = s .stops; half = s .half }
 
 abbrev pub withStops : State → List Bool → State
-withStops s stops = record { size = s .size; cursor = s .cursor; modes = s .modes; locks = s .locks; stops = stops; half = s .half }
+withStops s stops =
+    record { size = s .size; cursor = s .cursor; modes = s .modes; locks = s .locks; stops = stops; half = s .half }
 
 abbrev pub withHalf : State → HalfRead → State
-withHalf s half = record { size = s .size; cursor = s .cursor; modes = s .modes; locks = s .locks; stops = s .stops; half = half }
+withHalf s half =
+    record { size = s .size; cursor = s .cursor; modes = s .modes; locks = s .locks; stops = s .stops; half = half }
+
+-- The arrays of every state of the code: 160 tab stops and 8 arguments. (The definitions' lists may be of any length.)
+pub record Arrays (s : State) : Type 0 where
+  pub stops : length (s .stops) ≡ 160
+  pub arguments : length (s .half .arguments) ≡ 8
 
 -- A fresh page's state: cursor 1;1, plain pen, erasure mode reset, no lock or message, no tab stops, nothing half read.
 abbrev pub freshState : Size → State
@@ -53,17 +67,17 @@ zeroState =
 
 -- "Reading host bytes", a refused command: the soft lock and message 1, INVALID CMD, and nothing else.
 unfoldable pub refused : State → State
-refused s = withLocks s (s .locks .manual) true 1
+refused s = withLocks s (record { manual = s .locks .manual; soft = true; message = 1 })
 
 -- "Commands", ESC ` and ESC b; "keys", 268.
 unfoldable pub inputDisabled : State → State
-inputDisabled s = withLocks s true (s .locks .soft) (s .locks .message)
+inputDisabled s = withLocks s (record { manual = true; soft = s .locks .soft; message = s .locks .message })
 
 unfoldable pub inputEnabled : State → State
-inputEnabled s = withLocks s false false 0
+inputEnabled s = withLocks s (record { manual = false; soft = false; message = 0 })
 
 unfoldable pub unlocked : State → State
-unlocked s = withLocks s (s .locks .manual) false 0
+unlocked s = withLocks s (record { manual = s .locks .manual; soft = false; message = 0 })
 
 -- The cursor is on a page of no more than 48 x 160 cells.
 pub record OnPage (s : State) : Type 0 where

@@ -5,7 +5,7 @@ use Prim.Native.Nat.{ℕ, zero, suc, _+_, _-_}
 use lib.ListN.{getD, set, replicate}
 use Rattle.words.specs.Choice.{if_then_else_}
 use Rattle.state.specs.declared.State.{State}
-use Rattle.state.specs.State.{withCursor, withStops}
+use Rattle.state.specs.State.{withCursor, cursorAt, withStops}
 
 -- HTS and CTC: set and clear a stop at the cursor's column, clear all.
 unfoldable pub stopSet : State → State
@@ -22,9 +22,9 @@ stopAt stops column = getD stops (column - 1) false
 
 -- The next stop to the right of a column, else the last column; `more` is how many columns come after.
 unfoldable pub stopRight : List Bool → ℕ → ℕ → ℕ
-stopRight stops zero column = column
-stopRight stops (suc more) column =
-    let further = stopRight stops more (column + 1) in
+stopRight stops column zero = column
+stopRight stops column (suc more) =
+    let further = stopRight stops (column + 1) more in
     if stopAt stops (column + 1) then column + 1
     else further
 
@@ -40,14 +40,14 @@ stopLeft stops (suc (suc before)) =
 -- 09, CHT and CBT: so many stops on or back.
 unfoldable pub stopsOn : List Bool → ℕ → ℕ → ℕ → ℕ
 stopsOn stops last zero column = column
-stopsOn stops last (suc n) column = stopsOn stops last n (stopRight stops (last - column) column)
+stopsOn stops last (suc n) column = stopsOn stops last n (stopRight stops column (last - column))
 
 unfoldable pub stopsBack : List Bool → ℕ → ℕ → ℕ
 stopsBack stops zero column = column
 stopsBack stops (suc n) column = stopsBack stops n (stopLeft stops column)
 
 unfoldable pub tabbedOn : ℕ → State → State
-tabbedOn n s = withCursor s (s .cursor .row) (stopsOn (s .stops) (s .size .columns) n (s .cursor .column))
+tabbedOn n s = withCursor s (cursorAt (s .cursor .row) (stopsOn (s .stops) (s .size .columns) n (s .cursor .column)))
 
 unfoldable pub tabbedBack : ℕ → State → State
-tabbedBack n s = withCursor s (s .cursor .row) (stopsBack (s .stops) n (s .cursor .column))
+tabbedBack n s = withCursor s (cursorAt (s .cursor .row) (stopsBack (s .stops) n (s .cursor .column)))

@@ -1,15 +1,16 @@
 // The state by value. Methods take it and hand it back with one part replaced; see specs/.
+use page::Mark;
 use places::Place;
 use sequence::HalfRead;
 ghost use mathlib.Core.Path.{_≡_};
 ghost use Prim.Native.Nat.{_-_, _≤_};
 ghost use Rattle.page.specs.Page.{pageOf};
 ghost use Rattle.places.specs.Places.{placeOf, cellAt};
-ghost use Rattle.state.specs.State.{OnPage, withCursor, withLocks, withHalf, freshState, zeroState, refused, inputDisabled, inputEnabled, unlocked};
-ghost use Rattle.state.specs.Moves.{backBy, onBy, upBy, downBy, rightBy, leftBy, toMargin};
+ghost use Rattle.state.specs.State.{OnPage, withCursor, cursorAt, withLocks, withHalf, freshState, zeroState, refused, inputDisabled, inputEnabled, unlocked};
+ghost use Rattle.state.specs.Moves.{backBy, onBy, upBy, downBy, rightBy, leftBy, toMargin, toNextCell};
 ghost use Rattle.state.specs.Tabs.{stopSet, stopCleared, stopsCleared, stopRight, stopLeft, stopsOn, stopsBack, tabbedOn, tabbedBack};
 ghost use Rattle.state.specs.Pen.{penProtected, penUnprotected, penPlain, penBold, penUnderlined, penBlinking, penReversed, penConcealed, withPen, withErasure, validPen};
-ghost use Rattle.state.specs.Validity.{listedRows, listedColumns, listedSize, sizeFits, cursorFits, stopsFit, validState};
+ghost use Rattle.state.specs.Tests.{listedRows, listedColumns, listedSize, sizeFits, cursorFits, stopsFit, validState};
 
 pub struct Size {
     pub rows: usize,
@@ -23,7 +24,7 @@ pub struct Cursor {
 
 // The pen, and the one mode, erasure.
 pub struct Modes {
-    pub pen: u8,
+    pub pen: Mark,
     pub erasure: bool,
 }
 
@@ -136,7 +137,7 @@ fn stops_fit(columns: usize, stops: [bool; 160]) -> bool
     true
 }
 
-fn is_valid_pen(pen: u8) -> bool
+fn is_valid_pen(pen: Mark) -> bool
     ensures { λ r. ⌜ r ≡ validPen pen ⌝ }
 {
     if 0x80 <= pen {
@@ -146,49 +147,49 @@ fn is_valid_pen(pen: u8) -> bool
 }
 
 // ESC V, ESC W, and the visual marks of `m`.
-pub fn pen_protected(pen: u8) -> u8
+pub fn pen_protected(pen: Mark) -> Mark
     ensures { λ r. ⌜ r ≡ penProtected pen ⌝ }
 {
     pen / 2 * 2 + 1
 }
 
-pub fn pen_unprotected(pen: u8) -> u8
+pub fn pen_unprotected(pen: Mark) -> Mark
     ensures { λ r. ⌜ r ≡ penUnprotected pen ⌝ }
 {
     pen / 2 * 2
 }
 
-pub fn pen_plain(pen: u8) -> u8
+pub fn pen_plain(pen: Mark) -> Mark
     ensures { λ r. ⌜ r ≡ penPlain pen ⌝ }
 {
     pen % 2
 }
 
-pub fn pen_bold(pen: u8) -> u8
+pub fn pen_bold(pen: Mark) -> Mark
     ensures { λ r. ⌜ r ≡ penBold pen ⌝ }
 {
     pen / 8 * 8 + 4 + pen % 4
 }
 
-pub fn pen_underlined(pen: u8) -> u8
+pub fn pen_underlined(pen: Mark) -> Mark
     ensures { λ r. ⌜ r ≡ penUnderlined pen ⌝ }
 {
     pen / 16 * 16 + 8 + pen % 8
 }
 
-pub fn pen_blinking(pen: u8) -> u8
+pub fn pen_blinking(pen: Mark) -> Mark
     ensures { λ r. ⌜ r ≡ penBlinking pen ⌝ }
 {
     pen / 32 * 32 + 16 + pen % 16
 }
 
-pub fn pen_reversed(pen: u8) -> u8
+pub fn pen_reversed(pen: Mark) -> Mark
     ensures { λ r. ⌜ r ≡ penReversed pen ⌝ }
 {
     pen / 64 * 64 + 32 + pen % 32
 }
 
-pub fn pen_concealed(pen: u8) -> u8
+pub fn pen_concealed(pen: Mark) -> Mark
     ensures { λ r. ⌜ r ≡ penConcealed pen ⌝ }
 {
     pen / 128 * 128 + 64 + pen % 64
@@ -197,7 +198,7 @@ pub fn pen_concealed(pen: u8) -> u8
 // The next tab stop to the right of a column, else the last column.
 fn stop_right(stops: [bool; 160], last: usize, column: usize) -> usize
     requires { ⌜ (1 ≤ column) × (column ≤ last) × (last ≤ 160) ⌝ }
-    ensures { λ r. ⌜ r ≡ stopRight stops (last - column) column ⌝ }
+    ensures { λ r. ⌜ r ≡ stopRight stops column (last - column) ⌝ }
 {
     let mut at = column;
     while at < last {
@@ -261,7 +262,7 @@ impl Size {
     }
 
     // Document 01's number 1 is given where this is false.
-    pub fn fits(self, characters: &[u8], marks: &[u8]) -> bool
+    pub fn fits(self, characters: &[u8], marks: &[Mark]) -> bool
         ensures { λ r. ⌜ r ≡ sizeFits self (pageOf (now (characters .entry)) (now (marks .entry))) ⌝ }
     {
         if !self.is_listed() {
@@ -332,7 +333,7 @@ impl State {
     }
 
     pub fn moved_to(self, row: usize, column: usize) -> Self
-        ensures { λ r. ⌜ r ≡ withCursor self row column ⌝ }
+        ensures { λ r. ⌜ r ≡ withCursor self (cursorAt row column) ⌝ }
     {
         let cursor = Cursor { row, column };
         let mut next = self;
@@ -374,6 +375,20 @@ impl State {
         ensures { λ r. ⌜ r ≡ toMargin self ⌝ }
     {
         self.moved_to(self.cursor.row, 1)
+    }
+
+    // Text: the next cell in page order, and from the last cell 1;1.
+    pub fn to_next_cell(self) -> Self
+        requires { ⌜ OnPage self ⌝ }
+        ensures { λ r. ⌜ r ≡ toNextCell self ⌝ }
+    {
+        if self.cursor.column < self.size.columns {
+            return self.moved_to(self.cursor.row, self.cursor.column + 1);
+        }
+        if self.cursor.row < self.size.rows {
+            return self.moved_to(self.cursor.row + 1, 1);
+        }
+        self.moved_to(1, 1)
     }
 
     pub fn tab_on(self, n: usize) -> Self
@@ -422,7 +437,7 @@ impl State {
         next
     }
 
-    pub fn with_pen(self, pen: u8) -> Self
+    pub fn with_pen(self, pen: Mark) -> Self
         ensures { λ r. ⌜ r ≡ withPen self pen ⌝ }
     {
         let modes = Modes {
@@ -447,7 +462,7 @@ impl State {
     }
 
     fn with_locks(self, locks: Locks) -> Self
-        ensures { λ r. ⌜ r ≡ withLocks self (locks .manual) (locks .soft) (locks .message) ⌝ }
+        ensures { λ r. ⌜ r ≡ withLocks self locks ⌝ }
     {
         let mut next = self;
         next.locks = locks;

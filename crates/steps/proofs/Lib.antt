@@ -1,6 +1,6 @@
 pub mod Naming
 pub mod Storing
-pub mod Messages
+pub mod Transmissions
 pub mod Soundness
 pub mod Writing
 pub mod Measuring

@@ -13,7 +13,7 @@ use Rattle.page.specs.Marks.{isProtected, unprotected}
 use Rattle.page.specs.Page.{Page}
 use Rattle.page.proofs.Keeping.{SameSize}
 use Rattle.page.proofs.Protecting.{sent-protection}
-use Rattle.steps.specs.Steps.{Message, silent, report, fullBlock, changedBlock}
+use Rattle.steps.specs.Steps.{Transmission, silent, report, fullBlock, changedBlock}
 use Rattle.steps.specs.Claims.{Rising, none, next, markLeft, Stays, TouchesOnly, KeepsProtection}
 
 pub from-earlier : {end first earlier : ℕ} {cells : List ℕ} → earlier ≤ first → Rising end first cells → Rising end earlier cells
@@ -39,8 +39,8 @@ named-between none cell m = absurd (List·Memᴰ·not-nil m)
 named-between {first} (next named h k rest) cell m =
     ⊎-elim (λ same. (rw same h, rw same k)) (λ found. let later = named-between rest cell found in (omega arith, later .1)) (List·Memᴰ·cases-cons m)
 
--- A message leaves a cell as protected as it was.
-left-protection : (message : Message) (mark : ℕ) → isProtected (markLeft message mark) ≡ isProtected mark
+-- A transmission leaves a cell as protected as it was.
+left-protection : (transmission : Transmission) (mark : ℕ) → isProtected (markLeft transmission mark) ≡ isProtected mark
 unfolding markLeft
 left-protection silent mark = refl
 left-protection (report bytes) mark = refl
@@ -48,15 +48,15 @@ left-protection (fullBlock bytes) mark = sent-protection mark
 left-protection (changedBlock bytes) mark = sent-protection mark
 
 -- A cell that stays is as protected as it was.
-stays-protected : (message : Message) (before after : Page) (cell : ℕ) → Stays message before after cell → unprotected (after .marks) cell ≡ unprotected (before .marks) cell
+stays-protected : (transmission : Transmission) (before after : Page) (cell : ℕ) → Stays transmission before after cell → unprotected (after .marks) cell ≡ unprotected (before .marks) cell
 unfolding unprotected
-stays-protected message before after cell stays =
-    ap (λ (mark : ℕ). not (isProtected mark)) (stays .mark) ∙ ap not (left-protection message (getD (before .marks) cell 0))
+stays-protected transmission before after cell stays =
+    ap (λ (mark : ℕ). not (isProtected mark)) (stays .mark) ∙ ap not (left-protection transmission (getD (before .marks) cell 0))
 
 -- Where no cell is named.
-module _ (message : Message) (before after : Page) (touches : TouchesOnly [] message before after) where
+module _ (transmission : Transmission) (before after : Page) (touches : TouchesOnly [] transmission before after) where
   pub all-stay-protected : KeepsProtection before after
-  all-stay-protected cell here = stays-protected message before after cell (touches cell here List·Memᴰ·not-nil)
+  all-stay-protected cell here = stays-protected transmission before after cell (touches cell here List·Memᴰ·not-nil)
 
   pub same-characters : SameSize before after → length (before .characters) ≡ length (before .marks) → after .characters ≡ before .characters
   same-characters size fits =

@@ -1,4 +1,4 @@
--- Each kind of step is sound: a change of the state alone, a refusal, cells stored, a message sent.
+-- Each kind of step is sound: a change of the state alone, a refusal, cells stored, a transmission sent.
 use mathlib.Core.Path.{_≡_, refl, sym, _∙_}
 use mathlib.Core.Bool.{Bool, true}
 use mathlib.Core.List.{List, []}
@@ -10,14 +10,14 @@ use lib.ListN.{length, getD}
 use Rattle.words.proofs.Choosing.{true-is-not-false, both}
 use Rattle.words.proofs.Walking.{once-more}
 use Rattle.words.proofs.Writing.{each-at}
-use Rattle.page.specs.Page.{Page, pageOf, validPage, sentMark, modifiedCleared}
+use Rattle.page.specs.Page.{Page, pageOf, validPage, markAfterBlock, modifiedCleared}
 use Rattle.page.proofs.Keeping.{SameSize, cleared-same-size, cleared-keeps-valid}
 use Rattle.state.specs.declared.Size.{Size}
 use Rattle.state.specs.declared.State.{State}
 use Rattle.state.specs.State.{refused}
-use Rattle.state.specs.Validity.{listedSize, sizeFits}
+use Rattle.state.specs.Tests.{listedSize, sizeFits}
 use Rattle.state.proofs.Keeping.{KeepsValid, on-page, refused-keeps-valid}
-use Rattle.steps.specs.Steps.{Terminal, Message, silent, report, Stepped, goesTo, stores, sends, refusing, cursorCell, Valid}
+use Rattle.steps.specs.Steps.{Terminal, Transmission, silent, report, Stepped, goesTo, stores, sends, refusing, cursorCell, Valid}
 use Rattle.steps.specs.Claims.{none, markLeft, TouchesOnly, KeepsText, Sound}
 use Rattle.steps.proofs.Naming.{all-stay-protected, same-characters}
 use Rattle.steps.proofs.Storing.{Stored}
@@ -38,9 +38,9 @@ pub still-fits : (size after : Size) (page stored : Page) → sizeFits size page
 unfolding sizeFits
 still-fits size after page stored fits e same = rw (e, same .characters, same .marks) fits
 
-sent-at : (marks : List ℕ) (cell : ℕ) → cell < length marks → getD (modifiedCleared marks) cell 0 ≡ sentMark (getD marks cell 0)
+sent-at : (marks : List ℕ) (cell : ℕ) → cell < length marks → getD (modifiedCleared marks) cell 0 ≡ markAfterBlock (getD marks cell 0)
 unfolding modifiedCleared
-sent-at marks cell here = each-at (λ _ mark. sentMark mark) marks cell here
+sent-at marks cell here = each-at (λ _ mark. markAfterBlock mark) marks cell here
 
 module _ (t : Terminal) (valid : Valid t) where
   -- The cursor's row and its cell are on the page.
@@ -66,8 +66,8 @@ module _ (t : Terminal) (valid : Valid t) where
   stays-valid s page keeps same p =
       record { size = still-fits (t .state .size) (s .size) (t .page) page (valid .size) (keeps .size) same; state = keeps .valid; page = p }
 
-  untouched : (message : Message) → ((mark : ℕ) → markLeft message mark ≡ mark) → TouchesOnly [] message (t .page) (t .page)
-  untouched message leaves cell here unnamed = record { character = refl; mark = sym (leaves _) }
+  untouched : (transmission : Transmission) → ((mark : ℕ) → markLeft transmission mark ≡ mark) → TouchesOnly [] transmission (t .page) (t .page)
+  untouched transmission leaves cell here unnamed = record { character = refl; mark = sym (leaves _) }
 
   pub goes-soundly : (s : State) → KeepsValid (t .state) s → Sound t (goesTo s t)
   unfolding markLeft
@@ -112,7 +112,7 @@ module _ (t : Terminal) (valid : Valid t) where
     protection = stored .protection;
   }
 
-  -- A message that leaves the marks, and one that clears modified.
+  -- A transmission that leaves the marks, and one that clears modified.
   pub reports-soundly : (bytes : List ℕ) → Sound t (sends (report bytes) (t .state) (t .page))
   unfolding markLeft
   reports-soundly bytes = record {
@@ -124,20 +124,20 @@ module _ (t : Terminal) (valid : Valid t) where
     protection = λ _ cell here. refl;
   }
 
-  pub clears-soundly : (message : Message) → ((mark : ℕ) → markLeft message mark ≡ sentMark mark) → Sound t (sends message (t .state) (pageOf (t .page .characters) (modifiedCleared (t .page .marks))))
-  clears-soundly message leaves = record {
+  pub clears-soundly : (transmission : Transmission) → ((mark : ℕ) → markLeft transmission mark ≡ markAfterBlock mark) → Sound t (sends transmission (t .state) (pageOf (t .page .characters) (modifiedCleared (t .page .marks))))
+  clears-soundly transmission leaves = record {
     valid = stays-valid (t .state) cleared (record { size = refl; valid = valid .state }) (cleared-same-size (t .page)) (cleared-keeps-valid (t .page) (valid .page));
     size = refl;
     touches = touches;
     once = none;
     refusal = λ e. absurd (true-is-not-false (sym e));
-    protection = λ _. all-stay-protected message (t .page) cleared touches;
+    protection = λ _. all-stay-protected transmission (t .page) cleared touches;
   }
     where
       cleared : Page
       cleared = pageOf (t .page .characters) (modifiedCleared (t .page .marks))
 
-      touches : TouchesOnly [] message (t .page) cleared
+      touches : TouchesOnly [] transmission (t .page) cleared
       touches cell here unnamed = record { character = refl; mark = sent-at (t .page .marks) cell here ∙ sym (leaves _) }
 
 -- A sound step that names no cell.
@@ -147,8 +147,8 @@ names-none t step valid sound no-cell =
     let is = sized (t .state .size) (step .terminal .page) (rw (sound .size) at (sound .valid .size)) in
     let touches = rw no-cell at (sound .touches) in
     record {
-      characters = same-characters (step .message) (t .page) (step .terminal .page) touches
+      characters = same-characters (step .transmission) (t .page) (step .terminal .page) touches
           (record { characters = is .characters ∙ sym (was .characters); marks = is .marks ∙ sym (was .marks) })
           (was .characters ∙ sym (was .marks));
-      protection = all-stay-protected (step .message) (t .page) (step .terminal .page) touches;
+      protection = all-stay-protected (step .transmission) (t .page) (step .terminal .page) touches;
     }

@@ -5,8 +5,8 @@ use mathlib.Core.Path.{_≡_}
 use Prim.Native.Nat.{ℕ, _+_, _<_, _≤_}
 use lib.ListN.{length, getD}
 use Rattle.page.specs.Marks.{unprotected}
-use Rattle.page.specs.Page.{Page, sentMark}
-use Rattle.steps.specs.Steps.{Terminal, Message, silent, report, fullBlock, changedBlock, Stepped, Valid}
+use Rattle.page.specs.Page.{Page, markAfterBlock}
+use Rattle.steps.specs.Steps.{Terminal, Transmission, silent, report, fullBlock, changedBlock, Stepped, Valid}
 use Rattle.steps.specs.Seen.{blockHere}
 
 -- Cells in page order, each named once: none is before `first`, none is as far as `end`.
@@ -14,22 +14,22 @@ pub data Rising (end : ℕ) : ℕ → List ℕ → Type 0 where
   none : {first : ℕ} → Rising end first []
   next : {first : ℕ} (cell : ℕ) {later : List ℕ} → first ≤ cell → cell < end → Rising end (cell + 1) later → Rising end first (cell ∷ later)
 
--- What a message leaves of the mark of a cell that isn't named: a block clears modified, and nothing else does anything.
-unfoldable pub markLeft : Message → ℕ → ℕ
+-- What a transmission leaves of the mark of a cell that isn't named: a block clears modified, and nothing else does anything.
+unfoldable pub markLeft : Transmission → ℕ → ℕ
 markLeft silent mark = mark
 markLeft (report bytes) mark = mark
-markLeft (fullBlock bytes) mark = sentMark mark
-markLeft (changedBlock bytes) mark = sentMark mark
+markLeft (fullBlock bytes) mark = markAfterBlock mark
+markLeft (changedBlock bytes) mark = markAfterBlock mark
 
 -- The cell keeps its character, and its mark but for what a block clears.
-pub record Stays (message : Message) (before after : Page) (cell : ℕ) : Type 0 where
+pub record Stays (transmission : Transmission) (before after : Page) (cell : ℕ) : Type 0 where
   pub character : getD (after .characters) cell 0 ≡ getD (before .characters) cell 0
-  pub mark : getD (after .marks) cell 0 ≡ markLeft message (getD (before .marks) cell 0)
+  pub mark : getD (after .marks) cell 0 ≡ markLeft transmission (getD (before .marks) cell 0)
 
 -- Every cell of the page that isn't named stays.
-abbrev pub TouchesOnly : List ℕ → Message → Page → Page → Type 0
-TouchesOnly cells message before after =
-    (cell : ℕ) → cell < length (before .marks) → (List·Memᴰ cell cells → ⊥) → Stays message before after cell
+abbrev pub TouchesOnly : List ℕ → Transmission → Page → Page → Type 0
+TouchesOnly cells transmission before after =
+    (cell : ℕ) → cell < length (before .marks) → (List·Memᴰ cell cells → ⊥) → Stays transmission before after cell
 
 -- The cell keeps its character, if the lent characters have it, and its mark.
 pub record ProtectedKept (before after : Page) (cell : ℕ) : Type 0 where
@@ -68,7 +68,7 @@ pub record Refusal (t : Terminal) (step : Stepped) : Type 0 where
   pub cursor : step .terminal .state .cursor ≡ t .state .cursor
   pub modes : step .terminal .state .modes ≡ t .state .modes
   pub stops : step .terminal .state .stops ≡ t .state .stops
-  pub nothing-sent : step .message ≡ silent
+  pub nothing-sent : step .transmission ≡ silent
   pub no-cell : StoresNoCell step
 
 -- A block, full or changed, is sent because it was asked for; it is that of the page as it was, and no cell is named.
@@ -81,7 +81,7 @@ pub record SendsBlock (full : Bool) (Asked : Type 0) (t : Terminal) (step : Step
 pub record Sound (t : Terminal) (step : Stepped) : Type 0 where
   pub valid : Valid (step .terminal)
   pub size : step .terminal .state .size ≡ t .state .size
-  pub touches : TouchesOnly (step .cells) (step .message) (t .page) (step .terminal .page)
+  pub touches : TouchesOnly (step .cells) (step .transmission) (t .page) (step .terminal .page)
   pub once : Rising (length (t .page .marks)) 0 (step .cells)
   pub refusal : step .wasRefused ≡ true → Refusal t step
   pub protection : step .protection ≡ false → KeepsProtection (t .page) (step .terminal .page)

@@ -6,9 +6,13 @@ use Prim.Native.Nat.{ℕ}
 use lib.ListN.{length, getD}
 use Rattle.page.specs.Marks.{isModified, unprotected}
 use Rattle.page.specs.Page.{Page}
-use Rattle.fields.specs.Fields.{Field, fieldsOf}
+use Rattle.places.specs.declared.Place.{Place}
+use Rattle.places.specs.Places.{placeOf}
+use Rattle.fields.specs.declared.Sought.{Sought}
+use Rattle.fields.specs.Fields.{Field, fieldsOf, fieldStart, fieldEnd}
+use Rattle.fields.specs.Searches.{nextField, previousField, firstUnprotected, nextUnprotected}
 use Rattle.blocks.specs.Blocks.{Entry, entryOf, block}
-use Rattle.steps.specs.Steps.{Terminal}
+use Rattle.steps.specs.Steps.{Terminal, cursorCell}
 
 -- It is the page itself.
 abbrev pub seen : Terminal → Page
@@ -22,19 +26,44 @@ abbrev pub characterAt : Terminal → ℕ → ℕ
 characterAt t cell = getD (seen t .characters) cell 0
 
 -- Whether a cell is unprotected.
-abbrev pub free : Terminal → ℕ → Bool
-free t cell = unprotected (seen t .marks) cell
+abbrev pub unprotectedAt : Terminal → ℕ → Bool
+unprotectedAt t cell = unprotected (seen t .marks) cell
 
 -- Whether it is modified.
 abbrev pub modifiedAt : Terminal → ℕ → Bool
 modifiedAt t cell = isModified (getD (seen t .marks) cell 0)
 
+-- The row and column of a cell.
+abbrev pub placeHere : Terminal → ℕ → Place
+placeHere t cell = placeOf (t .state .size .columns) cell
+
 -- The fields, in page order, and what a block says of one.
 abbrev pub fieldsHere : Terminal → List Field
-fieldsHere t = fieldsOf (free t) (t .state .size .columns) (cellsHere t)
+fieldsHere t = fieldsOf (unprotectedAt t) (t .state .size .columns) (cellsHere t)
 
 abbrev pub entryHere : Terminal → Field → Entry
 entryHere t field = entryOf (t .state .size .columns) (seen t .characters) field
+
+-- The first cell of the cursor's field, and the one after its last.
+abbrev pub startHere : Terminal → ℕ
+startHere t = fieldStart (unprotectedAt t) (t .state .size .columns) (cursorCell (t .state))
+
+abbrev pub endHere : Terminal → ℕ
+endHere t = fieldEnd (unprotectedAt t) (t .state .size .columns) (cellsHere t) (cursorCell (t .state))
+
+-- Where keys look for a field or an unprotected cell, from the cursor's cell on.
+abbrev pub nextFieldHere : Terminal → Sought
+nextFieldHere t = nextField (t .state .size .columns) (cursorCell (t .state)) (fieldsHere t)
+
+abbrev pub previousFieldHere : Terminal → Sought
+previousFieldHere t = previousField (t .state .size .columns) (cursorCell (t .state)) (fieldsHere t)
+
+abbrev pub firstUnprotectedHere : Terminal → Sought
+firstUnprotectedHere t = firstUnprotected (unprotectedAt t) (t .state .size .columns) (cellsHere t)
+
+abbrev pub nextUnprotectedHere : Terminal → Sought
+nextUnprotectedHere t =
+    nextUnprotected (unprotectedAt t) (t .state .size .columns) (cellsHere t) (cursorCell (t .state))
 
 -- The block of the page as it stands, full or changed.
 abbrev pub blockHere : Bool → Terminal → List ℕ

@@ -9,7 +9,7 @@ use Rattle.page.specs.Page.{Page, pageOf, validPage}
 use Rattle.places.specs.Places.{cellAt}
 use Rattle.state.specs.declared.State.{State}
 use Rattle.state.specs.State.{refused}
-use Rattle.state.specs.Validity.{sizeFits, validState}
+use Rattle.state.specs.Tests.{sizeFits, validState}
 
 -- All that a call is lent and given: the state, and the characters and marks.
 pub record Terminal : Type 0 where
@@ -20,28 +20,28 @@ abbrev pub terminalOf : State → List ℕ → List ℕ → Terminal
 terminalOf state characters marks = record { state = state; page = pageOf characters marks }
 
 -- What is sent to the host; document 01's message, to the reader, is `locks .message`.
-pub data Message : Type 0 where
-  silent : Message
-  report : List ℕ → Message
-  fullBlock : List ℕ → Message
-  changedBlock : List ℕ → Message
+pub data Transmission : Type 0 where
+  silent : Transmission
+  report : List ℕ → Transmission
+  fullBlock : List ℕ → Transmission
+  changedBlock : List ℕ → Transmission
 
-unfoldable pub bytesOf : Message → List ℕ
+unfoldable pub bytesOf : Transmission → List ℕ
 bytesOf silent = []
 bytesOf (report bytes) = bytes
 bytesOf (fullBlock bytes) = bytes
 bytesOf (changedBlock bytes) = bytes
 
--- A block as a message.
-unfoldable pub blockMessage : Bool → List ℕ → Message
-blockMessage true bytes = fullBlock bytes
-blockMessage false bytes = changedBlock bytes
+-- A block as a transmission.
+unfoldable pub blockTransmission : Bool → List ℕ → Transmission
+blockTransmission true bytes = fullBlock bytes
+blockTransmission false bytes = changedBlock bytes
 
--- The terminal after a step; the message sent; the cells stored, by their numbers (the step *names* them); whether a command was
+-- The terminal after a step; the transmission sent; the cells stored, by their numbers (the step *names* them); whether a command was
 -- refused; whether protection may have changed (no rule of document 01 asks for it; D-30).
 pub record Stepped : Type 0 where
   pub terminal : Terminal
-  pub message : Message
+  pub transmission : Transmission
   pub cells : List ℕ
   pub wasRefused : Bool
   pub protection : Bool
@@ -51,21 +51,21 @@ withState t s = record { state = s; page = t .page }
 
 -- The state changes, and nothing is stored, sent or refused.
 abbrev pub goesTo : State → Terminal → Stepped
-goesTo s t = record { terminal = withState t s; message = silent; cells = []; wasRefused = false; protection = false }
+goesTo s t = record { terminal = withState t s; transmission = silent; cells = []; wasRefused = false; protection = false }
 
 -- Cells are stored, and the state changes; the Bool says whether protection may have changed.
 abbrev pub stores : List ℕ → Bool → State → Page → Stepped
 stores cells protection s page =
-    record { terminal = record { state = s; page = page }; message = silent; cells = cells; wasRefused = false; protection = protection }
+    record { terminal = record { state = s; page = page }; transmission = silent; cells = cells; wasRefused = false; protection = protection }
 
--- A message is sent.
-abbrev pub sends : Message → State → Page → Stepped
-sends message s page = record { terminal = record { state = s; page = page }; message = message; cells = []; wasRefused = false; protection = false }
+-- A transmission is sent.
+abbrev pub sends : Transmission → State → Page → Stepped
+sends transmission s page = record { terminal = record { state = s; page = page }; transmission = transmission; cells = []; wasRefused = false; protection = false }
 
 -- "Reading host bytes", a refused command: it sets the soft lock and message 1 and changes nothing else.
 abbrev pub refusing : Terminal → Stepped
 refusing t =
-    record { terminal = withState t (refused (t .state)); message = silent; cells = []; wasRefused = true; protection = false }
+    record { terminal = withState t (refused (t .state)); transmission = silent; cells = []; wasRefused = true; protection = false }
 
 -- The cursor's cell, its row's first, and all cells of the page.
 abbrev pub cursorCell : State → ℕ

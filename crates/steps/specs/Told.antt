@@ -37,23 +37,23 @@ tells stepped =
     record {
       terminal = stepped .terminal;
       stored = length (stepped .cells);
-      sent = length (bytesOf (stepped .message));
+      sent = length (bytesOf (stepped .transmission));
       wasRefused = stepped .wasRefused;
       protection = stepped .protection;
       exceeds = false;
     }
 
--- And of one whose message did not fit: nothing happened.
+-- And of one whose transmission did not fit: nothing happened.
 abbrev pub tellsExceeding : Terminal → Told
 tellsExceeding t = record { terminal = t; stored = 0; sent = 0; wasRefused = false; protection = false; exceeds = true }
 
--- A step with an output: its message is written from a place on, or nothing happens.
+-- A step with an output: its transmission is written from a place on, or nothing happens.
 pub record Written : Type 0 where
   pub told : Told
   pub output : List ℕ
 
 unfoldable pub written : ℕ → List ℕ → Terminal → Stepped → Written
 written at output before stepped =
-    if leb (length (bytesOf (stepped .message))) (length output - at) then
-    record { told = tells stepped; output = placed at (bytesOf (stepped .message)) output }
+    if leb (length (bytesOf (stepped .transmission))) (length output - at) then
+    record { told = tells stepped; output = placed at (bytesOf (stepped .transmission)) output }
     else record { told = tellsExceeding before; output = output }

@@ -14,7 +14,7 @@ pub struct Step {
     pub sent: usize,
     pub refused: bool,
     pub protection: bool,
-    // Its message did not fit, and nothing happened.
+    // Its transmission did not fit, and nothing happened.
     pub exceeds: bool,
 }
 

@@ -11,17 +11,17 @@ use Rattle.words.proofs.Output.{wrote-none}
 use Rattle.page.specs.Page.{Page, erased}
 use Rattle.state.specs.declared.Size.{Size}
 use Rattle.state.specs.State.{freshState}
-use Rattle.state.specs.Validity.{sizeFits}
+use Rattle.state.specs.Tests.{sizeFits}
 use Rattle.steps.specs.Steps.{Terminal, Stepped, Valid, bytesOf, allCells}
-use Rattle.steps.specs.Keys.{isKnown, isLockedOut, lacksCell, keyStep}
-use Rattle.steps.specs.Commands.{freshStep}
+use Rattle.keys.specs.Keys.{isKnown, isLockedOut, lacksCell, keyStep}
+use Rattle.commands.specs.Commands.{freshStep}
 use Rattle.steps.proofs.Soundness.{sized}
 use Rattle.commands.proofs.Laws.{all-cells-count, erased-is-fresh}
 use Rattle.terminal.specs.declared.Answer.{Answer}
 use Rattle.terminal.specs.declared.Answer.the-variants.{Done, WrongSize, WrongState, NoRoom, UnknownKey, Locked, TooLong, NoCell}
-use Rattle.terminal.specs.Runs.{stepsOf, fitting, after, sentBy, storedBy}
-use Rattle.terminal.specs.Answers.{numberOf, unchanged, did, gives}
-use Rattle.terminal.specs.Lines.{firstOf, exceedsRoom, passesLine2, startLines, hostLines, keyLines}
+use Rattle.terminal.specs.Runs.{stepsOf, fitting, after, bytesSentBy, cellsStoredBy}
+use Rattle.terminal.specs.Answers.{numberOf, unchanged, afterSteps, gives}
+use Rattle.terminal.specs.Tests.{firstOf, exceedsRoom, passesLine2, startLines, hostLines, keyLines}
 use Rattle.terminal.specs.Calls.{unstarted, startStep, startCall, hostCall, keyCall}
 
 -- What the tests of the first two lines tell.
@@ -34,11 +34,11 @@ unfolding passesLine2
 valid-holds t valid = both-hold _ _ (valid .state) (valid .page)
 
 -- A step that fits, and one that doesn't.
-pub fits-on : (room : ℕ) (step : Stepped) (later : List Stepped) → length (bytesOf (step .message)) ≤ room → fitting room (step ∷ later) ≡ step ∷ fitting (room - length (bytesOf (step .message))) later
+pub fits-on : (room : ℕ) (step : Stepped) (later : List Stepped) → length (bytesOf (step .transmission)) ≤ room → fitting room (step ∷ later) ≡ step ∷ fitting (room - length (bytesOf (step .transmission))) later
 unfolding fitting
 fits-on room step later fits = then-case _ _ _ (le-leb _ _ fits)
 
-pub stops-there : (room : ℕ) (step : Stepped) (later : List Stepped) → room < length (bytesOf (step .message)) → fitting room (step ∷ later) ≡ []
+pub stops-there : (room : ℕ) (step : Stepped) (later : List Stepped) → room < length (bytesOf (step .transmission)) → fitting room (step ∷ later) ≡ []
 unfolding fitting
 stops-there room step later exceeds = else-case _ _ _ (lt-leb _ _ exceeds)
 
@@ -62,12 +62,12 @@ module _ (t : Terminal) (bytes output : List ℕ) where
       host-too-long long = host-gives TooLong (rw (else-case _ _ _ (ap not size), else-case _ _ _ (ap not valid), then-case _ _ _ (lt-ltb _ _ long)))
 
       module _ (short : length bytes ≤ 65536) where
-        pub host-no-room : exceedsRoom (length output) (stepsOf t bytes) ≡ true → hostCall t bytes output ≡ did NoRoom (length (fitting (length output) (stepsOf t bytes))) t output (fitting (length output) (stepsOf t bytes))
+        pub host-no-room : exceedsRoom (length output) (stepsOf t bytes) ≡ true → hostCall t bytes output ≡ afterSteps NoRoom (length (fitting (length output) (stepsOf t bytes))) t output (fitting (length output) (stepsOf t bytes))
         unfolding gives hostLines firstOf
         host-no-room exceeds =
             host-gives NoRoom (rw (else-case _ _ _ (ap not size), else-case _ _ _ (ap not valid), else-case _ _ _ (le-ltb _ _ short), then-case _ _ _ exceeds))
 
-        pub host-done : exceedsRoom (length output) (stepsOf t bytes) ≡ false → hostCall t bytes output ≡ did Done (length (fitting (length output) (stepsOf t bytes))) t output (fitting (length output) (stepsOf t bytes))
+        pub host-done : exceedsRoom (length output) (stepsOf t bytes) ≡ false → hostCall t bytes output ≡ afterSteps Done (length (fitting (length output) (stepsOf t bytes))) t output (fitting (length output) (stepsOf t bytes))
         unfolding gives hostLines firstOf
         host-done fit =
             host-gives Done (rw (else-case _ _ _ (ap not size), else-case _ _ _ (ap not valid), else-case _ _ _ (le-ltb _ _ short), else-case _ _ _ fit))
@@ -104,39 +104,39 @@ module _ (t : Terminal) (key : ℕ) (output : List ℕ) where
               key-gives NoCell (rw (else-case _ _ _ (ap not size), else-case _ _ _ (ap not valid), else-case _ _ _ (ap not known), else-case _ _ _ free, then-case _ _ _ lacks))
 
           module _ (has : lacksCell key t ≡ false) where
-            key-exceeds : exceedsRoom (length output) (keyStep key t ∷ []) ≡ true → keyCall t key output ≡ did NoRoom 0 t output (fitting (length output) (keyStep key t ∷ []))
+            key-exceeds : exceedsRoom (length output) (keyStep key t ∷ []) ≡ true → keyCall t key output ≡ afterSteps NoRoom 0 t output (fitting (length output) (keyStep key t ∷ []))
             unfolding gives keyLines firstOf
             key-exceeds exceeds =
                 key-gives NoRoom (rw (else-case _ _ _ (ap not size), else-case _ _ _ (ap not valid), else-case _ _ _ (ap not known), else-case _ _ _ free, else-case _ _ _ has, then-case _ _ _ exceeds))
 
-            key-fits : exceedsRoom (length output) (keyStep key t ∷ []) ≡ false → keyCall t key output ≡ did Done 0 t output (fitting (length output) (keyStep key t ∷ []))
+            key-fits : exceedsRoom (length output) (keyStep key t ∷ []) ≡ false → keyCall t key output ≡ afterSteps Done 0 t output (fitting (length output) (keyStep key t ∷ []))
             unfolding gives keyLines firstOf
             key-fits fits =
                 key-gives Done (rw (else-case _ _ _ (ap not size), else-case _ _ _ (ap not valid), else-case _ _ _ (ap not known), else-case _ _ _ free, else-case _ _ _ has, else-case _ _ _ fits))
 
-            pub key-no-room : length output < length (bytesOf (keyStep key t .message)) → keyCall t key output ≡ unchanged NoRoom t output
-            unfolding did unchanged after sentBy storedBy exceedsRoom
+            pub key-no-room : length output < length (bytesOf (keyStep key t .transmission)) → keyCall t key output ≡ unchanged NoRoom t output
+            unfolding afterSteps unchanged after bytesSentBy cellsStoredBy exceedsRoom
             key-no-room exceeds =
                 let none = stops-there (length output) (keyStep key t) [] exceeds in
                 key-exceeds (rw none)
-                ∙ ap (did NoRoom 0 t output) none
+                ∙ ap (afterSteps NoRoom 0 t output) none
                 ∙ (λ i. record { number = numberOf NoRoom; taken = 0; sent = 0; stored = 0; terminal = t; output = sym (wrote-none 0 output .left) i })
 
-            pub key-did : length (bytesOf (keyStep key t .message)) ≤ length output → keyCall t key output ≡ did Done 0 t output (keyStep key t ∷ [])
+            pub key-did : length (bytesOf (keyStep key t .transmission)) ≤ length output → keyCall t key output ≡ afterSteps Done 0 t output (keyStep key t ∷ [])
             unfolding exceedsRoom fitting
-            key-did fits = let all = fits-on (length output) (keyStep key t) [] fits in key-fits (rw all) ∙ ap (did Done 0 t output) all
+            key-did fits = let all = fits-on (length output) (keyStep key t) [] fits in key-fits (rw all) ∙ ap (afterSteps Done 0 t output) all
 
-            pub key-done : length (bytesOf (keyStep key t .message)) ≤ length output → keyCall t key output ≡ record { number = numberOf Done; taken = 0; sent = length (bytesOf (keyStep key t .message)); stored = length (keyStep key t .cells); terminal = keyStep key t .terminal; output = placed 0 (bytesOf (keyStep key t .message)) output }
-            unfolding did after sentBy storedBy
+            pub key-done : length (bytesOf (keyStep key t .transmission)) ≤ length output → keyCall t key output ≡ record { number = numberOf Done; taken = 0; sent = length (bytesOf (keyStep key t .transmission)); stored = length (keyStep key t .cells); terminal = keyStep key t .terminal; output = placed 0 (bytesOf (keyStep key t .transmission)) output }
+            unfolding afterSteps after bytesSentBy cellsStoredBy
             key-done fits =
                 key-did fits
                 ∙ (λ i. record {
                   number = numberOf Done;
                   taken = 0;
-                  sent = length (append-nil (bytesOf (keyStep key t .message)) i);
+                  sent = length (append-nil (bytesOf (keyStep key t .transmission)) i);
                   stored = length (append-nil (keyStep key t .cells) i);
                   terminal = keyStep key t .terminal;
-                  output = placed 0 (append-nil (bytesOf (keyStep key t .message)) i) output;
+                  output = placed 0 (append-nil (bytesOf (keyStep key t .transmission)) i) output;
                 })
 
 module _ (size : Size) (page : Page) where
@@ -148,13 +148,13 @@ module _ (size : Size) (page : Page) where
   unfolding gives startLines firstOf
   start-wrong-size wrong = start-gives WrongSize (rw (then-case _ _ _ (ap not wrong)))
 
-  pub start-done : sizeFits size page ≡ true → startCall size page ≡ did Done 0 (unstarted page) [] (startStep size page ∷ [])
+  pub start-done : sizeFits size page ≡ true → startCall size page ≡ afterSteps Done 0 (unstarted page) [] (startStep size page ∷ [])
   unfolding gives startLines firstOf
   start-done fits = start-gives Done (rw (else-case _ _ _ (ap not fits)))
 
   -- A fresh page is one erased whole.
   pub start-leaves : sizeFits size page ≡ true → startCall size page ≡ record { number = numberOf Done; taken = 0; sent = 0; stored = length (page .marks); terminal = record { state = freshState size; page = erased true 0 (length (page .marks)) page }; output = [] }
-  unfolding did after sentBy storedBy startStep freshStep bytesOf placed
+  unfolding afterSteps after bytesSentBy cellsStoredBy startStep freshStep bytesOf placed
   start-leaves fits =
       let lengths = sized size page fits in
       start-done fits

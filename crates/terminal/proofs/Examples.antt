@@ -11,35 +11,39 @@ use Rattle.words.specs.Output.{placed}
 use Rattle.sequence.specs.Record.{argumentsFit, largestArgument, validHalfRead, withDigit, withNextArgument}
 use Rattle.sequence.specs.Reading.{isControl, isCancel, outsideSequence, afterEsc, afterIntermediate, afterBracket, insideSequence, advanceOf}
 use Rattle.page.specs.Marks.{unprotected}
-use Rattle.page.specs.Page.{pageOf, validPage, textStored, sentMark, modifiedCleared}
+use Rattle.page.specs.Page.{pageOf, validPage, textStored, markAfterBlock, modifiedCleared}
 use Rattle.places.specs.Places.{placeOf}
 use Rattle.fields.specs.Fields.{opensStretch, joined, startsField, endFrom, fieldEnd, fieldsFrom, fieldsOf}
-use Rattle.blocks.specs.Blocks.{entryBytes, encode, entryOf, someModified, isSent, entriesSent, block}
+use Rattle.blocks.specs.Blocks.{entryBytes, encode, entryOf, someModified, isInBlock, entriesSent, block}
 use Rattle.state.specs.State.{refused}
 use Rattle.state.specs.Moves.{onBy, rightBy}
 use Rattle.state.specs.Pen.{validPen}
-use Rattle.state.specs.Validity.{listedRows, listedColumns, listedSize, sizeFits, cursorFits, stopsFit, validState}
-use Rattle.steps.specs.Steps.{Terminal, bytesOf, blockMessage}
-use Rattle.steps.specs.Table.{allowed, valueOf}
-use Rattle.steps.specs.Commands.{toNextCell, textStep, freshStep, sendBlock, toColumn, toRow, toPlace, keptColumn, listedStep, bracketStep}
-use Rattle.steps.specs.Host.{eventStep, hostStep}
-use Rattle.steps.specs.Keys.{isTyping, isEditing, isFieldMove, isKnown, isLocked, isLockedOut, lacksCell, keyStep}
-use Rattle.terminal.specs.Runs.{stepsOf, fitting, after, sentBy, storedBy}
-use Rattle.terminal.specs.Answers.{numberOf, Outcome, unchanged, did, gives}
-use Rattle.terminal.specs.Lines.{firstOf, exceedsRoom, passesLine2, startLines, hostLines, keyLines}
+use Rattle.state.specs.Tests.{listedRows, listedColumns, listedSize, sizeFits, cursorFits, stopsFit, validState}
+use Rattle.steps.specs.Steps.{Terminal, bytesOf, blockTransmission}
+use Rattle.table.specs.Table.{allowed, valueOf}
+use Rattle.state.specs.Moves.{toNextCell}
+use Rattle.commands.specs.Text.{textStep}
+use Rattle.commands.specs.Commands.{freshStep, listedStep, bracketStep}
+use Rattle.sending.specs.Sending.{sendBlock}
+use Rattle.table.specs.Moves.{toColumn, toRow, toPlace, keptColumn, isMove, moveStep}
+use Rattle.commands.specs.Host.{eventStep, hostStep}
+use Rattle.keys.specs.Keys.{isTyping, isEditing, isFieldMove, isKnown, isLocked, isLockedOut, lacksCell, keyStep}
+use Rattle.terminal.specs.Runs.{stepsOf, fitting, after, bytesSentBy, cellsStoredBy}
+use Rattle.terminal.specs.Answers.{numberOf, Outcome, unchanged, afterSteps, gives}
+use Rattle.terminal.specs.Tests.{firstOf, exceedsRoom, passesLine2, startLines, hostLines, keyLines}
 use Rattle.terminal.specs.Calls.{startStep, startCall, hostCall, keyCall}
 
 -- A call of host bytes or of a key, with so much room in the output.
-data Call : Type 0 where
-  host : ℕ → List ℕ → Call
-  key : ℕ → ℕ → Call
+data ExampleCall : Type 0 where
+  host : ℕ → List ℕ → ExampleCall
+  key : ℕ → ℕ → ExampleCall
 
-outcome : Call → Terminal → Outcome
+outcome : ExampleCall → Terminal → Outcome
 outcome (host room bytes) t = hostCall t bytes (replicate room 0)
 outcome (key room number) t = keyCall t number (replicate room 0)
 
 -- What the last of some calls gives.
-last : Outcome → List Call → Outcome
+last : Outcome → List ExampleCall → Outcome
 last given [] = given
 last given (call ∷ later) = last (outcome call (given .terminal)) later
 
@@ -69,7 +73,7 @@ seen given =
     }
 
 record Example : Type 0 where
-  calls : List Call
+  calls : List ExampleCall
   gives : Seen
 
 -- A cursor and a count, no lock; and a refused command.
@@ -84,16 +88,16 @@ keyed : ℕ → List ℕ → Seen
 keyed number sent = record { number = number; row = 1; column = 1; locked = false; message = 0; stored = 0; sent = sent }
 
 infix 68 _leave_
-_leave_ : List Call → Seen → Example
+_leave_ : List ExampleCall → Seen → Example
 calls leave given = record { calls = calls; gives = given }
 
-sequence : List ℕ → Call
+sequence : List ℕ → ExampleCall
 sequence bytes = host 0 (0x1B ∷ 0x5B ∷ bytes)
 
-at4x20 : Call
+at4x20 : ExampleCall
 at4x20 = sequence (0x34 ∷ 0x3B ∷ 0x32 ∷ 0x30 ∷ 0x48 ∷ [])
 
-at24x80 : Call
+at24x80 : ExampleCall
 at24x80 = sequence (0x32 ∷ 0x34 ∷ 0x3B ∷ 0x38 ∷ 0x30 ∷ 0x48 ∷ [])
 
 examples : List Example
@@ -124,5 +128,5 @@ examples =
 
 -- Each leaves what document 01 says.
 as-document-01 : map (λ (e : Example). seen (last started (e .calls))) examples ≡ map (λ (e : Example). e .gives) examples
-unfolding outcome last started seen goes refuses keyed _leave_ sequence at4x20 at24x80 examples if_then_else_ _and_ _or_ _is_to_ within every eachFrom numbersFrom selected placed argumentsFit largestArgument validHalfRead withDigit withNextArgument isControl isCancel outsideSequence afterEsc afterIntermediate afterBracket insideSequence advanceOf unprotected validPage textStored sentMark modifiedCleared placeOf opensStretch joined startsField endFrom fieldEnd fieldsFrom fieldsOf entryBytes encode entryOf someModified isSent entriesSent block refused onBy rightBy validPen listedRows listedColumns listedSize sizeFits cursorFits stopsFit validState bytesOf blockMessage allowed valueOf toNextCell textStep freshStep sendBlock toColumn toRow toPlace keptColumn listedStep bracketStep eventStep hostStep isTyping isEditing isFieldMove isKnown isLocked isLockedOut lacksCell keyStep stepsOf fitting after sentBy storedBy numberOf unchanged did gives firstOf exceedsRoom passesLine2 startLines hostLines keyLines startStep startCall hostCall keyCall
+unfolding outcome last started seen goes refuses keyed _leave_ sequence at4x20 at24x80 examples if_then_else_ _and_ _or_ _is_to_ within every eachFrom numbersFrom selected placed argumentsFit largestArgument validHalfRead withDigit withNextArgument isControl isCancel outsideSequence afterEsc afterIntermediate afterBracket insideSequence advanceOf unprotected validPage textStored markAfterBlock modifiedCleared placeOf opensStretch joined startsField endFrom fieldEnd fieldsFrom fieldsOf entryBytes encode entryOf someModified isInBlock entriesSent block refused onBy rightBy validPen listedRows listedColumns listedSize sizeFits cursorFits stopsFit validState bytesOf blockTransmission allowed valueOf toNextCell textStep freshStep sendBlock toColumn toRow toPlace keptColumn isMove moveStep listedStep bracketStep eventStep hostStep isTyping isEditing isFieldMove isKnown isLocked isLockedOut lacksCell keyStep stepsOf fitting after bytesSentBy cellsStoredBy numberOf unchanged afterSteps gives firstOf exceedsRoom passesLine2 startLines hostLines keyLines startStep startCall hostCall keyCall
 as-document-01 = refl

@@ -13,8 +13,8 @@ use Rattle.fields.specs.Fields.{Field}
 use Rattle.state.specs.declared.State.{State}
 use Rattle.steps.specs.Steps.{Terminal, cursorCell}
 use Rattle.steps.specs.Seen.{fieldsHere}
-use Rattle.steps.specs.Keys.{isTyping, isEditing, isFieldMove, isKnown, isLocked, isLockedOut, noField, lacksCell}
-use Rattle.terminal.specs.Table.{Line4, Line5, manual-lock, soft-lock, Line7, typed-on-protected, edited-on-protected, no-field}
+use Rattle.keys.specs.Keys.{isTyping, isEditing, isFieldMove, isKnown, isLocked, isLockedOut, noField, lacksCell}
+use Rattle.terminal.specs.Lines.{Line4, Line5, manual-lock, soft-lock, Line7, typed-on-protected, edited-on-protected, no-field}
 
 pub line-4 : (key : ℕ) → (not (isKnown key) ≡ true) ↔ Line4 key
 unfolding isKnown isTyping

@@ -6,8 +6,8 @@ use mathlib.Core.Logic.{_↔_}
 use Prim.Native.Nat.{ℕ}
 use Rattle.words.proofs.Choosing.{not-both, then-case, else-case}
 use Rattle.terminal.specs.Answers.{numberOf}
-use Rattle.terminal.specs.Lines.{LineTest, firstOf}
-use Rattle.terminal.specs.Table.{TableLine, Decides, none-holds, this-holds, not-this}
+use Rattle.terminal.specs.Tests.{LineTest, firstOf}
+use Rattle.terminal.specs.Lines.{TableLine, Decides, none-holds, this-holds, not-this}
 
 pub data Matches : List LineTest → List TableLine → Type 1 where
   ends : Matches [] []

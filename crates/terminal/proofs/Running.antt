@@ -16,16 +16,16 @@ use Rattle.page.specs.Page.{Page}
 use Rattle.steps.specs.declared.Step.{Step}
 use Rattle.steps.specs.Steps.{Terminal, Stepped, bytesOf, Valid}
 use Rattle.steps.specs.Told.{Written, told, written}
-use Rattle.steps.specs.Host.{hostStep}
+use Rattle.commands.specs.Host.{hostStep}
 use Rattle.steps.proofs.Naming.{named-count}
 use Rattle.steps.proofs.Measuring.{measured}
 use Rattle.steps.proofs.Writing.{no-room, with-room}
 use Rattle.commands.proofs.Theorems.{step-keeps-valid, step-names-once}
 use Rattle.terminal.specs.declared.Answer.{Answer}
 use Rattle.terminal.specs.declared.Answer.the-variants.{Done, NoRoom}
-use Rattle.terminal.specs.Runs.{stepsOf, fitting, after, sentBy, storedBy}
-use Rattle.terminal.specs.Answers.{numberOf, did}
-use Rattle.terminal.specs.Lines.{exceedsRoom}
+use Rattle.terminal.specs.Runs.{stepsOf, fitting, after, bytesSentBy, cellsStoredBy}
+use Rattle.terminal.specs.Answers.{numberOf, afterSteps}
+use Rattle.terminal.specs.Tests.{exceedsRoom}
 use Rattle.terminal.specs.Calls.{hostCall}
 use Rattle.terminal.proofs.Deciding.{valid-holds, fits-on, stops-there, host-no-room, host-done}
 
@@ -35,15 +35,15 @@ unfolding after
 after-more t [] step = refl
 after-more t (first ∷ later) step = after-more (first .terminal) later step
 
-pub sent-more : (done : List Stepped) (step : Stepped) → sentBy (done ++ (step ∷ [])) ≡ sentBy done ++ bytesOf (step .message)
-unfolding sentBy
+pub sent-more : (done : List Stepped) (step : Stepped) → bytesSentBy (done ++ (step ∷ [])) ≡ bytesSentBy done ++ bytesOf (step .transmission)
+unfolding bytesSentBy
 sent-more [] step = append-nil _
-sent-more (first ∷ later) step = ap (λ (bytes : List ℕ). bytesOf (first .message) ++ bytes) (sent-more later step) ∙ sym (append-assoc (bytesOf (first .message)) (sentBy later) (bytesOf (step .message)))
+sent-more (first ∷ later) step = ap (λ (bytes : List ℕ). bytesOf (first .transmission) ++ bytes) (sent-more later step) ∙ sym (append-assoc (bytesOf (first .transmission)) (bytesSentBy later) (bytesOf (step .transmission)))
 
-pub stored-more : (done : List Stepped) (step : Stepped) → storedBy (done ++ (step ∷ [])) ≡ storedBy done ++ step .cells
-unfolding storedBy
+pub stored-more : (done : List Stepped) (step : Stepped) → cellsStoredBy (done ++ (step ∷ [])) ≡ cellsStoredBy done ++ step .cells
+unfolding cellsStoredBy
 stored-more [] step = append-nil _
-stored-more (first ∷ later) step = ap (λ (cells : List ℕ). first .cells ++ cells) (stored-more later step) ∙ sym (append-assoc (first .cells) (storedBy later) (step .cells))
+stored-more (first ∷ later) step = ap (λ (cells : List ℕ). first .cells ++ cells) (stored-more later step) ∙ sym (append-assoc (first .cells) (cellsStoredBy later) (step .cells))
 
 -- Each byte has its step.
 pub steps-count : (t : Terminal) (bytes : List ℕ) → length (stepsOf t bytes) ≡ length bytes
@@ -63,23 +63,23 @@ step-count byte t valid =
     let most = known .most in
     omega arith
 
--- What the code tells of a step that was done, and of one whose message does not fit.
+-- What the code tells of a step that was done, and of one whose transmission does not fit.
 pub record WasDone (at : ℕ) (output : List ℕ) (stepped : Stepped) (step : Step) (page : Page) (written-to : List ℕ) : Type 0 where
-  pub fits : length (bytesOf (stepped .message)) ≤ length output - at
+  pub fits : length (bytesOf (stepped .transmission)) ≤ length output - at
   pub terminal : record { state = step .state; page = page } ≡ stepped .terminal
   pub stored : step .stored ≡ length (stepped .cells)
-  pub sent : step .sent ≡ length (bytesOf (stepped .message))
-  pub writes : written-to ≡ placed at (bytesOf (stepped .message)) output
+  pub sent : step .sent ≡ length (bytesOf (stepped .transmission))
+  pub writes : written-to ≡ placed at (bytesOf (stepped .transmission)) output
 
 pub record Exceeded (at : ℕ) (output : List ℕ) (before : Terminal) (stepped : Stepped) (page : Page) (written-to : List ℕ) : Type 0 where
-  pub exceeds : length output - at < length (bytesOf (stepped .message))
+  pub exceeds : length output - at < length (bytesOf (stepped .transmission))
   pub same-page : page ≡ before .page
   pub same-output : written-to ≡ output
 
 module _ (at : ℕ) (output : List ℕ) (before : Terminal) (stepped : Stepped) (step : Step) (page : Page) (written-to : List ℕ) (is : record { told = told step page; output = written-to } ≡ written at output before stepped) where
   pub was-done : step .exceeds ≡ false → WasDone at output stepped step page written-to
   was-done done =
-      either-way (leb (length (bytesOf (stepped .message))) (length output - at))
+      either-way (leb (length (bytesOf (stepped .transmission))) (length output - at))
       (λ fits.
       let did = is ∙ with-room at output before stepped (leb-true _ _ fits) in
       record {
@@ -93,7 +93,7 @@ module _ (at : ℕ) (output : List ℕ) (before : Terminal) (stepped : Stepped) 
 
   pub exceeded : step .exceeds ≡ true → Exceeded at output before stepped page written-to
   exceeded told =
-      either-way (leb (length (bytesOf (stepped .message))) (length output - at))
+      either-way (leb (length (bytesOf (stepped .transmission))) (length output - at))
       (λ fits. absurd (true-is-not-false (sym told ∙ ap (λ (w : Written). w .told .exceeds) (is ∙ with-room at output before stepped (leb-true _ _ fits)))))
       (λ exceeds.
       let did = is ∙ no-room at output before stepped (leb-false _ _ exceeds) in
@@ -109,8 +109,8 @@ pub record Going (start : Terminal) (bytes before : List ℕ) (here : Terminal) 
   pub steps : fitting (length before) (stepsOf start bytes) ≡ done ++ fitting (length before - sent) (stepsOf here (drop taken bytes))
   pub as-many : length done ≡ taken
   pub comes : after start done ≡ here
-  pub wrote : Wrote 0 (sentBy done) before sent output
-  pub counted : length (storedBy done) ≡ stored
+  pub wrote : Wrote 0 (bytesSentBy done) before sent output
+  pub counted : length (cellsStoredBy done) ≡ stored
   pub valid : Valid here
   pub inside : taken ≤ length bytes
   pub room : sent ≤ length before
@@ -118,7 +118,7 @@ pub record Going (start : Terminal) (bytes before : List ℕ) (here : Terminal) 
   pub few : stored ≤ taken * 7680
 
 pub sets-out : (start : Terminal) (bytes before : List ℕ) → Valid start → Going start bytes before start 0 0 0 before
-unfolding after sentBy storedBy
+unfolding after bytesSentBy cellsStoredBy
 sets-out start bytes before valid =
     let all : length before - 0 ≡ length before = omega arith in
     record {
@@ -141,12 +141,12 @@ module _ {start : Terminal} {bytes before : List ℕ} {here : Terminal} {taken s
   onward = hostStep (getD bytes taken 0) here
 
   module _ (more : taken < length bytes) where
-    goes-one-on : length (bytesOf (onward .message)) ≤ length output - sent → Going start bytes before (onward .terminal) (taken + 1) (sent + length (bytesOf (onward .message))) (stored + length (onward .cells)) (placed sent (bytesOf (onward .message)) output)
+    goes-one-on : length (bytesOf (onward .transmission)) ≤ length output - sent → Going start bytes before (onward .terminal) (taken + 1) (sent + length (bytesOf (onward .transmission))) (stored + length (onward .cells)) (placed sent (bytesOf (onward .transmission)) output)
     goes-one-on fits =
-        let n : ℕ = length (bytesOf (onward .message)) in
+        let n : ℕ = length (bytesOf (onward .transmission)) in
         let few = step-count (getD bytes taken 0) here (going .valid) in
-        let room : length (bytesOf (onward .message)) ≤ length before - sent = omega (arith, going .as-long) in
-        let left : length before - sent - length (bytesOf (onward .message)) ≡ length before - (sent + length (bytesOf (onward .message))) = omega arith in
+        let room : length (bytesOf (onward .transmission)) ≤ length before - sent = omega (arith, going .as-long) in
+        let left : length before - sent - length (bytesOf (onward .transmission)) ≡ length before - (sent + length (bytesOf (onward .transmission))) = omega arith in
         let written = wrote-then (omega arith) (going .wrote) (record { next-is = refl; left = refl }) in
         record {
           done = going .done ++ (onward ∷ []);
@@ -155,15 +155,15 @@ module _ {start : Terminal} {bytes before : List ℕ} {here : Terminal} {taken s
               ∙ ap (λ (steps : List Stepped). going .done ++ fitting (length before - sent) steps) (next-step here bytes taken more)
               ∙ ap (λ (steps : List Stepped). going .done ++ steps) (fits-on (length before - sent) onward (stepsOf (onward .terminal) (drop (taken + 1) bytes)) room)
               ∙ ap (λ (r : ℕ). going .done ++ (onward ∷ fitting r (stepsOf (onward .terminal) (drop (taken + 1) bytes)))) left
-              ∙ sym (append-assoc (going .done) (onward ∷ []) (fitting (length before - (sent + length (bytesOf (onward .message)))) (stepsOf (onward .terminal) (drop (taken + 1) bytes))));
+              ∙ sym (append-assoc (going .done) (onward ∷ []) (fitting (length before - (sent + length (bytesOf (onward .transmission)))) (stepsOf (onward .terminal) (drop (taken + 1) bytes))));
           as-many = length-append (going .done) (onward ∷ []) ∙ omega (arith, going .as-many);
           comes = after-more start (going .done) onward;
           wrote = rw (sent-more (going .done) onward) written;
-          counted = rw (stored-more (going .done) onward, length-append (storedBy (going .done)) (onward .cells), going .counted);
+          counted = rw (stored-more (going .done) onward, length-append (cellsStoredBy (going .done)) (onward .cells), going .counted);
           valid = step-keeps-valid (getD bytes taken 0) here (going .valid);
           inside = omega arith;
           room = omega (arith, going .room);
-          as-long = placed-length sent (bytesOf (onward .message)) output (omega (arith, going .room, going .as-long)) ∙ going .as-long;
+          as-long = placed-length sent (bytesOf (onward .transmission)) output (omega (arith, going .room, going .as-long)) ∙ going .as-long;
           few = omega (arith, going .few);
         }
 
@@ -175,10 +175,10 @@ module _ {start : Terminal} {bytes before : List ℕ} {here : Terminal} {taken s
           (rw (was .stored, was .sent, was .writes) (goes-one-on (was .fits)))
 
   -- Where it ends, the call did the steps done so far.
-  ends : (answer : Answer) → fitting (length before) (stepsOf start bytes) ≡ going .done → did answer (length (fitting (length before) (stepsOf start bytes))) start before (fitting (length before) (stepsOf start bytes)) ≡ record { number = numberOf answer; taken = taken; sent = sent; stored = stored; terminal = here; output = output }
-  unfolding did
+  ends : (answer : Answer) → fitting (length before) (stepsOf start bytes) ≡ going .done → afterSteps answer (length (fitting (length before) (stepsOf start bytes))) start before (fitting (length before) (stepsOf start bytes)) ≡ record { number = numberOf answer; taken = taken; sent = sent; stored = stored; terminal = here; output = output }
+  unfolding afterSteps
   ends answer all =
-      let bytes-sent : length (sentBy (going .done)) ≡ sent = omega (arith, going .wrote .next-is) in
+      let bytes-sent : length (bytesSentBy (going .done)) ≡ sent = omega (arith, going .wrote .next-is) in
       rw all
       (λ i. record {
         number = numberOf answer;
@@ -190,10 +190,10 @@ module _ {start : Terminal} {bytes before : List ℕ} {here : Terminal} {taken s
       })
 
   module _ (valid : Valid start) (short : length bytes ≤ 65536) where
-    pub ends-full : (more : taken < length bytes) → length output - sent < length (bytesOf (onward .message)) → hostCall start bytes before ≡ record { number = numberOf NoRoom; taken = taken; sent = sent; stored = stored; terminal = here; output = output }
+    pub ends-full : (more : taken < length bytes) → length output - sent < length (bytesOf (onward .transmission)) → hostCall start bytes before ≡ record { number = numberOf NoRoom; taken = taken; sent = sent; stored = stored; terminal = here; output = output }
     unfolding exceedsRoom
     ends-full more exceeds =
-        let room : length before - sent < length (bytesOf (onward .message)) = omega (arith, going .as-long) in
+        let room : length before - sent < length (bytesOf (onward .transmission)) = omega (arith, going .as-long) in
         let all : fitting (length before) (stepsOf start bytes) ≡ going .done =
         going .steps
         ∙ ap (λ (steps : List Stepped). going .done ++ fitting (length before - sent) steps) (next-step here bytes taken more)

@@ -16,18 +16,18 @@ use Rattle.page.specs.Page.{Page}
 use Rattle.state.specs.declared.Size.{Size}
 use Rattle.state.proofs.Lines.{line-1, line-2}
 use Rattle.steps.specs.Steps.{Terminal, Stepped, bytesOf, allCells, Valid}
-use Rattle.steps.specs.Commands.{freshStep}
-use Rattle.steps.specs.Keys.{keyStep}
+use Rattle.commands.specs.Commands.{freshStep}
+use Rattle.keys.specs.Keys.{keyStep}
 use Rattle.steps.proofs.Soundness.{sized}
 use Rattle.terminal.specs.declared.Answer.{Answer}
 use Rattle.terminal.specs.declared.Answer.the-variants.{Done, WrongSize, WrongState, NoRoom, UnknownKey, Locked, TooLong, NoCell}
 use Rattle.terminal.specs.declared.Reply.{Reply}
-use Rattle.terminal.specs.Runs.{stepsOf, after, sentBy, storedBy}
-use Rattle.terminal.specs.Answers.{numberOf, Outcome, given, unchanged, did, gives}
-use Rattle.terminal.specs.Lines.{passesLine2, firstOf, startLines, hostLines, keyLines}
+use Rattle.terminal.specs.Runs.{stepsOf, after, bytesSentBy, cellsStoredBy}
+use Rattle.terminal.specs.Answers.{numberOf, Outcome, given, unchanged, afterSteps, gives}
+use Rattle.terminal.specs.Tests.{passesLine2, firstOf, startLines, hostLines, keyLines}
 use Rattle.terminal.specs.Calls.{unstarted, startStep, startCall, hostCall, keyCall}
 use Rattle.terminal.specs.Claims.{NumberedBy, Leaves, Did, Started, SameResult}
-use Rattle.terminal.specs.Table.{Line3, Decides, startTable, hostTable, keyTable}
+use Rattle.terminal.specs.Lines.{Line3, Decides, startTable, hostTable, keyTable}
 use Rattle.terminal.proofs.Matching.{ends, next, first-decides-row, decides-one}
 use Rattle.terminal.proofs.Exceeding.{line-3}
 use Rattle.terminal.proofs.Lines.{line-4, line-5, line-7}
@@ -36,7 +36,7 @@ use Rattle.terminal.proofs.Cases
 
 -- The number of an outcome is its answer's.
 number-is : (answer : Answer) (taken : ℕ) (t : Terminal) (output : List ℕ) (steps : List Stepped) → numberOf answer ≡ gives answer taken t output steps .number
-unfolding gives did unchanged
+unfolding gives afterSteps unchanged
 number-is Done taken t output steps = refl
 number-is WrongSize taken t output steps = refl
 number-is WrongState taken t output steps = refl
@@ -102,8 +102,8 @@ leaves answer t lent is =
       output = ap (λ (o : Outcome). o .output) is;
     }
 
-pub did-so : (answer : Answer) (taken : ℕ) (t : Terminal) (lent : List ℕ) (steps : List Stepped) {outcome : Outcome} → outcome ≡ did answer taken t lent steps → Did taken t lent steps outcome
-unfolding did
+pub did-so : (answer : Answer) (taken : ℕ) (t : Terminal) (lent : List ℕ) (steps : List Stepped) {outcome : Outcome} → outcome ≡ afterSteps answer taken t lent steps → Did taken t lent steps outcome
+unfolding afterSteps
 did-so answer taken t lent steps is =
     record {
       bytes-taken = ap (λ (o : Outcome). o .taken) is;
@@ -117,8 +117,8 @@ pub numbered : (answer : Answer) (t : Terminal) (lent : List ℕ) {outcome : Out
 unfolding unchanged
 numbered answer t lent is = ap (λ (o : Outcome). o .number) is
 
-pub did-number : (answer : Answer) (taken : ℕ) (t : Terminal) (lent : List ℕ) (steps : List Stepped) {outcome : Outcome} → outcome ≡ did answer taken t lent steps → outcome .number ≡ numberOf answer
-unfolding did
+pub did-number : (answer : Answer) (taken : ℕ) (t : Terminal) (lent : List ℕ) (steps : List Stepped) {outcome : Outcome} → outcome ≡ afterSteps answer taken t lent steps → outcome .number ≡ numberOf answer
+unfolding afterSteps
 did-number answer taken t lent steps is = ap (λ (o : Outcome). o .number) is
 
 -- Start: 1 changes nothing and hands back all zeros.
@@ -132,7 +132,7 @@ start-refused size page not-done = go (start-case size page)
 
 -- Start, 0: a fresh page and state of the size asked for.
 pub start-done : (size : Size) (page : Page) → startCall size page .number ≡ 0 → Started size (startCall size page)
-unfolding numberOf after sentBy storedBy startStep freshStep bytesOf placed
+unfolding numberOf after bytesSentBy cellsStoredBy startStep freshStep bytesOf placed
 start-done size page is-done = go (start-case size page)
   where
     go : StartCase size page → Started size (startCall size page)
@@ -241,8 +241,8 @@ one-result {one} {other} a b =
     }
 
 -- The bytes sent stand at the output's start, and what is past them is unchanged.
-pub bytes-sent : {taken : ℕ} {t : Terminal} {lent : List ℕ} {steps : List Stepped} {outcome : Outcome} → Did taken t lent steps outcome → take (outcome .sent) (outcome .output) ≡ sentBy steps
-bytes-sent {lent} {steps} did = (λ i. take (did .sent i) (did .output i)) ∙ placed-before (sentBy steps) lent
+pub bytes-sent : {taken : ℕ} {t : Terminal} {lent : List ℕ} {steps : List Stepped} {outcome : Outcome} → Did taken t lent steps outcome → take (outcome .sent) (outcome .output) ≡ bytesSentBy steps
+bytes-sent {lent} {steps} did = (λ i. take (did .sent i) (did .output i)) ∙ placed-before (bytesSentBy steps) lent
 
 pub past-bytes-sent : {taken : ℕ} {t : Terminal} {lent : List ℕ} {steps : List Stepped} {outcome : Outcome} → Did taken t lent steps outcome → drop (outcome .sent) (outcome .output) ≡ drop (outcome .sent) lent
-past-bytes-sent {lent} {steps} did = (λ i. drop (did .sent i) (did .output i)) ∙ placed-past (sentBy steps) lent ∙ (λ i. drop (sym (did .sent) i) lent)
+past-bytes-sent {lent} {steps} did = (λ i. drop (did .sent i) (did .output i)) ∙ placed-past (bytesSentBy steps) lent ∙ (λ i. drop (sym (did .sent) i) lent)

@@ -8,7 +8,7 @@ use Rattle.steps.specs.Steps.{Terminal, Stepped}
 use Rattle.terminal.specs.declared.Answer.{Answer}
 use Rattle.terminal.specs.declared.Answer.the-variants.{Done, WrongSize, WrongState, NoRoom, UnknownKey, Locked, TooLong, NoCell}
 use Rattle.terminal.specs.declared.Reply.{Reply}
-use Rattle.terminal.specs.Runs.{after, sentBy, storedBy}
+use Rattle.terminal.specs.Runs.{after, bytesSentBy, cellsStoredBy}
 
 unfoldable pub numberOf : Answer → ℕ
 numberOf Done = 0
@@ -49,23 +49,23 @@ unfoldable pub unchanged : Answer → Terminal → List ℕ → Outcome
 unchanged answer t output = record { number = numberOf answer; taken = 0; sent = 0; stored = 0; terminal = t; output = output }
 
 -- Steps were done: their bytes stand at the start of the output, and what is past them is as it was.
-unfoldable pub did : Answer → ℕ → Terminal → List ℕ → List Stepped → Outcome
-did answer taken t output steps =
+unfoldable pub afterSteps : Answer → ℕ → Terminal → List ℕ → List Stepped → Outcome
+afterSteps answer taken t output steps =
     record {
       number = numberOf answer;
       taken = taken;
-      sent = length (sentBy steps);
-      stored = length (storedBy steps);
+      sent = length (bytesSentBy steps);
+      stored = length (cellsStoredBy steps);
       terminal = after t steps;
-      output = placed 0 (sentBy steps) output;
+      output = placed 0 (bytesSentBy steps) output;
     }
 
 -- The table's last column, for a call that may do these steps: those before the one that lacks room, or all.
 unfoldable pub gives : Answer → ℕ → Terminal → List ℕ → List Stepped → Outcome
-gives Done taken t output steps = did Done taken t output steps
+gives Done taken t output steps = afterSteps Done taken t output steps
 gives WrongSize taken t output steps = unchanged WrongSize t output
 gives WrongState taken t output steps = unchanged WrongState t output
-gives NoRoom taken t output steps = did NoRoom taken t output steps
+gives NoRoom taken t output steps = afterSteps NoRoom taken t output steps
 gives UnknownKey taken t output steps = unchanged UnknownKey t output
 gives Locked taken t output steps = unchanged Locked t output
 gives TooLong taken t output steps = unchanged TooLong t output

@@ -7,12 +7,12 @@ use Rattle.page.specs.Page.{Page}
 use Rattle.state.specs.declared.Size.{Size}
 use Rattle.state.specs.State.{freshState, zeroState}
 use Rattle.steps.specs.Steps.{Terminal, Stepped}
-use Rattle.steps.specs.Commands.{freshStep}
-use Rattle.steps.specs.Keys.{keyStep}
+use Rattle.commands.specs.Commands.{freshStep}
+use Rattle.keys.specs.Keys.{keyStep}
 use Rattle.terminal.specs.Runs.{stepsOf, fitting}
 use Rattle.terminal.specs.declared.Reply.{Reply}
 use Rattle.terminal.specs.Answers.{Outcome, given, gives}
-use Rattle.terminal.specs.Lines.{firstOf, startLines, hostLines, keyLines}
+use Rattle.terminal.specs.Tests.{firstOf, startLines, hostLines, keyLines}
 
 -- A start call makes a fresh page, as ESC c does; it is given no state, and one that is refused hands back all zeros.
 abbrev pub unstarted : Page → Terminal

@@ -11,9 +11,9 @@ use Rattle.state.specs.declared.Size.{Size}
 use Rattle.state.specs.State.{freshState}
 use Rattle.steps.specs.Steps.{Terminal, Stepped}
 use Rattle.terminal.specs.declared.Reply.{Reply}
-use Rattle.terminal.specs.Runs.{after, sentBy, storedBy}
+use Rattle.terminal.specs.Runs.{after, bytesSentBy, cellsStoredBy}
 use Rattle.terminal.specs.Answers.{Outcome}
-use Rattle.terminal.specs.Table.{Line3, TableLine, Decides}
+use Rattle.terminal.specs.Lines.{Line3, TableLine, Decides}
 
 -- It is given n exactly when n's line holds and none before it does.
 abbrev pub NumberedBy : List TableLine → Outcome → Type 1
@@ -33,12 +33,12 @@ pub record Leaves (t : Terminal) (lent : List ℕ) (outcome : Outcome) : Type 0 
 -- What a call that did steps gives and leaves: the bytes taken, the steps' bytes and cells, and where they led.
 pub record Did (taken : ℕ) (t : Terminal) (lent : List ℕ) (steps : List Stepped) (outcome : Outcome) : Type 0 where
   pub bytes-taken : outcome .taken ≡ taken
-  pub sent : outcome .sent ≡ length (sentBy steps)
-  pub stored : outcome .stored ≡ length (storedBy steps)
+  pub sent : outcome .sent ≡ length (bytesSentBy steps)
+  pub stored : outcome .stored ≡ length (cellsStoredBy steps)
   pub terminal : outcome .terminal ≡ after t steps
-  pub output : outcome .output ≡ placed 0 (sentBy steps) lent
+  pub output : outcome .output ≡ placed 0 (bytesSentBy steps) lent
 
--- What a host call given 3 leaves: it did the steps before the one whose message exceeds the room left, and took their
+-- What a host call given 3 leaves: it did the steps before the one whose transmission exceeds the room left, and took their
 -- bytes only.
 abbrev pub StopsShort : Terminal → List ℕ → List Stepped → Outcome → Type 0
 StopsShort t lent steps outcome =

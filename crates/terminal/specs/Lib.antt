@@ -1,6 +1,6 @@
 pub mod Runs
 pub mod Answers
-pub mod Lines
+pub mod Tests
 pub mod Calls
-pub mod Table
+pub mod Lines
 pub mod Claims

@@ -1,60 +1,79 @@
--- The refusals of each call, as one ordered list of tests: the first that holds decides.
-use mathlib.Core.Bool.{Bool, not}
-use mathlib.Core.List.{List, [], _∷_}
-use Prim.Native.Nat.{ℕ}
-use lib.Dec.{ltb}
+-- Document 01, "Numbers a call gives back": each line as a proposition in the table's words, and the order of each call.
+-- Line 3 is about the steps of the call's bytes, or of its key: they are handed in.
+use mathlib.Core.Path.{_≡_}
+use mathlib.Core.Bool.{true, false}
+use mathlib.Core.List.{List, [], _∷_, _++_}
+use Prim.Native.Nat.{ℕ, _-_, _<_, _≤_}
 use lib.ListN.{length}
-use Rattle.words.specs.Choice.{if_then_else_, _and_}
-use Rattle.page.specs.Page.{Page, validPage}
+use Rattle.page.specs.Page.{Page}
 use Rattle.state.specs.declared.Size.{Size}
-use Rattle.state.specs.Validity.{sizeFits, validState}
-use Rattle.steps.specs.Steps.{Terminal, Stepped}
-use Rattle.steps.specs.Keys.{isKnown, isLockedOut, lacksCell, keyStep}
-use Rattle.terminal.specs.declared.Answer.{Answer}
-use Rattle.terminal.specs.declared.Answer.the-variants.{Done, WrongSize, WrongState, NoRoom, UnknownKey, Locked, TooLong, NoCell}
-use Rattle.terminal.specs.Runs.{stepsOf, fitting}
+use Rattle.state.specs.declared.State.{State}
+use Rattle.state.specs.Lines.{Line1, Line2}
+use Rattle.steps.specs.Steps.{Terminal, Stepped, bytesOf, cursorCell}
+use Rattle.steps.specs.Seen.{unprotectedAt, fieldsHere}
+use Rattle.terminal.specs.Runs.{bytesSentBy}
 
--- A line's test, and the answer that it gives.
-pub record LineTest : Type 0 where
-  pub holds : Bool
-  pub answer : Answer
+-- 3: a transmission is longer than the room that those before it left.
+pub record Line3 (room : ℕ) (steps : List Stepped) : Type 0 where
+  pub before : List Stepped
+  pub next : Stepped
+  pub later : List Stepped
+  pub are : steps ≡ before ++ (next ∷ later)
+  pub fit : length (bytesSentBy before) ≤ room
+  pub exceeds : room - length (bytesSentBy before) < length (bytesOf (next .transmission))
 
-infix 68 _answers_
-abbrev pub _answers_ : Bool → Answer → LineTest
-test answers answer = record { holds = test; answer = answer }
+-- 4: the key is none of 32 to 126 and 256 to 268.
+pub record Line4 (key : ℕ) : Type 0 where
+  pub no-character : 32 ≤ key → key ≤ 126 → ⊥
+  pub no-other-key : 256 ≤ key → key ≤ 268 → ⊥
 
-unfoldable pub firstOf : List LineTest → Answer
-firstOf [] = Done
-firstOf (line ∷ later) =
-    let further = firstOf later in
-    if line .holds then line .answer
-    else further
+-- 5: a lock is set, and the key is not 268.
+pub data Line5 (key : ℕ) (s : State) : Type 0 where
+  manual-lock : s .locks .manual ≡ true → (key ≡ 268 → ⊥) → Line5 key s
+  soft-lock : s .locks .soft ≡ true → (key ≡ 268 → ⊥) → Line5 key s
 
--- A step is left out, since its message exceeds the room left.
-unfoldable pub exceedsRoom : ℕ → List Stepped → Bool
-exceedsRoom room steps = ltb (length (fitting room steps)) (length steps)
+-- 6: more than 65,536 host bytes.
+abbrev pub Line6 : List ℕ → Type 0
+Line6 bytes = 65536 < length bytes
 
--- Line 2 is not given; line 1 is tested before.
-unfoldable pub passesLine2 : Terminal → Bool
-passesLine2 t = validState (t .state) and validPage (t .page)
+-- 7: nothing to write in, nowhere to go.
+pub data Line7 (key : ℕ) (t : Terminal) : Type 0 where
+  typed-on-protected : 32 ≤ key → key ≤ 126 → unprotectedAt t (cursorCell (t .state)) ≡ false → Line7 key t
+  edited-on-protected : 263 ≤ key → key ≤ 265 → unprotectedAt t (cursorCell (t .state)) ≡ false → Line7 key t
+  no-field : 260 ≤ key → key ≤ 261 → fieldsHere t ≡ [] → Line7 key t
 
-unfoldable pub startLines : Size → Page → List LineTest
-startLines size page = not (sizeFits size page) answers WrongSize ∷ []
+-- A line of the table: its number, and when it holds.
+pub record TableLine : Type 1 where
+  pub number : ℕ
+  pub Holds : Type 0
 
-unfoldable pub hostLines : Terminal → List ℕ → List ℕ → List LineTest
-hostLines t bytes output =
-    not (sizeFits (t .state .size) (t .page)) answers WrongSize
-    ∷ not (passesLine2 t) answers WrongState
-    ∷ ltb 65536 (length bytes) answers TooLong
-    ∷ exceedsRoom (length output) (stepsOf t bytes) answers NoRoom
+infix 68 _when_
+abbrev pub _when_ : ℕ → Type 0 → TableLine
+number when Holds = record { number = number; Holds = Holds }
+
+-- The number is that of the first line that holds, and 0 where none does.
+pub data Decides : List TableLine → ℕ → Type 1 where
+  none-holds : Decides [] 0
+  this-holds : (row : TableLine) (later : List TableLine) → row .Holds → Decides (row ∷ later) (row .number)
+  not-this : (row : TableLine) (later : List TableLine) (number : ℕ) → (row .Holds → ⊥) → Decides later number → Decides (row ∷ later) number
+
+abbrev pub startTable : Size → Page → List TableLine
+startTable size page = 1 when Line1 size page ∷ []
+
+abbrev pub hostTable : Terminal → List ℕ → ℕ → List Stepped → List TableLine
+hostTable t bytes room steps =
+    1 when Line1 (t .state .size) (t .page)
+    ∷ 2 when Line2 (t .state) (t .page)
+    ∷ 6 when Line6 bytes
+    ∷ 3 when Line3 room steps
     ∷ []
 
-unfoldable pub keyLines : Terminal → ℕ → List ℕ → List LineTest
-keyLines t key output =
-    not (sizeFits (t .state .size) (t .page)) answers WrongSize
-    ∷ not (passesLine2 t) answers WrongState
-    ∷ not (isKnown key) answers UnknownKey
-    ∷ isLockedOut key (t .state) answers Locked
-    ∷ lacksCell key t answers NoCell
-    ∷ exceedsRoom (length output) (keyStep key t ∷ []) answers NoRoom
+abbrev pub keyTable : Terminal → ℕ → ℕ → Stepped → List TableLine
+keyTable t key room step =
+    1 when Line1 (t .state .size) (t .page)
+    ∷ 2 when Line2 (t .state) (t .page)
+    ∷ 4 when Line4 key
+    ∷ 5 when Line5 key (t .state)
+    ∷ 7 when Line7 key t
+    ∷ 3 when Line3 room (step ∷ [])
     ∷ []

@@ -1,23 +1,23 @@
--- A call is the steps of its bytes, or of its key, as far as the output has room for their messages.
+-- A call is the steps of its bytes, or of its key, as far as the output has room for their transmissions.
 use mathlib.Core.List.{List, [], _∷_, _++_}
 use Prim.Native.Nat.{ℕ, _-_}
 use lib.Dec.{leb}
 use lib.ListN.{length}
 use Rattle.words.specs.Choice.{if_then_else_}
 use Rattle.steps.specs.Steps.{Terminal, Stepped, bytesOf}
-use Rattle.steps.specs.Host.{hostStep}
+use Rattle.commands.specs.Host.{hostStep}
 
 -- The steps of host bytes, each from the terminal that the one before left.
 unfoldable pub stepsOf : Terminal → List ℕ → List Stepped
 stepsOf t [] = []
 stepsOf t (byte ∷ later) = let step = hostStep byte t in step ∷ stepsOf (step .terminal) later
 
--- The steps up to the first whose message exceeds the room left, and without it.
+-- The steps up to the first whose transmission exceeds the room left, and without it.
 unfoldable pub fitting : ℕ → List Stepped → List Stepped
 fitting room [] = []
 fitting room (step ∷ later) =
-    let further = fitting (room - length (bytesOf (step .message))) later in
-    if leb (length (bytesOf (step .message))) room then step ∷ further
+    let further = fitting (room - length (bytesOf (step .transmission))) later in
+    if leb (length (bytesOf (step .transmission))) room then step ∷ further
     else []
 
 -- What steps leave of a terminal; their messages' bytes, joined in order; the cells that they name, joined in order.
@@ -25,10 +25,10 @@ unfoldable pub after : Terminal → List Stepped → Terminal
 after t [] = t
 after t (step ∷ later) = after (step .terminal) later
 
-unfoldable pub sentBy : List Stepped → List ℕ
-sentBy [] = []
-sentBy (step ∷ later) = bytesOf (step .message) ++ sentBy later
+unfoldable pub bytesSentBy : List Stepped → List ℕ
+bytesSentBy [] = []
+bytesSentBy (step ∷ later) = bytesOf (step .transmission) ++ bytesSentBy later
 
-unfoldable pub storedBy : List Stepped → List ℕ
-storedBy [] = []
-storedBy (step ∷ later) = step .cells ++ storedBy later
+unfoldable pub cellsStoredBy : List Stepped → List ℕ
+cellsStoredBy [] = []
+cellsStoredBy (step ∷ later) = step .cells ++ cellsStoredBy later

@@ -1,5 +1,6 @@
 // The three public entries of document 01: start, host, key. They ask nothing of what arrives.
 // What each gives and leaves is defined in specs/Calls.antt.
+use page::Mark;
 use state::Size;
 use state::State;
 ghost use mathlib.Core.Path.{_≡_};
@@ -9,9 +10,9 @@ ghost use Prim.Native.Nat.{ℕ, _≤_};
 ghost use lib.ListN.{length};
 ghost use Rattle.page.specs.Page.{Page, pageOf};
 ghost use Rattle.steps.specs.Steps.{Valid, terminalOf};
-ghost use Rattle.steps.specs.Keys.{isKnown, isLockedOut, lacksCell};
+ghost use Rattle.keys.specs.Keys.{isKnown, isLockedOut, lacksCell};
 ghost use Rattle.terminal.specs.Answers.{numberOf, given, unchanged};
-ghost use Rattle.terminal.specs.Lines.{passesLine2};
+ghost use Rattle.terminal.specs.Tests.{passesLine2};
 ghost use Rattle.terminal.specs.Calls.{StartAllows, HostAllows, KeyAllows};
 
 // Each has a number, and a line of document 01's table: `numberOf` and `gives` of specs/Answers.antt.
@@ -64,7 +65,7 @@ fn refuse_call(answer: Answer, state: State) -> Reply
     }
 }
 
-fn is_valid(state: State, characters: &[u8], marks: &[u8]) -> bool
+fn is_valid(state: State, characters: &[u8], marks: &[Mark]) -> bool
     ensures { λ r. ⌜ r ≡ passesLine2 (terminalOf state (now (characters .entry)) (now (marks .entry))) ⌝ }
 {
     if state.is_valid() {
@@ -73,8 +74,8 @@ fn is_valid(state: State, characters: &[u8], marks: &[u8]) -> bool
     false
 }
 
-// The steps of host bytes, stopping where a message exceeds the room left.
-fn run(state: State, characters: &mut [u8], marks: &mut [u8], bytes: &[u8], out: &mut [u8]) -> Reply
+// The steps of host bytes, stopping where a transmission exceeds the room left.
+fn run(state: State, characters: &mut [u8], marks: &mut [Mark], bytes: &[u8], out: &mut [u8]) -> Reply
     requires { ⌜ Valid (terminalOf state (now characters) (now marks)) ⌝ }
     requires { ⌜ length (now bytes) ≤ 65536 ⌝ }
     ensures { λ r. ⌜ HostAllows
@@ -111,7 +112,7 @@ fn run(state: State, characters: &mut [u8], marks: &mut [u8], bytes: &[u8], out:
 }
 
 // The step of a key that lines 1, 2, 4, 5 and 7 let pass.
-fn press(state: State, characters: &mut [u8], marks: &mut [u8], key: usize, out: &mut [u8]) -> Reply
+fn press(state: State, characters: &mut [u8], marks: &mut [Mark], key: usize, out: &mut [u8]) -> Reply
     requires { ⌜ Valid (terminalOf state (now characters) (now marks)) ⌝ }
     requires { ⌜ (isKnown key ≡ true) × (isLockedOut key state ≡ false) × (lacksCell key (terminalOf state (now characters) (now marks)) ≡ false) ⌝ }
     ensures { λ r. ⌜ KeyAllows
@@ -133,7 +134,7 @@ fn press(state: State, characters: &mut [u8], marks: &mut [u8], key: usize, out:
 }
 
 // A fresh page of so many rows and columns.
-pub fn start(rows: usize, columns: usize, characters: &mut [u8], marks: &mut [u8]) -> Reply
+pub fn start(rows: usize, columns: usize, characters: &mut [u8], marks: &mut [Mark]) -> Reply
     ensures { λ r. ⌜ StartAllows
         (record { rows = rows; columns = columns }) (pageOf (now (characters .entry)) (now (marks .entry)))
         r (pageOf (now (characters .exit)) (now (marks .exit))) [] ⌝ }
@@ -153,11 +154,11 @@ pub fn start(rows: usize, columns: usize, characters: &mut [u8], marks: &mut [u8
     }
 }
 
-// Host bytes, at most 65,536. Messages are written from the output's start on.
+// Host bytes, at most 65,536. Transmissions are written from the output's start on.
 pub fn host(
     state: State,
     characters: &mut [u8],
-    marks: &mut [u8],
+    marks: &mut [Mark],
     bytes: &[u8],
     out: &mut [u8],
 ) -> Reply
@@ -177,11 +178,11 @@ pub fn host(
     run(state, characters, marks, bytes, out)
 }
 
-// A key, by its number. Its message is written from the output's start on.
+// A key, by its number. Its transmission is written from the output's start on.
 pub fn key(
     state: State,
     characters: &mut [u8],
-    marks: &mut [u8],
+    marks: &mut [Mark],
     key: usize,
     out: &mut [u8],
 ) -> Reply

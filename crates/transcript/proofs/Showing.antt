@@ -8,7 +8,7 @@ use native.Mathlib.Omega.{arith}
 use lib.ListN.{length, take}
 use lib.Seq.{length-take-le}
 use Rattle.state.specs.declared.State.{State}
-use Rattle.state.specs.Validity.{listedSize, validState}
+use Rattle.state.specs.Tests.{listedSize, validState}
 use Rattle.state.proofs.Keeping.{on-page}
 use Rattle.drawing.specs.Drawing.{drawn, FiveDigitsEach}
 use Rattle.drawing.proofs.Lengths.{drawn-length}

@@ -3,6 +3,7 @@
 // here bytes are read, and the text of each call is written.
 use frames::Held;
 use libc::STDOUT_FILENO;
+use page::Mark;
 use state::State;
 ghost use mathlib.Core.Path.{_≡_};
 ghost use Prim.Native.Nat.{_≤_};
@@ -29,7 +30,7 @@ struct Reading {
 
 // The session's terminal, drawn as text; nothing without a session. The two tests give what `draw` asks for, and the state of
 // every session passes them.
-fn show(held: Held, characters: &[u8], marks: &[u8], text: &mut [u8])
+fn show(held: Held, characters: &[u8], marks: &[Mark], text: &mut [u8])
     requires { ⌜ (length (now characters) ≡ 7680) × (length (now marks) ≡ 7680) × (131087 ≤ length (now text)) ⌝ }
 {
     let state = held.state;
@@ -53,7 +54,7 @@ fn do_calls(
     line: &mut [u8],
     digits: usize,
     characters: &mut [u8],
-    marks: &mut [u8],
+    marks: &mut [Mark],
     out: &mut [u8],
     text: &mut [u8],
 ) -> Held
@@ -84,7 +85,7 @@ fn do_line(
     line: &mut [u8],
     digits: usize,
     characters: &mut [u8],
-    marks: &mut [u8],
+    marks: &mut [Mark],
     out: &mut [u8],
     text: &mut [u8],
     dumping: bool,
@@ -105,7 +106,7 @@ fn take_byte(
     byte: u8,
     line: &mut [u8],
     characters: &mut [u8],
-    marks: &mut [u8],
+    marks: &mut [Mark],
     out: &mut [u8],
     text: &mut [u8],
     dumping: bool,
@@ -132,7 +133,7 @@ fn take_bytes(
     bytes: &[u8],
     line: &mut [u8],
     characters: &mut [u8],
-    marks: &mut [u8],
+    marks: &mut [Mark],
     out: &mut [u8],
     text: &mut [u8],
     dumping: bool,
@@ -154,7 +155,7 @@ fn end_input(
     reading: Reading,
     line: &mut [u8],
     characters: &mut [u8],
-    marks: &mut [u8],
+    marks: &mut [Mark],
     out: &mut [u8],
     text: &mut [u8],
     dumping: bool,
@@ -173,7 +174,7 @@ fn read_all(
     input: &mut [u8],
     line: &mut [u8],
     characters: &mut [u8],
-    marks: &mut [u8],
+    marks: &mut [Mark],
     out: &mut [u8],
     text: &mut [u8],
     dumping: bool,

@@ -8,7 +8,7 @@ use borrow.Author.Tests.{eqb-false}
 use lib.ListN.{length, getD}
 use Rattle.words.proofs.Choosing.{true-is-not-false}
 use Rattle.words.specs.Lists.{eachFrom}
-use Rattle.page.specs.Page.{Page, pageOf, sentMark, modifiedCleared}
+use Rattle.page.specs.Page.{Page, pageOf, markAfterBlock, modifiedCleared}
 use Rattle.blocks.specs.Blocks.{block}
 use Rattle.state.specs.declared.Size.{Size}
 use Rattle.state.specs.State.{withLocks}
@@ -41,7 +41,7 @@ abbrev pub oneField : Terminal
 oneField = at 1 (sheet (0x41 ∷ 0x20 ∷ 0x20 ∷ 0x20 ∷ 0x20 ∷ []) (2 ∷ 1 ∷ 1 ∷ 1 ∷ 1 ∷ []))
 
 abbrev locked : Terminal
-locked = withState oneField (withLocks (oneField .state) false true 1)
+locked = withState oneField (withLocks (oneField .state) (record { manual = false; soft = true; message = 1 }))
 
 one-field-valid : Valid oneField
 unfolding validity
@@ -88,7 +88,7 @@ unfolding validity keySteps
 block-refused = key-no-room oneField 266 [] refl (valid-holds oneField one-field-valid) refl refl refl (omega (arith, ap length one-field-changed))
 
 pub clearsTagsRefused-breaks-refusals : Refusals ourRules clearsTagsRefused → ⊥
-unfolding tests numberOf unchanged modifiedCleared eachFrom sentMark
+unfolding tests numberOf unchanged modifiedCleared eachFrom markAfterBlock
 clearsTagsRefused-breaks-refusals kept =
     let left = (rw block-refused at (kept .of-key oneField 266 [])) (eqb-false 3 0 refl) .terminal in
     eqb-false 0 2 refl (ap (λ (t : Terminal). getD (t .page .marks) 0 0) left)

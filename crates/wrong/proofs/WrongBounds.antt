@@ -15,11 +15,11 @@ use Rattle.blocks.proofs.Claims.{blankForm, firstAndEven}
 use Rattle.blocks.proofs.Theorems.{longest-reached}
 use Rattle.state.specs.State.{freshState}
 use Rattle.steps.specs.Steps.{Terminal, Stepped, bytesOf, Valid}
-use Rattle.steps.specs.Host.{hostStep}
-use Rattle.terminal.specs.Runs.{sentBy}
+use Rattle.commands.specs.Host.{hostStep}
+use Rattle.terminal.specs.Runs.{bytesSentBy}
 use Rattle.terminal.specs.Answers.{Outcome}
 use Rattle.terminal.specs.Calls.{hostCall}
-use Rattle.terminal.specs.Table.{Line3, this-holds, not-this}
+use Rattle.terminal.specs.Lines.{Line3, this-holds, not-this}
 use Rattle.promises.specs.Rules.{ourRules, press, byteSteps}
 use Rattle.promises.specs.Further.{changed-by-266, Progress, SendsBlocks, Bounded}
 use Rattle.wrong.specs.Entries.{stopsAtOnce, hidesSentOn3}
@@ -82,8 +82,8 @@ firstThree = take 3 (byteSteps ourRules manyFields twice)
 abbrev afterThree : Terminal
 afterThree = hostStep 0x1B (hostStep 0x53 (hostStep 0x1B manyFields .terminal) .terminal) .terminal
 
-first-sent : length (sentBy firstThree) ≡ 35185
-unfolding hostSteps streams sentBy
+first-sent : length (bytesSentBy firstThree) ≡ 35185
+unfolding hostSteps streams bytesSentBy
 first-sent = ap (length {A = ℕ}) (append-nil (block true 160 (manyFields .page))) ∙ longest-reached
 
 -- A block has one byte at least.
@@ -92,7 +92,7 @@ unfolding encode
 some-bytes [] = omega arith
 some-bytes (entry ∷ later) = omega (arith, some-bytes later, length-append (entryBytes entry) (encode later))
 
-next-sends : 0 < length (bytesOf (hostStep 0x53 afterThree .message))
+next-sends : 0 < length (bytesOf (hostStep 0x53 afterThree .transmission))
 unfolding hostSteps block
 next-sends = some-bytes _
 

@@ -10,8 +10,8 @@ use Rattle.words.specs.Output.{placed}
 use Rattle.words.proofs.Choosing.{then-case}
 use Rattle.blocks.specs.Blocks.{block}
 use Rattle.blocks.specs.Finding.{blocksIn}
-use Rattle.steps.specs.Steps.{Terminal, Message, fullBlock, changedBlock, sends}
-use Rattle.terminal.specs.Runs.{stepsOf, sentBy}
+use Rattle.steps.specs.Steps.{Terminal, Transmission, fullBlock, changedBlock, sends}
+use Rattle.terminal.specs.Runs.{stepsOf, bytesSentBy}
 use Rattle.terminal.specs.Answers.{Outcome, bytesSent}
 use Rattle.terminal.specs.Calls.{hostCall}
 use Rattle.terminal.proofs.Cases.{host-did}
@@ -38,8 +38,8 @@ abbrev keyCalls : ℕ → List Call
 keyCalls character = keyPress 267 room ∷ keyPress character [] ∷ keyPress 266 room ∷ []
 
 -- A key call that sends a block and leaves the terminal.
-abbrev sending : Message → Terminal → ℕ → Outcome
-sending message t key = keyCallBy (λ _ _. sends message (t .state) (t .page)) t key room
+abbrev sending : Transmission → Terminal → ℕ → Outcome
+sending transmission t key = keyCallBy (λ _ _. sends transmission (t .state) (t .page)) t key room
 
 full-sent : sending (fullBlock firstBlock) start 267 ≡ sending (fullBlock (fieldBlock 0x42)) start 267
 full-sent = ap (λ (bytes : List ℕ). sending (fullBlock bytes) start 267) (full-block-is 0x42)
@@ -91,15 +91,15 @@ sendTwice = 0x1B ∷ 0x53 ∷ 0x58 ∷ 0x1B ∷ 0x53 ∷ []
 abbrev twoRooms : List ℕ
 twoRooms = replicate 20 0
 
-steps-send : sentBy (stepsOf start sendTwice) ≡ fieldBlock 0x42 ++ fieldBlock 0x58
-unfolding hostSteps stepsOf sentBy
+steps-send : bytesSentBy (stepsOf start sendTwice) ≡ fieldBlock 0x42 ++ fieldBlock 0x58
+unfolding hostSteps stepsOf bytesSentBy
 steps-send = λ i. full-block-is 0x42 i ++ (full-block-is 0x58 i ++ [])
 
 -- Sent backwards, the one with X comes first.
 sent-backwards : sendsBackwards .host start sendTwice twoRooms ≡ record { number = 0; taken = 5; sent = 20; stored = 1; terminal = after 0x58 clear; output = fieldBlock 0x58 ++ fieldBlock 0x42 }
 unfolding hostSteps calls
 sent-backwards =
-    ap (λ (o : Outcome). showing (placed 0 (sentBy (reverse (stepsOf start (take (o .taken) sendTwice)))) twoRooms) o) (host-did start sendTwice twoRooms B-valid (omega arith) (omega (arith, ap length steps-send)))
+    ap (λ (o : Outcome). showing (placed 0 (bytesSentBy (reverse (stepsOf start (take (o .taken) sendTwice)))) twoRooms) o) (host-did start sendTwice twoRooms B-valid (omega arith) (omega (arith, ap length steps-send)))
     ∙ (λ i. record { number = 0; taken = 5; sent = length (steps-send i); stored = 1; terminal = after 0x58 clear; output = placed 0 (full-block-is 0x58 i ++ (full-block-is 0x42 i ++ [])) twoRooms })
 
 pub sendsBackwards-breaks-copying : Copying blocksIn ourRules sendsBackwards → ⊥
@@ -122,8 +122,8 @@ bothRooms = replicate 16 0
 abbrev reportBytes : List ℕ
 reportBytes = 0x1B ∷ 0x5B ∷ 0x31 ∷ 0x3B ∷ 0x32 ∷ 0x52 ∷ []
 
-both-send : sentBy (stepsOf start askAndSend) ≡ reportBytes ++ fieldBlock 0x42
-unfolding hostSteps stepsOf sentBy
+both-send : bytesSentBy (stepsOf start askAndSend) ≡ reportBytes ++ fieldBlock 0x42
+unfolding hostSteps stepsOf bytesSentBy
 both-send = λ i. reportBytes ++ (full-block-is 0x42 i ++ [])
 
 both-sent : hostCall start askAndSend bothRooms ≡ record { number = 0; taken = 6; sent = 16; stored = 0; terminal = start; output = reportBytes ++ fieldBlock 0x42 }

@@ -108,7 +108,7 @@ neverTags-breaks-copying-steps kept =
 abbrev threeCells : Field
 threeCells = record { start = 0; length = 3 }
 
-pub field-listed : (marks : List ℕ) → length marks ≡ 5 → fieldsFrom (unprotected (marks ++ replicate 1915 1)) 80 1920 5 0 ≡ threeCells ∷ [] → List·Memᴰ threeCells (fieldsOf (unprotected (marks ++ replicate 1915 1)) 80 (length (marks ++ replicate 1915 1)))
+pub field-listed : (marks : List ℕ) → length marks ≡ 5 → fieldsFrom (unprotected (marks ++ replicate 1915 1)) 80 1920 0 5 ≡ threeCells ∷ [] → List·Memᴰ threeCells (fieldsOf (unprotected (marks ++ replicate 1915 1)) 80 (length (marks ++ replicate 1915 1)))
 field-listed marks five is = subst (List·Memᴰ threeCells) (sym (sheet-fields marks five ∙ is)) (List·Memᴰ·head refl)
 
 pub wrongly-omitted : (marks changed : List ℕ) → List·Memᴰ threeCells (fieldsHere (after 0x42 marks)) → changed ≡ emptyBlock → OmitsExactly (changedBlock changed) (after 0x42 marks) (1 ∷ []) → ⊥

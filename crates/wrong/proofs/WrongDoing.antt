@@ -8,7 +8,7 @@ use Rattle.page.specs.Page.{Page, pageOf}
 use Rattle.state.specs.declared.Size.{Size}
 use Rattle.state.specs.declared.State.{State}
 use Rattle.steps.specs.Steps.{Terminal}
-use Rattle.steps.specs.Commands.{freshStep}
+use Rattle.commands.specs.Commands.{freshStep}
 use Rattle.terminal.specs.Calls.{startStep}
 use Rattle.promises.specs.Rules.{ourRules}
 use Rattle.promises.specs.Demands.{Follows}

@@ -9,13 +9,13 @@ use Rattle.words.specs.Output.{placed}
 use Rattle.sequence.specs.Record.{nothingRead}
 use Rattle.page.specs.Page.{Page, pageOf, typed, blanked, partStored, modifiedCleared}
 use Rattle.state.specs.declared.Size.{Size}
-use Rattle.state.specs.State.{withCursor, withLocks, withHalf}
+use Rattle.state.specs.State.{withCursor, cursorAt, withLocks, withHalf}
 use Rattle.steps.specs.Steps.{Terminal, Stepped, withState, stores, cursorCell, rowStart}
-use Rattle.steps.specs.Host.{hostStep}
-use Rattle.steps.specs.Keys.{isTyping, isEditing, isLocked, cellsFrom, keyStep}
+use Rattle.commands.specs.Host.{hostStep}
+use Rattle.keys.specs.Keys.{isTyping, isEditing, isLocked, cellsFrom, keyStep}
 use Rattle.terminal.specs.declared.Answer.the-variants.{Done, NoRoom, Locked, TooLong}
-use Rattle.terminal.specs.Runs.{stepsOf, sentBy}
-use Rattle.terminal.specs.Answers.{Outcome, unchanged, did}
+use Rattle.terminal.specs.Runs.{stepsOf, bytesSentBy}
+use Rattle.terminal.specs.Answers.{Outcome, unchanged, afterSteps}
 use Rattle.terminal.specs.Calls.{startCall, hostCall, keyCall}
 use Rattle.promises.specs.Entries.{Entries}
 
@@ -175,7 +175,7 @@ rowBlanked t =
 abbrev pub blanksRow : Entries
 blanksRow = withKey (λ t key output.
     let outcome = keyCall t key output in
-    if eqb key 263 and eqb (outcome .number) 0 then did Done 0 t output (rowBlanked t ∷ [])
+    if eqb key 263 and eqb (outcome .number) 0 then afterSteps Done 0 t output (rowBlanked t ∷ [])
     else outcome)
 
 -- A typed character is stored on a protected cell too.
@@ -184,21 +184,21 @@ typesOnProtected = withKey (λ t key output.
     let outcome = keyCall t key output in
     let cell = cursorCell (t .state) in
     if isTyping key and eqb (outcome .number) 7 then
-    did Done 0 t output (stores (cell ∷ []) false (t .state) (typed cell key (t .page)) ∷ [])
+    afterSteps Done 0 t output (stores (cell ∷ []) false (t .state) (typed cell key (t .page)) ∷ [])
     else outcome)
 
 -- Validity. A host call leaves the cursor in row 0.
 abbrev pub leavesRow0 : Entries
 leavesRow0 = changingHost (λ o.
     let s = o .terminal .state in
-    leaving (withState (o .terminal) (withCursor s 0 (s .cursor .column))) o)
+    leaving (withState (o .terminal) (withCursor s (cursorAt 0 (s .cursor .column)))) o)
 
 -- A key sets message 2.
 abbrev pub setsMessage2 : Entries
 setsMessage2 = withKey (λ t key output.
     let outcome = keyCall t key output in
     let s = outcome .terminal .state in
-    leaving (withState (outcome .terminal) (withLocks s (s .locks .manual) (s .locks .soft) 2)) outcome)
+    leaving (withState (outcome .terminal) (withLocks s (record { manual = s .locks .manual; soft = s .locks .soft; message = 2 }))) outcome)
 
 -- Continuing. A call given 3 tells of no cells stored, though commands before it were done.
 abbrev pub forgetsCountOn3 : Entries
@@ -220,8 +220,8 @@ hidesSentOn3 = changingHost (on3 (λ o. outcomeWith (o .number) (o .taken) 0 (o 
 abbrev pub inventsCount : Entries
 inventsCount = changingHost (λ o. counting (o .stored + 1) o)
 
--- The messages of a host call, the last one first.
+-- The transmissions of a host call, the last one first.
 abbrev pub sendsBackwards : Entries
 sendsBackwards = withHost (λ t bytes output.
     let outcome = hostCall t bytes output in
-    showing (placed 0 (sentBy (reverse (stepsOf t (take (outcome .taken) bytes)))) output) outcome)
+    showing (placed 0 (bytesSentBy (reverse (stepsOf t (take (outcome .taken) bytes)))) output) outcome)

@@ -11,15 +11,15 @@ use Rattle.page.specs.Marks.{isProtected, withoutModified}
 use Rattle.page.specs.Page.{Page, pageOf}
 use Rattle.fields.specs.Fields.{Field}
 use Rattle.blocks.specs.Blocks.{encode}
-use Rattle.steps.specs.Steps.{Terminal, Message, silent, report, fullBlock, changedBlock, Stepped, stores, sends}
+use Rattle.steps.specs.Steps.{Terminal, Transmission, silent, report, fullBlock, changedBlock, Stepped, stores, sends}
 use Rattle.steps.specs.Steps.{cursorCell}
 use Rattle.steps.specs.Seen.{characterAt, modifiedAt, fieldsHere, entryHere, blockHere}
-use Rattle.steps.specs.Host.{hostStep}
-use Rattle.steps.specs.Keys.{isTyping, keyStep}
+use Rattle.commands.specs.Host.{hostStep}
+use Rattle.keys.specs.Keys.{isTyping, keyStep}
 use Rattle.terminal.specs.declared.Answer.the-variants.{NoRoom}
 use Rattle.terminal.specs.Runs.{fitting}
 use Rattle.terminal.specs.Answers.{Outcome, gives}
-use Rattle.terminal.specs.Lines.{_answers_, firstOf, exceedsRoom, keyLines}
+use Rattle.terminal.specs.Tests.{_answers_, firstOf, exceedsRoom, keyLines}
 use Rattle.promises.specs.Rules.{Rules}
 use Rattle.promises.specs.Entries.{Entries}
 use Rattle.wrong.specs.Entries.{withKey, withPage, withTagsCleared}
@@ -41,14 +41,14 @@ keyCallBy onKey t key output =
 abbrev pub keysBy : Rules → Entries
 keysBy rules = withKey (keyCallBy (rules .onKey))
 
--- Another message for 266 or 267.
-abbrev sendingOn : ℕ → (Terminal → Message) → Rules
-sendingOn sendKey message = withOnKey (λ key t.
-    if eqb key sendKey then sends (message t) (t .state) (withTagsCleared t .page)
+-- Another transmission for 266 or 267.
+abbrev sendingOn : ℕ → (Terminal → Transmission) → Rules
+sendingOn sendKey transmission = withOnKey (λ key t.
+    if eqb key sendKey then sends (transmission t) (t .state) (withTagsCleared t .page)
     else keyStep key t)
 
 -- Blocks keep. What a step that sends a block leaves of the page, changed.
-unfoldable pub isBlock : Message → Bool
+unfoldable pub isBlock : Transmission → Bool
 isBlock silent = false
 isBlock (report bytes) = false
 isBlock (fullBlock bytes) = true
@@ -56,10 +56,10 @@ isBlock (changedBlock bytes) = true
 
 abbrev pageAfterBlock : (Page → Page) → Stepped → Stepped
 pageAfterBlock change step =
-    if isBlock (step .message) then
+    if isBlock (step .transmission) then
     record {
       terminal = withPage (change (step .terminal .page)) (step .terminal);
-      message = step .message;
+      transmission = step .transmission;
       cells = step .cells;
       wasRefused = step .wasRefused;
       protection = step .protection;

@@ -10,7 +10,7 @@ use Rattle.blocks.proofs.has_modified.Tie as tie
 
 -- no cell before `cell` is modified
 abbrev Inv-loop : tie.InvT-loop
-Inv-loop marks from to cell₀ cell = (cell ≤ to) × (to ≤ length marks) × (someModified marks (to - from) from ≡ someModified marks (to - cell) cell)
+Inv-loop marks from to cell₀ cell = (cell ≤ to) × (to ≤ length marks) × (someModified marks from (to - from) ≡ someModified marks cell (to - cell))
 
 abbrev μ-loop : tie.MeasureT-loop
 μ-loop marks from to cell₀ cell = to - cell

@@ -21,15 +21,15 @@ returns c =
     let none = sym (c .before .starts-field .ensures) ∙ not-true _ (c .if1 .taken) in
     (λ characters same. sym (ap (length {A = ℕ}) (unstarted _ _ (pageOf characters (start .args .marks .now)) _ (start .pre .0 .right) none)), omega arith)
 
-is-sent-requires : tie.Need-is-sent-requires
-is-sent-requires c κs =
+is-in-block-requires : tie.Need-is-in-block-requires
+is-in-block-requires c κs =
     let start = c .before .before .before .before in
     omega (arith, end-bounds (unprotected (start .args .marks .now)) (start .args .columns) (length (start .args .marks .now)) (start .args .place .cell) (start .pre .1 .0))
 
 returns-2 : tie.Need-returns-2
 returns-2 c =
     let start = c .before .before .before .before .before .before in
-    let none = sym (c .before .is-sent .ensures) ∙ not-true _ (c .if2 .taken) in
+    let none = sym (c .before .is-in-block .ensures) ∙ not-true _ (c .if2 .taken) in
     (λ characters same. sym (ap (length {A = ℕ}) (unsent _ _ (pageOf characters (start .args .marks .now)) _ (start .pre .0 .right) _ (c .before .before .field-end .ensures) none)), omega arith)
 
 sub-result : tie.Need-sub-result
@@ -55,7 +55,7 @@ returns-3 c =
     let marks = start .args .marks .now in
     let bounds = end-bounds (unprotected marks) (start .args .columns) (length marks) (place .cell) (start .pre .1 .0) in
     let starts = sym (c .before .before .before .before .before .before .starts-field .ensures) ∙ not-false _ (c .before .before .before .before .before .if1 .left) in
-    let sent = sym (c .before .before .before .is-sent .ensures) ∙ not-false _ (c .before .before .if2 .left) in
+    let sent = sym (c .before .before .before .is-in-block .ensures) ∙ not-false _ (c .before .before .if2 .left) in
     let head = c .before .place-length .ensures in (
       λ characters same.
           omega (arith, head .0, place-long (place .row) (place .column) 0, place-long (place .row) (place .column) 0x66, sent-length _ _ (pageOf characters marks) _ (start .pre .0 .right) _ (c .before .before .before .before .field-end .ensures) (start .pre .1 .0) same starts sent),
@@ -69,7 +69,7 @@ length-at-spec =
     starts-field-requires
     returns
     (λ c κs. search needs)
-    is-sent-requires
+    is-in-block-requires
     returns-2
     (λ c κs. search needs)
     sub-result

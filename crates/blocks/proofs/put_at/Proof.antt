@@ -22,15 +22,15 @@ returns c =
     let none = sym (c .before .starts-field .ensures) ∙ not-true _ (c .if1 .taken) in
     rw (unstarted _ _ (pageOf (start .args .characters .now) (start .args .marks .now)) _ (start .pre .0 .right) none) (wrote-none _ _)
 
-is-sent-requires : tie.Need-is-sent-requires
-is-sent-requires c κs =
+is-in-block-requires : tie.Need-is-in-block-requires
+is-in-block-requires c κs =
     let start = c .before .before .before .before .before .before in
     omega (arith, end-bounds (unprotected (start .args .marks .now)) (start .args .columns) (length (start .args .marks .now)) (start .args .place .cell) (start .pre .1 .0 .1))
 
 returns-2 : tie.Need-returns-2
 returns-2 c =
     let start = c .before .before .before .before .before .before .before .before in
-    let none = sym (c .before .is-sent .ensures) ∙ not-true _ (c .if2 .taken) in
+    let none = sym (c .before .is-in-block .ensures) ∙ not-true _ (c .if2 .taken) in
     rw (unsent _ _ (pageOf (start .args .characters .now) (start .args .marks .now)) _ (start .pre .0 .right) _ (c .before .before .field-end .ensures) none) (wrote-none _ _)
 
 put-place-requires : tie.Need-put-place-requires
@@ -39,7 +39,7 @@ put-place-requires c κs =
     let place = start .args .place in
     let marks = start .args .marks .now in
     let starts = sym (c .before .before .before .before .before .starts-field .ensures) ∙ not-false _ (c .before .before .before .before .if1 .left) in
-    let sent = sym (c .before .before .is-sent .ensures) ∙ not-false _ (c .before .if2 .left) in
+    let sent = sym (c .before .before .is-in-block .ensures) ∙ not-false _ (c .before .if2 .left) in
     let size = sent-length (start .args .full) _ (pageOf (start .args .characters .now) marks) _ (start .pre .0 .right) _ (c .before .before .before .field-end .ensures) (start .pre .1 .0 .1) (start .pre .1 .0 .3) starts sent in
     omega (arith, on-rows 48 (start .pre .0) (omega arith))
 
@@ -49,7 +49,7 @@ put-characters-requires c κs =
     let place = start .args .place in
     let marks = start .args .marks .now in
     let starts = sym (c .before .before .before .before .before .before .before .before .before .starts-field .ensures) ∙ not-false _ (c .before .before .before .before .before .before .before .before .if1 .left) in
-    let sent = sym (c .before .before .before .before .before .before .is-sent .ensures) ∙ not-false _ (c .before .before .before .before .before .if2 .left) in
+    let sent = sym (c .before .before .before .before .before .before .is-in-block .ensures) ∙ not-false _ (c .before .before .before .before .before .if2 .left) in
     let size = sent-length (start .args .full) _ (pageOf (start .args .characters .now) marks) _ (start .pre .0 .right) _ (c .before .before .before .before .before .before .before .field-end .ensures) (start .pre .1 .0 .1) (start .pre .1 .0 .3) starts sent in
     let bounds = end-bounds (unprotected marks) (start .args .columns) (length marks) (place .cell) (start .pre .1 .0 .1) in
     omega arith
@@ -60,7 +60,7 @@ returns-3 c =
     let place = start .args .place in
     let marks = start .args .marks .now in
     let starts = sym (c .before .before .before .before .before .before .before .before .before .before .before .before .starts-field .ensures) ∙ not-false _ (c .before .before .before .before .before .before .before .before .before .before .before .if1 .left) in
-    let sent = sym (c .before .before .before .before .before .before .before .before .before .is-sent .ensures) ∙ not-false _ (c .before .before .before .before .before .before .before .before .if2 .left) in
+    let sent = sym (c .before .before .before .before .before .before .before .before .before .is-in-block .ensures) ∙ not-false _ (c .before .before .before .before .before .before .before .before .if2 .left) in
     let room : start .args .at ≤ length (start .args .out .now) = omega arith in
     rw (sent-is (start .args .full) _ (pageOf (start .args .characters .now) marks) _ (start .pre .0 .right) _ (c .before .before .before .before .before .before .before .before .before .before .field-end .ensures) starts sent)
     (wrote-then room (c .before .before .before .before .before .before .put-place .ensures) (c .before .before .put-characters .ensures))
@@ -72,7 +72,7 @@ put-at-spec =
     starts-field-requires
     returns
     (λ c κs. search needs)
-    is-sent-requires
+    is-in-block-requires
     returns-2
     put-place-requires
     put-characters-requires

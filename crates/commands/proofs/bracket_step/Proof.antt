@@ -6,7 +6,7 @@ use Rattle.steps.specs.Steps.{Terminal, bytesOf}
 use Rattle.steps.proofs.Measuring.{measured}
 use Rattle.steps.proofs.Writing.{told-silent}
 use Rattle.commands.proofs.Silent.{move-silent, tab-silent, erase-silent, rendition-silent, mode-silent}
-use Rattle.commands.proofs.Finals.{too-many, not-too-many, final-W, final-J, final-K, final-m, final-h, final-l, final-n}
+use Rattle.commands.proofs.Finals.{too-many, not-too-many, final-move, final-W, final-J, final-K, final-m, final-h, final-l, final-n}
 use Rattle.commands.proofs.bracket_step.Statement.{statement}
 use Rattle.commands.proofs.bracket_step.Tie as tie
 
@@ -25,7 +25,7 @@ returns-2 c =
     let half = start .args .before .half in
     let passed = not-too-many (start .args .letter) half t _ (c .before .before .before .before .most-arguments .ensures) (c .before .before .before .if1 .left) in
     let move = sym (c .before .before .is-move .ensures) ∙ c .before .if2 .taken in
-    rw passed (told-silent _ _ _ _ _ _ (c .move-command .ensures (t .page) (half .count)) (move-silent _ _ _ t move))
+    rw (passed ∙ final-move _ _ _ t move) (told-silent _ _ _ _ _ _ (c .move-command .ensures (t .page)) (move-silent _ _ t))
 
 returns-3 : tie.Need-returns-3
 returns-3 c =

@@ -1,7 +1,7 @@
 use borrow.Author.Needs.{needs}
 use borrow.Author.Tests.{ne-eqb}
 use Rattle.words.specs.Choice.{if_then_else_}
-use Rattle.steps.specs.Commands.{controlStep}
+use Rattle.commands.specs.Text.{controlStep}
 use Rattle.steps.proofs.Measuring.{measured}
 use Rattle.commands.proofs.control.Statement.{statement}
 use Rattle.commands.proofs.control.Tie as tie

@@ -1,7 +1,7 @@
 use mathlib.Core.Path.{sym}
 use borrow.Author.Needs.{needs}
 use Rattle.page.specs.Page.{pageOf, cellsErased}
-use Rattle.steps.specs.Commands.{erasing}
+use Rattle.commands.specs.Commands.{erasing}
 use Rattle.commands.proofs.erase_cells.Statement.{statement}
 use Rattle.commands.proofs.erase_cells.Tie as tie
 

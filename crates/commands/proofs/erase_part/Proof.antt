@@ -3,7 +3,7 @@ use borrow.Author.Needs.{needs}
 use borrow.Author.Tests.{ne-eqb}
 use Rattle.words.specs.Choice.{if_then_else_}
 use Rattle.places.proofs.Counting.{cell-is}
-use Rattle.steps.specs.Commands.{erasePart}
+use Rattle.commands.specs.Commands.{erasePart}
 use Rattle.steps.proofs.Measuring.{measured}
 use Rattle.commands.proofs.erase_part.Statement.{statement}
 use Rattle.commands.proofs.erase_part.Tie as tie

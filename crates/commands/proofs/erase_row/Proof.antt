@@ -5,7 +5,7 @@ use borrow.Author.Needs.{needs}
 use Rattle.page.specs.Page.{pageOf}
 use Rattle.places.proofs.Counting.{cell-is}
 use Rattle.steps.specs.Told.{tells}
-use Rattle.steps.specs.Commands.{erasePart}
+use Rattle.commands.specs.Commands.{erasePart}
 use Rattle.steps.proofs.Soundness.{row-on-page}
 use Rattle.steps.proofs.Measuring.{measured}
 use Rattle.commands.proofs.erase_row.Statement.{statement}

@@ -1,7 +1,7 @@
 use borrow.Author.Needs.{needs}
 use borrow.Author.Tests.{ne-eqb}
 use Rattle.words.specs.Choice.{if_then_else_}
-use Rattle.steps.specs.Commands.{escStep}
+use Rattle.commands.specs.Commands.{escStep}
 use Rattle.steps.proofs.Writing.{told-silent}
 use Rattle.commands.proofs.Silent.{esc-silent}
 use Rattle.commands.proofs.esc_step.Statement.{statement}

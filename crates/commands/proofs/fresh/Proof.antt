@@ -2,7 +2,7 @@ use native.Mathlib.Omega.{arith}
 use borrow.Author.Needs.{needs}
 use Rattle.page.specs.Page.{pageOf}
 use Rattle.steps.specs.Steps.{allCells}
-use Rattle.steps.specs.Commands.{freshStep}
+use Rattle.commands.specs.Commands.{freshStep}
 use Rattle.steps.proofs.Measuring.{measured}
 use Rattle.commands.proofs.Laws.{all-cells-count, erased-is-fresh}
 use Rattle.commands.proofs.fresh.Statement.{statement}

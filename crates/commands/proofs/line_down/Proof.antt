@@ -4,7 +4,7 @@ use Rattle.words.specs.Choice.{if_then_else_}
 use Rattle.words.proofs.Choosing.{tests}
 use Rattle.page.specs.Page.{pageOf}
 use Rattle.steps.specs.Steps.{allCells}
-use Rattle.steps.specs.Commands.{lineDown}
+use Rattle.commands.specs.Text.{lineDown}
 use Rattle.steps.proofs.Measuring.{measured}
 use Rattle.commands.proofs.Laws.{all-cells-count}
 use Rattle.commands.proofs.line_down.Statement.{statement}

@@ -1,7 +1,8 @@
 use borrow.Author.Needs.{needs}
 use borrow.Author.Tests.{ne-eqb}
 use Rattle.words.specs.Choice.{if_then_else_}
-use Rattle.steps.specs.Commands.{escStep, nextLine}
+use Rattle.commands.specs.Commands.{escStep}
+use Rattle.commands.specs.Text.{nextLine}
 use Rattle.steps.proofs.Measuring.{measured}
 use Rattle.commands.proofs.Laws.{margin-valid}
 use Rattle.commands.proofs.silent_esc_step.Statement.{statement}

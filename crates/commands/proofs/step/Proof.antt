@@ -5,7 +5,7 @@ use Rattle.sequence.proofs.Events.{Tells}
 use Rattle.sequence.proofs.Keeping.{eight-at-most}
 use Rattle.state.proofs.Keeping.{parts}
 use Rattle.steps.specs.Steps.{Terminal, bytesOf}
-use Rattle.steps.specs.Host.{eventStep}
+use Rattle.commands.specs.Host.{eventStep}
 use Rattle.steps.proofs.Writing.{told-silent}
 use Rattle.commands.proofs.Silent.{text-silent, control-silent}
 use Rattle.commands.proofs.Stepping.{next-valid, host-is, tells-of}

@@ -4,7 +4,7 @@ use native.Mathlib.Omega.{arith}
 use borrow.Author.Needs.{needs}
 use Rattle.places.proofs.Counting.{cell-is}
 use Rattle.steps.specs.Steps.{cursorCell}
-use Rattle.steps.specs.Commands.{textStep}
+use Rattle.commands.specs.Text.{textStep}
 use Rattle.steps.proofs.Measuring.{measured}
 use Rattle.commands.proofs.text.Statement.{statement}
 use Rattle.commands.proofs.text.Tie as tie

@@ -7,7 +7,7 @@ returns : tie.Need-returns
 unfolding figuresOf
 returns c =
     let soft = c .before .before .before .before in
-    rw (c .before .flag-of4 .ensures, soft .flag-of3 .ensures, soft .before .flag-of2 .ensures, soft .before .before .flag-of .ensures)
+    rw (c .before .flag-number4 .ensures, soft .flag-number3 .ensures, soft .before .flag-number2 .ensures, soft .before .before .flag-number .ensures)
 
 pub figures-of-spec : {M : Type 1} → statement M
 figures-of-spec =

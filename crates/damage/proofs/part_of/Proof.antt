@@ -19,5 +19,5 @@ part-of-spec =
     (λ c. search tests)
     (λ c. search needs)
     (λ c κs. search needs)
-    (λ c. rw (c .flag-of .ensures) (search tests))
+    (λ c. rw (c .flag-number .ensures) (search tests))
     (λ c. search tests))

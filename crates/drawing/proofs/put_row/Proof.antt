@@ -3,7 +3,7 @@ use native.Mathlib.Omega.{arith}
 use borrow.Author.Needs.{needs}
 use lib.ListN.{length}
 use Rattle.words.proofs.Output.{wrote-then}
-use Rattle.figures.proofs.Digits.{hex-length}
+use Rattle.numerals.proofs.Digits.{hex-length}
 use Rattle.drawing.proofs.Lines.{hex-line, character-line}
 use Rattle.drawing.proofs.Lengths.{hex-line-length, character-line-length}
 use Rattle.drawing.proofs.put_row.Statement.{statement}

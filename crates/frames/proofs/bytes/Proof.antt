@@ -9,8 +9,8 @@ use lib.Seq.{length-take-le}
 use Rattle.words.specs.Output.{Wrote}
 use Rattle.words.proofs.Choosing.{both}
 use Rattle.words.proofs.Output.{wrote-none}
-use Rattle.figures.specs.Hexadecimal.{isHexadecimal}
-use Rattle.figures.proofs.Digits.{pairs-most}
+use Rattle.numerals.specs.Hexadecimal.{isHexadecimal}
+use Rattle.numerals.proofs.Digits.{pairs-most}
 use Rattle.frames.proofs.Lines.{line-too-long, not-hexadecimal, is-hexadecimal}
 use Rattle.frames.proofs.bytes.Statement.{statement}
 use Rattle.frames.proofs.bytes.Tie as tie

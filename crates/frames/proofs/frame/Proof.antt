@@ -6,7 +6,7 @@ use borrow.Author.Needs.{needs}
 use lib.ListN.{length, take}
 use lib.Seq.{length-take-le}
 use Rattle.words.proofs.Output.{placed-before}
-use Rattle.figures.specs.Hexadecimal.{bytesIn}
+use Rattle.numerals.specs.Hexadecimal.{bytesIn}
 use Rattle.frames.specs.Frames.{frameIn, frameOf}
 use Rattle.frames.specs.Held.{lineIn, kindOf}
 use Rattle.frames.proofs.Lending.{wrote-inside}

@@ -4,7 +4,7 @@ use native.Mathlib.Omega.{arith}
 use borrow.Author.Needs.{needs}
 use lib.ListN.{length}
 use Rattle.words.proofs.Output.{wrote-then}
-use Rattle.figures.proofs.Digits.{hex-length}
+use Rattle.numerals.proofs.Digits.{hex-length}
 use Rattle.frames.specs.Printing.{lineOf}
 use Rattle.frames.proofs.print_refusal.Statement.{statement}
 use Rattle.frames.proofs.print_refusal.Tie as tie

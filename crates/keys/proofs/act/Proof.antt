@@ -1,7 +1,7 @@
 use borrow.Author.Needs.{needs}
 use borrow.Author.Tests.{ne-eqb}
 use Rattle.words.specs.Choice.{if_then_else_, _and_, _is_to_}
-use Rattle.steps.specs.Keys.{isTyping, keyStep}
+use Rattle.keys.specs.Keys.{isTyping, keyStep}
 use Rattle.steps.proofs.Measuring.{measured}
 use Rattle.keys.proofs.act.Statement.{statement}
 use Rattle.keys.proofs.act.Tie as tie

@@ -5,7 +5,8 @@ use Rattle.page.specs.Page.{pageOf}
 use Rattle.places.specs.Places.{placeOf}
 use Rattle.places.proofs.Counting.{cell-is}
 use Rattle.steps.specs.Steps.{Terminal}
-use Rattle.steps.specs.Keys.{goneTo, cellsFrom, startHere, endHere, fieldBlanked}
+use Rattle.keys.specs.Keys.{goneTo, cellsFrom, fieldBlanked}
+use Rattle.steps.specs.Seen.{startHere, endHere}
 use Rattle.steps.proofs.Measuring.{measured}
 use Rattle.keys.proofs.Laws.{found, is-free, stays, run-counted, starts-before, start-is, rest-on-page, end-is}
 use Rattle.keys.proofs.blank_field.Statement.{statement}

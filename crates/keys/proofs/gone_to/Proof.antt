@@ -1,5 +1,5 @@
 use borrow.Author.Needs.{needs}
-use Rattle.steps.specs.Keys.{goneTo}
+use Rattle.keys.specs.Keys.{goneTo}
 use Rattle.keys.proofs.gone_to.Statement.{statement}
 use Rattle.keys.proofs.gone_to.Tie as tie
 

@@ -1,6 +1,6 @@
 use Rattle.words.specs.Choice.{_is_to_}
 use Rattle.words.proofs.Choosing.{tests}
-use Rattle.steps.specs.Keys.{isEditing}
+use Rattle.keys.specs.Keys.{isEditing}
 use Rattle.keys.proofs.is_editing.Statement.{statement}
 use Rattle.keys.proofs.is_editing.Tie as tie
 

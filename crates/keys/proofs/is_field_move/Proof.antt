@@ -1,6 +1,6 @@
 use Rattle.words.specs.Choice.{_is_to_}
 use Rattle.words.proofs.Choosing.{tests}
-use Rattle.steps.specs.Keys.{isFieldMove}
+use Rattle.keys.specs.Keys.{isFieldMove}
 use Rattle.keys.proofs.is_field_move.Statement.{statement}
 use Rattle.keys.proofs.is_field_move.Tie as tie
 

@@ -2,7 +2,7 @@ use mathlib.Core.Path.{sym, _∙_}
 use borrow.Author.Needs.{needs}
 use Rattle.words.specs.Choice.{_is_to_, _or_}
 use Rattle.words.proofs.Choosing.{tests}
-use Rattle.steps.specs.Keys.{isKnown}
+use Rattle.keys.specs.Keys.{isKnown}
 use Rattle.keys.proofs.is_known.Statement.{statement}
 use Rattle.keys.proofs.is_known.Tie as tie
 

@@ -1,5 +1,5 @@
 use Rattle.words.specs.Choice.{_or_}
-use Rattle.steps.specs.Keys.{isLocked}
+use Rattle.keys.specs.Keys.{isLocked}
 use Rattle.keys.proofs.is_locked.Statement.{statement}
 use Rattle.keys.proofs.is_locked.Tie as tie
 

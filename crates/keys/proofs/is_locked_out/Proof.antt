@@ -1,7 +1,7 @@
 use mathlib.Core.Path.{sym, _∙_}
 use borrow.Author.Needs.{needs}
 use Rattle.words.specs.Choice.{_and_}
-use Rattle.steps.specs.Keys.{isLockedOut}
+use Rattle.keys.specs.Keys.{isLockedOut}
 use Rattle.keys.proofs.is_locked_out.Statement.{statement}
 use Rattle.keys.proofs.is_locked_out.Tie as tie
 

@@ -1,6 +1,6 @@
 use Rattle.words.specs.Choice.{_is_to_}
 use Rattle.words.proofs.Choosing.{tests}
-use Rattle.steps.specs.Keys.{isTyping}
+use Rattle.keys.specs.Keys.{isTyping}
 use Rattle.keys.proofs.is_typing.Statement.{statement}
 use Rattle.keys.proofs.is_typing.Tie as tie
 

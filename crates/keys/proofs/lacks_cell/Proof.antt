@@ -1,7 +1,7 @@
 use mathlib.Core.Path.{sym, _∙_}
 use borrow.Author.Needs.{needs}
 use Rattle.words.specs.Choice.{if_then_else_, _or_}
-use Rattle.steps.specs.Keys.{lacksCell}
+use Rattle.keys.specs.Keys.{lacksCell}
 use Rattle.steps.proofs.Measuring.{measured}
 use Rattle.keys.proofs.Laws.{found, asked}
 use Rattle.keys.proofs.lacks_cell.Statement.{statement}

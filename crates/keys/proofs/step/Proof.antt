@@ -4,7 +4,7 @@ use borrow.Author.Needs.{needs}
 use Rattle.words.specs.Choice.{if_then_else_, _and_, _is_to_}
 use Rattle.page.specs.Page.{pageOf}
 use Rattle.steps.specs.Steps.{Terminal}
-use Rattle.steps.specs.Keys.{isTyping, keyStep}
+use Rattle.keys.specs.Keys.{isTyping, keyStep}
 use Rattle.keys.proofs.Silent.{typing-range, key-told, typing-told}
 use Rattle.keys.proofs.step.Statement.{statement}
 use Rattle.keys.proofs.step.Tie as tie

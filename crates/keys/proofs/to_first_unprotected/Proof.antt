@@ -4,7 +4,7 @@ use native.Mathlib.Omega.{arith}
 use borrow.Author.Needs.{needs}
 use Rattle.places.proofs.Counting.{place-is}
 use Rattle.fields.specs.Searches.{orElse}
-use Rattle.steps.specs.Keys.{goneTo, toFirstUnprotected}
+use Rattle.keys.specs.Keys.{goneTo, toFirstUnprotected}
 use Rattle.steps.proofs.Measuring.{measured}
 use Rattle.keys.proofs.to_first_unprotected.Statement.{statement}
 use Rattle.keys.proofs.to_first_unprotected.Tie as tie

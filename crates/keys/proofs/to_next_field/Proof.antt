@@ -1,6 +1,6 @@
 use borrow.Author.Needs.{needs}
 use Rattle.places.proofs.Counting.{cell-is}
-use Rattle.steps.specs.Keys.{toNextField}
+use Rattle.keys.specs.Keys.{toNextField}
 use Rattle.steps.proofs.Measuring.{measured}
 use Rattle.keys.proofs.Laws.{found}
 use Rattle.keys.proofs.to_next_field.Statement.{statement}

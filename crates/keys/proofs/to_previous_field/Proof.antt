@@ -1,6 +1,6 @@
 use borrow.Author.Needs.{needs}
 use Rattle.places.proofs.Counting.{cell-is}
-use Rattle.steps.specs.Keys.{toPreviousField}
+use Rattle.keys.specs.Keys.{toPreviousField}
 use Rattle.steps.proofs.Measuring.{measured}
 use Rattle.keys.proofs.Laws.{found}
 use Rattle.keys.proofs.to_previous_field.Statement.{statement}

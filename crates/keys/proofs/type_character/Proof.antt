@@ -4,7 +4,7 @@ use native.Mathlib.Omega.{arith}
 use borrow.Author.Needs.{needs}
 use Rattle.words.specs.Choice.{if_then_else_}
 use Rattle.steps.specs.Steps.{cursorCell}
-use Rattle.steps.specs.Keys.{typedStep}
+use Rattle.keys.specs.Keys.{typedStep}
 use Rattle.steps.proofs.Measuring.{measured}
 use Rattle.keys.proofs.Laws.{found, is-free, stays}
 use Rattle.keys.proofs.type_character.Statement.{statement}

@@ -4,7 +4,7 @@ use native.Mathlib.Omega.{arith}
 use borrow.Author.Needs.{needs}
 use lib.ListN.{length}
 use Rattle.words.proofs.Writing.{upTo, length-each, next-changed, all-written}
-use Rattle.page.specs.Page.{sentMark, modifiedCleared}
+use Rattle.page.specs.Page.{markAfterBlock, modifiedCleared}
 use Rattle.page.proofs.clear_modified.Statement.{statement}
 use Rattle.page.proofs.clear_modified.Tie as tie
 
@@ -26,7 +26,7 @@ loop-again c =
       search needs,
       stored .set-mark .ensures
           ∙ next-changed _ _ _ _ (turn .loop .inv .2) here _
-          (stored .before .sent-mark .ensures ∙ ap sentMark (stored .before .before .before .mark-at .ensures)),
+          (stored .before .mark-after-block .ensures ∙ ap markAfterBlock (stored .before .before .before .mark-at .ensures)),
     )
 
 returns : tie.Need-returns Inv-loop μ-loop

@@ -9,7 +9,7 @@ use Rattle.output.specs.Decimal.{placeBytes}
 use Rattle.output.proofs.Digits.{place-long}
 use Rattle.steps.specs.Steps.{bytesOf}
 use Rattle.steps.specs.Told.{told}
-use Rattle.steps.specs.Commands.{cursorReport}
+use Rattle.sending.specs.Sending.{cursorReport}
 use Rattle.steps.proofs.Writing.{no-room, with-room}
 use Rattle.sending.proofs.cursor_report.Statement.{statement}
 use Rattle.sending.proofs.cursor_report.Tie as tie
@@ -42,7 +42,7 @@ returns-2 c =
     let counted = place-long (cursor .row) (cursor .column) 0 in
     let size : c .before .before .before .before .before .before .place-length .result ≡ length (placeBytes (cursor .row) (cursor .column) 0x52) = omega (arith, c .before .before .before .before .before .before .place-length .ensures .0) in
     let enough : length (placeBytes (cursor .row) (cursor .column) 0x52) ≤ length (c .before .before .before .before .before .before .before .before .args .out .now) - c .before .before .before .before .before .before .before .before .args .at = omega arith in
-    (λ i. record { told = told (c .sent .ensures i) page; output = c .before .before .before .put-place .ensures .left i })
+    (λ i. record { told = told (c .did-send .ensures i) page; output = c .before .before .before .put-place .ensures .left i })
     ∙ (λ i. record { told = told (record { state = c .before .before .before .before .before .before .before .before .args .state; stored = 0; sent = size i; refused = false; protection = false; exceeds = false }) page; output = placed (c .before .before .before .before .before .before .before .before .args .at) (placeBytes (cursor .row) (cursor .column) 0x52) (c .before .before .before .before .before .before .before .before .args .out .now) })
     ∙ sym (with-room _ _ _ _ enough)
 

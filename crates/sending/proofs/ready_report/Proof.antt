@@ -2,7 +2,7 @@ use mathlib.Core.Path.{sym, _∙_}
 use borrow.Author.Needs.{needs}
 use Rattle.steps.specs.Steps.{bytesOf}
 use Rattle.steps.specs.Told.{told}
-use Rattle.steps.specs.Commands.{readyReport}
+use Rattle.sending.specs.Sending.{readyReport}
 use Rattle.steps.proofs.Writing.{no-room, with-room}
 use Rattle.sending.proofs.ready_report.Statement.{statement}
 use Rattle.sending.proofs.ready_report.Tie as tie
@@ -15,7 +15,7 @@ returns-2 : tie.Need-returns-2
 unfolding readyReport bytesOf
 returns-2 c =
     λ page.
-    (λ i. record { told = told (c .sent .ensures i) page; output = c .before .before .before .put-ready .ensures .left i })
+    (λ i. record { told = told (c .did-send .ensures i) page; output = c .before .before .before .put-ready .ensures .left i })
     ∙ sym (with-room _ _ _ _ (c .before .before .before .before .before .if1 .left))
 
 pub ready-report-spec : {M : Type 1} → statement M

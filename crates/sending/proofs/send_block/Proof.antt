@@ -10,8 +10,8 @@ use Rattle.sending.proofs.Laws.{toldOf, told-of}
 use Rattle.sending.proofs.send_block.Statement.{statement}
 use Rattle.sending.proofs.send_block.Tie as tie
 
-send-block-requires : tie.Need-send-block-requires
-send-block-requires c κs =
+write-block-requires : tie.Need-write-block-requires
+write-block-requires c κs =
     let start = c .before .before .before .before .before in
     let size = start .args .state .size in
     let page = pageOf (start .args .characters .now) (start .args .marks .now) in
@@ -24,11 +24,11 @@ returns : tie.Need-returns
 returns c =
     let start = c .before .before .before .before .before .before .before .before .before .before .before .before .before .before in
     let page = pageOf (start .args .characters .now) (start .args .marks .now) in
-    let block = c .before .before .before .before .before .before .before .before .send-block in
+    let block = c .before .before .before .before .before .before .before .before .write-block in
     let marks = block .last .1 .1 .1 .0 in
     let out = block .last .0 in
     let answer = sym (c .before .before .answer .given .1) in
-    (λ i. record { told = told (c .sent .ensures i) (pageOf (page .characters) marks); output = out })
+    (λ i. record { told = told (c .did-send .ensures i) (pageOf (page .characters) marks); output = out })
     ∙ (λ i. record { told = toldOf (start .args .state) (start .args .before) (page .characters) (answer i) marks; output = out })
     ∙ told-of (start .args .full) (start .args .state) (start .args .before) page (start .args .at) (start .args .out .now) _ _ _ (block .ensures)
 
@@ -36,7 +36,7 @@ returns-2 : tie.Need-returns-2
 returns-2 c =
     let start = c .before .before .before .before .before .before .before .before .before .before .before .before .before in
     let page = pageOf (start .args .characters .now) (start .args .marks .now) in
-    let block = c .before .before .before .before .before .before .before .send-block in
+    let block = c .before .before .before .before .before .before .before .write-block in
     let marks = block .last .1 .1 .1 .0 in
     let out = block .last .0 in
     let answer = sym (c .before .enum-told .given .1) in
@@ -48,7 +48,7 @@ pub send-block-spec : {M : Type 1} → statement M
 send-block-spec =
     tie.close
     (tie.spec
-    send-block-requires
+    write-block-requires
     (λ c. search needs)
     (λ c κs. search needs)
     (λ c. search needs)

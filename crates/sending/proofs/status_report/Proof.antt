@@ -3,7 +3,7 @@ use borrow.Author.Needs.{needs}
 use borrow.Author.Tests.{eq-eqb, ne-eqb}
 use Rattle.words.proofs.Choosing.{then-case, else-case}
 use Rattle.steps.specs.Steps.{bytesOf}
-use Rattle.steps.specs.Commands.{statusReport}
+use Rattle.sending.specs.Sending.{statusReport}
 use Rattle.steps.proofs.Writing.{told-silent}
 use Rattle.sending.proofs.status_report.Statement.{statement}
 use Rattle.sending.proofs.status_report.Tie as tie

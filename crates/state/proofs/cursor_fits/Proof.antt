@@ -1,6 +1,6 @@
 use Rattle.words.specs.Choice.{_is_to_}
 use Rattle.words.proofs.Choosing.{tests}
-use Rattle.state.specs.Validity.{cursorFits}
+use Rattle.state.specs.Tests.{cursorFits}
 use Rattle.state.proofs.cursor_fits.Statement.{statement}
 use Rattle.state.proofs.cursor_fits.Tie as tie
 

@@ -1,6 +1,6 @@
 use borrow.Author.Tests.{ne-eqb}
 use Rattle.words.specs.Choice.{_or_}
-use Rattle.state.specs.Validity.{listedColumns}
+use Rattle.state.specs.Tests.{listedColumns}
 use Rattle.state.proofs.is_listed_columns.Statement.{statement}
 use Rattle.state.proofs.is_listed_columns.Tie as tie
 

@@ -1,6 +1,6 @@
 use borrow.Author.Tests.{ne-eqb}
 use Rattle.words.specs.Choice.{_or_}
-use Rattle.state.specs.Validity.{listedRows}
+use Rattle.state.specs.Tests.{listedRows}
 use Rattle.state.proofs.is_listed_rows.Statement.{statement}
 use Rattle.state.proofs.is_listed_rows.Tie as tie
 

@@ -10,7 +10,7 @@ use Rattle.state.proofs.stop_right.Tie as tie
 
 -- the next stop to the right of the column asked for is the next to the right of `at`
 abbrev Inv-loop : tie.InvT-loop
-Inv-loop last column stops at₀ at = (at ≤ last) × (length stops ≡ 160) × (stopRight stops (last - column) column ≡ stopRight stops (last - at) at)
+Inv-loop last column stops at₀ at = (at ≤ last) × (length stops ≡ 160) × (stopRight stops column (last - column) ≡ stopRight stops at (last - at))
 
 abbrev μ-loop : tie.MeasureT-loop
 μ-loop last column stops at₀ at = last - at

@@ -3,7 +3,7 @@ use Prim.Native.Nat.{_≤_, _<_, _-_}
 use native.Mathlib.Omega.{arith}
 use borrow.Author.Needs.{needs}
 use lib.ListN.{length}
-use Rattle.state.specs.Validity.{stopsFit}
+use Rattle.state.specs.Tests.{stopsFit}
 use Rattle.state.proofs.Laws.{no-stop-next, stop-next, no-stops-left}
 use Rattle.state.proofs.stops_fit.Statement.{statement}
 use Rattle.state.proofs.stops_fit.Tie as tie

@@ -1,7 +1,7 @@
 use mathlib.Core.Path.{sym, _∙_}
 use borrow.Author.Needs.{needs}
 use Rattle.words.proofs.Choosing.{first-decides, first-fails}
-use Rattle.terminal.specs.Lines.{passesLine2}
+use Rattle.terminal.specs.Tests.{passesLine2}
 use Rattle.terminal.proofs.is_valid.Statement.{statement}
 use Rattle.terminal.proofs.is_valid.Tie as tie
 

@@ -5,7 +5,7 @@ use borrow.Author.Needs.{needs}
 use lib.ListN.{length}
 use Rattle.page.specs.Page.{pageOf}
 use Rattle.steps.specs.Steps.{Terminal, bytesOf}
-use Rattle.steps.specs.Keys.{keyStep}
+use Rattle.keys.specs.Keys.{keyStep}
 use Rattle.terminal.specs.declared.Answer.the-variants.{Done, NoRoom}
 use Rattle.terminal.specs.Answers.{numberOf, unchanged}
 use Rattle.terminal.proofs.Deciding.{valid-holds, key-no-room, key-done}
@@ -20,7 +20,7 @@ returns c =
     let t : Terminal = record { state = start .args .state; page = pageOf (start .args .characters .now) (start .args .marks .now) } in
     let passed = start .pre .1 in
     let full = exceeded 0 (start .args .out .now) t _ (did .step .result) _ _ (did .step .ensures) (c .before .if1 .taken) in
-    let exceeds : length (start .args .out .now) < length (bytesOf (keyStep (start .args .key) t .message)) = omega (arith, full .exceeds) in
+    let exceeds : length (start .args .out .now) < length (bytesOf (keyStep (start .args .key) t .transmission)) = omega (arith, full .exceeds) in
     c .refuse-call .ensures _ _
     ∙ (λ i. unchanged NoRoom (record { state = start .args .state; page = full .same-page i }) (full .same-output i))
     ∙ sym (key-no-room t (start .args .key) (start .args .out .now) (start .pre .0 .size) (valid-holds t (start .pre .0)) (passed .0) (passed .1) (passed .2) exceeds)
@@ -32,7 +32,7 @@ returns-2 c =
     let t : Terminal = record { state = start .args .state; page = pageOf (start .args .characters .now) (start .args .marks .now) } in
     let passed = start .pre .1 in
     let was = was-done 0 (start .args .out .now) t (keyStep (start .args .key) t) (did .step .result) _ _ (did .step .ensures) (c .before .if1 .left) in
-    let fits : length (bytesOf (keyStep (start .args .key) t .message)) ≤ length (start .args .out .now) = omega (arith, was .fits) in
+    let fits : length (bytesOf (keyStep (start .args .key) t .transmission)) ≤ length (start .args .out .now) = omega (arith, was .fits) in
     (λ i. record {
       number = numberOf Done;
       taken = 0;

@@ -4,7 +4,7 @@ use native.Mathlib.Omega.{arith}
 use borrow.Author.Needs.{needs}
 use borrow.Author.Tests.{eq-eqb, ne-eqb, not-true, not-false}
 use Rattle.words.proofs.Choosing.{first-decides, first-fails}
-use Rattle.state.specs.Validity.{sizeFits}
+use Rattle.state.specs.Tests.{sizeFits}
 use Rattle.state.proofs.Keeping.{size-bounds}
 use Rattle.state.proofs.Size.fits.Statement.{statement}
 use Rattle.state.proofs.Size.fits.Tie as tie

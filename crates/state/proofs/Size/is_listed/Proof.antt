@@ -1,7 +1,7 @@
 use mathlib.Core.Path.{sym, _∙_}
 use borrow.Author.Needs.{needs}
 use Rattle.words.proofs.Choosing.{first-decides, first-fails}
-use Rattle.state.specs.Validity.{listedSize}
+use Rattle.state.specs.Tests.{listedSize}
 use Rattle.state.proofs.Size.is_listed.Statement.{statement}
 use Rattle.state.proofs.Size.is_listed.Tie as tie
 

@@ -2,7 +2,7 @@ use mathlib.Core.Path.{sym, _∙_}
 use borrow.Author.Needs.{needs}
 use borrow.Author.Tests.{le-leb, lt-leb, not-true, not-false}
 use Rattle.words.proofs.Choosing.{first-decides, first-fails}
-use Rattle.state.specs.Validity.{validState}
+use Rattle.state.specs.Tests.{validState}
 use Rattle.state.proofs.State.is_valid.Statement.{statement}
 use Rattle.state.proofs.State.is_valid.Tie as tie
 

@@ -1,0 +1,37 @@
+-- Document 01, "Reading host bytes": what text and control bytes do. ECMA-48 names stand beside them.
+use mathlib.Core.Bool.{true}
+use mathlib.Core.List.{[], _∷_}
+use Prim.Native.Nat.{ℕ}
+use lib.Dec.{ltb, eqb}
+use Rattle.words.specs.Choice.{if_then_else_}
+use Rattle.page.specs.Page.{textStored, scrolledUp, scrolledDown}
+use Rattle.state.specs.Moves.{upBy, downBy, leftBy, toMargin, toNextCell}
+use Rattle.state.specs.Tabs.{tabbedOn}
+use Rattle.steps.specs.Steps.{Terminal, Stepped, withState, goesTo, stores, cursorCell, allCells}
+
+-- Text: the cursor's cell takes the character and the pen's marks, and the cursor goes on, round the page.
+unfoldable pub textStep : ℕ → Terminal → Stepped
+textStep character t =
+    stores (cursorCell (t .state) ∷ []) true (toNextCell (t .state)) (textStored (cursorCell (t .state)) character (t .state .modes .pen) (t .page))
+
+-- IND and 0A: down one, at the last row a scroll up. RI: up one, at the first row a scroll down. NEL: as IND, with column 1.
+unfoldable pub lineDown : Terminal → Stepped
+lineDown t =
+    if ltb (t .state .cursor .row) (t .state .size .rows) then goesTo (downBy 1 (t .state)) t
+    else stores (allCells (t .page)) true (t .state) (scrolledUp (t .state .size .columns) (t .page))
+
+unfoldable pub lineUp : Terminal → Stepped
+lineUp t =
+    if ltb 1 (t .state .cursor .row) then goesTo (upBy 1 (t .state)) t
+    else stores (allCells (t .page)) true (t .state) (scrolledDown (t .state .size .columns) (t .page))
+
+unfoldable pub nextLine : Terminal → Stepped
+nextLine t = lineDown (withState t (toMargin (t .state)))
+
+-- The control bytes that act: BS, HT, LF, CR.
+unfoldable pub controlStep : ℕ → Terminal → Stepped
+controlStep byte t =
+    if eqb byte 0x08 then goesTo (leftBy 1 (t .state)) t
+    else if eqb byte 0x09 then goesTo (tabbedOn 1 (t .state)) t
+    else if eqb byte 0x0A then lineDown t
+    else goesTo (toMargin (t .state)) t

@@ -1,0 +1,132 @@
+// Figures as text: bytes in hexadecimal, read and written, and numbers of five digits. For the programs that a person runs.
+// Every function that writes does so into a lent text from a place on, and gives the place after.
+ghost use mathlib.Core.Path.{_≡_};
+ghost use mathlib.Core.Bool.{true};
+ghost use Prim.Native.Nat.{_+_, _*_, _<_, _≤_};
+ghost use lib.ListN.{length, take};
+ghost use Rattle.words.specs.Lists.{every};
+ghost use Rattle.words.specs.Output.{Wrote};
+ghost use Rattle.numerals.specs.Hexadecimal.{isDigit, digitValue, digitOf, hexByte, hexOf, pairsOf, isHexadecimal};
+ghost use Rattle.numerals.specs.Figures.{fiveDigits};
+
+fn is_digit(byte: u8) -> bool
+    ensures { λ r. ⌜ r ≡ isDigit byte ⌝ }
+{
+    if byte < 0x30 {
+        return false;
+    }
+    if byte <= 0x39 {
+        return true;
+    }
+    if byte < 0x41 {
+        return false;
+    }
+    if byte <= 0x46 {
+        return true;
+    }
+    false
+}
+
+fn value_of(digit: u8) -> u8
+    requires { ⌜ isDigit digit ≡ true ⌝ }
+    ensures { λ r. ⌜ (r ≡ digitValue digit) × (r ≤ 15) ⌝ }
+{
+    if digit <= 0x39 {
+        return digit - 0x30;
+    }
+    digit - 0x37
+}
+
+fn digit_of(value: u8) -> u8
+    requires { ⌜ value < 16 ⌝ }
+    ensures { λ r. ⌜ r ≡ digitOf value ⌝ }
+{
+    if value < 10 {
+        return 0x30 + value;
+    }
+    0x37 + value
+}
+
+pub fn is_hexadecimal(text: &[u8]) -> bool
+    ensures { λ r. ⌜ r ≡ isHexadecimal (now (text .entry)) ⌝ }
+{
+    if text.len() % 2 != 0 {
+        return false;
+    }
+    let mut i = 0;
+    while i < text.len() {
+        if !is_digit(text[i]) {
+            return false;
+        }
+        i += 1;
+    }
+    true
+}
+
+// Two digits become a byte, in place: it never stands past the digits still to be read.
+pub fn decode(text: &mut [u8], digits: usize) -> usize
+    requires { ⌜ digits ≤ length (now text) ⌝ }
+    requires { ⌜ every isDigit (take digits (now text)) ≡ true ⌝ }
+    ensures { λ r. ⌜ Wrote 0 (pairsOf (take digits (now (text .entry)))) (now (text .entry)) r (now (text .exit)) ⌝ }
+{
+    let mut count = 0;
+    let mut i = 0;
+    while i + 1 < digits {
+        let high = value_of(text[i]);
+        let low = value_of(text[i + 1]);
+        text[count] = high * 16 + low;
+        count += 1;
+        i += 2;
+    }
+    count
+}
+
+pub fn put_hex_byte(text: &mut [u8], at: usize, byte: u8) -> usize
+    requires { ⌜ at + 2 ≤ length (now text) ⌝ }
+    ensures { λ r. ⌜ Wrote at (hexByte byte) (now (text .entry)) r (now (text .exit)) ⌝ }
+{
+    let high = digit_of(byte / 16);
+    let low = digit_of(byte % 16);
+    let next = output::put_byte(text, at, high);
+    output::put_byte(text, next, low)
+}
+
+// Two digits for each byte.
+pub fn put_hex(text: &mut [u8], at: usize, bytes: &[u8]) -> usize
+    requires { ⌜ at + 2 * length (now bytes) ≤ length (now text) ⌝ }
+    ensures { λ r. ⌜ Wrote at (hexOf (now (bytes .entry))) (now (text .entry)) r (now (text .exit)) ⌝ }
+{
+    let mut next = at;
+    let mut i = 0;
+    while i < bytes.len() {
+        next = put_hex_byte(text, next, bytes[i]);
+        i += 1;
+    }
+    next
+}
+
+// The bytes as they are.
+pub fn put_all(text: &mut [u8], at: usize, bytes: &[u8]) -> usize
+    requires { ⌜ at + length (now bytes) ≤ length (now text) ⌝ }
+    ensures { λ r. ⌜ Wrote at (now (bytes .entry)) (now (text .entry)) r (now (text .exit)) ⌝ }
+{
+    let mut next = at;
+    let mut i = 0;
+    while i < bytes.len() {
+        next = output::put_byte(text, next, bytes[i]);
+        i += 1;
+    }
+    next
+}
+
+// With leading zeros: the first digit, then twice two.
+pub fn put_five(text: &mut [u8], at: usize, number: usize) -> usize
+    requires { ⌜ (number < 100000) × (at + 5 ≤ length (now text)) ⌝ }
+    ensures { λ r. ⌜ Wrote at (fiveDigits number) (now (text .entry)) r (now (text .exit)) ⌝ }
+{
+    let high = output::count_off(number, 10000);
+    let low = output::count_off(high.left, 100);
+    let thousands = output::put_digit(text, at, high.times);
+    let tens = output::put_two_digits(text, thousands, low.times);
+    output::put_two_digits(text, tens, low.left)
+}

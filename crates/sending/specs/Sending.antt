@@ -1,0 +1,32 @@
+-- Document 01, "Commands" and "Fields, keys and blocks": what sends, reports and blocks.
+use mathlib.Core.Bool.{Bool}
+use mathlib.Core.List.{List, [], _∷_}
+use Prim.Native.Nat.{ℕ}
+use lib.Dec.{eqb}
+use Rattle.words.specs.Choice.{if_then_else_}
+use Rattle.page.specs.Page.{pageOf, modifiedCleared}
+use Rattle.output.specs.Decimal.{placeBytes}
+use Rattle.steps.specs.Steps.{Terminal, report, blockTransmission, Stepped, sends, refusing}
+use Rattle.steps.specs.Seen.{blockHere}
+
+-- DSR: 5 gives ESC [ 0 n, 6 gives CPR, ESC [ row ; column R.
+abbrev pub readyBytes : List ℕ
+readyBytes = 0x1B ∷ 0x5B ∷ 0x30 ∷ 0x6E ∷ []
+
+unfoldable pub readyReport : Terminal → Stepped
+readyReport t = sends (report readyBytes) (t .state) (t .page)
+
+unfoldable pub cursorReport : Terminal → Stepped
+cursorReport t = sends (report (placeBytes (t .state .cursor .row) (t .state .cursor .column) 0x52)) (t .state) (t .page)
+
+unfoldable pub statusReport : ℕ → Terminal → Stepped
+statusReport what t =
+    if eqb what 5 then readyReport t
+    else if eqb what 6 then cursorReport t
+    else refusing t
+
+-- A block is sent, full or changed; sending clears modified. ESC S sends a full one.
+unfoldable pub sendBlock : Bool → Terminal → Stepped
+sendBlock full t =
+    sends (blockTransmission full (blockHere full t)) (t .state)
+    (pageOf (t .page .characters) (modifiedCleared (t .page .marks)))

@@ -1,0 +1,58 @@
+-- Document 01, "Commands": the commands of the table that only move the cursor.
+use mathlib.Core.Bool.{Bool}
+use mathlib.Core.List.{List}
+use Prim.Native.Nat.{ℕ}
+use lib.Dec.{ltb, leb, eqb}
+use lib.ListN.{getD}
+use Rattle.words.specs.Choice.{if_then_else_, _and_, _or_}
+use Rattle.state.specs.State.{withCursor, cursorAt}
+use Rattle.state.specs.Moves.{upBy, downBy, rightBy, leftBy, toMargin}
+use Rattle.state.specs.Tabs.{tabbedOn, tabbedBack}
+use Rattle.steps.specs.Steps.{Terminal, Stepped, goesTo, refusing}
+use Rattle.table.specs.Table.{valueOf}
+
+-- CHA (source 001, lines 2258 to 2260): past C it is ignored. VPA (lines 2262 to 2268): past R it is refused.
+unfoldable pub toColumn : ℕ → Terminal → Stepped
+toColumn column t =
+    if leb column (t .state .size .columns) then goesTo (withCursor (t .state) (cursorAt (t .state .cursor .row) column)) t
+    else goesTo (t .state) t
+
+unfoldable pub toRow : ℕ → Terminal → Stepped
+toRow row t =
+    if leb row (t .state .size .rows) then goesTo (withCursor (t .state) (cursorAt row (t .state .cursor .column))) t
+    else refusing t
+
+-- CUP, and HVP (lines 2270 to 2278): past the page refused.
+unfoldable pub toPlace : ℕ → ℕ → Terminal → Stepped
+toPlace row column t =
+    if leb row (t .state .size .rows) and leb column (t .state .size .columns) then goesTo (withCursor (t .state) (cursorAt row column)) t
+    else refusing t
+
+-- HVP's column. `row` and `given` are the arguments as read, `column` is `given` with 0 as 1, `present` the cursor's: an omitted
+-- column keeps it, if a row is given.
+unfoldable pub keptColumn : ℕ → ℕ → ℕ → ℕ → ℕ
+keptColumn row given column present =
+    if eqb given 0 and ltb 0 row then present
+    else column
+
+-- Their finals: A to I, Z, d and f.
+unfoldable pub isMove : ℕ → Bool
+isMove final = (leb 0x41 final and leb final 0x49) or eqb final 0x5A or eqb final 0x64 or eqb final 0x66
+
+-- After ESC [, the moves by final byte: the last line is Z.
+unfoldable pub moveStep : ℕ → List ℕ → Terminal → Stepped
+moveStep final arguments t =
+    let first = valueOf final arguments 0 in
+    let second = valueOf final arguments 1 in
+    if eqb final 0x41 then goesTo (upBy first (t .state)) t  -- A
+    else if eqb final 0x42 then goesTo (downBy first (t .state)) t  -- B
+    else if eqb final 0x43 then goesTo (rightBy first (t .state)) t  -- C
+    else if eqb final 0x44 then goesTo (leftBy first (t .state)) t  -- D
+    else if eqb final 0x45 then goesTo (toMargin (downBy first (t .state))) t  -- E
+    else if eqb final 0x46 then goesTo (toMargin (upBy first (t .state))) t  -- F
+    else if eqb final 0x47 then toColumn first t  -- G
+    else if eqb final 0x64 then toRow first t  -- d
+    else if eqb final 0x48 then toPlace first second t  -- H
+    else if eqb final 0x66 then toPlace first (keptColumn (getD arguments 0 0) (getD arguments 1 0) second (t .state .cursor .column)) t  -- f
+    else if eqb final 0x49 then goesTo (tabbedOn first (t .state)) t  -- I
+    else goesTo (tabbedBack first (t .state)) t  -- Z

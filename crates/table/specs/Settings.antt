@@ -1,0 +1,46 @@
+-- Document 01, "Commands": the commands of the table that set tab stops, the pen and the mode.
+use mathlib.Core.Bool.{Bool}
+use mathlib.Core.List.{List, [], _∷_}
+use Prim.Native.Nat.{ℕ}
+use lib.Dec.{eqb}
+use Rattle.words.specs.Choice.{if_then_else_, _or_}
+use Rattle.words.specs.Lists.{every}
+use Rattle.state.specs.Tabs.{stopSet, stopCleared, stopsCleared}
+use Rattle.state.specs.Pen.{penPlain, penBold, penUnderlined, penBlinking, penReversed, penConcealed, withPen, withErasure}
+use Rattle.steps.specs.Steps.{Terminal, Stepped, goesTo, refusing}
+
+-- CTC (lines 2296 to 2310): 0 set, 2 clear here, 5 clear all.
+unfoldable pub tabControl : ℕ → Terminal → Stepped
+tabControl what t =
+    if eqb what 0 then goesTo (stopSet (t .state)) t
+    else if eqb what 2 then goesTo (stopCleared (t .state)) t
+    else if eqb what 5 then goesTo (stopsCleared (t .state)) t
+    else refusing t
+
+-- SGR: the values listed, and what each does to the pen.
+unfoldable pub isVisual : ℕ → Bool
+isVisual value = eqb value 0 or eqb value 1 or eqb value 4 or eqb value 5 or eqb value 7 or eqb value 8
+
+unfoldable pub penAfter : ℕ → ℕ → ℕ
+penAfter value pen =
+    if eqb value 0 then penPlain pen
+    else if eqb value 1 then penBold pen
+    else if eqb value 4 then penUnderlined pen
+    else if eqb value 5 then penBlinking pen
+    else if eqb value 7 then penReversed pen
+    else penConcealed pen
+
+unfoldable pub penAfterAll : List ℕ → ℕ → ℕ
+penAfterAll [] pen = pen
+penAfterAll (value ∷ later) pen = penAfterAll later (penAfter value pen)
+
+unfoldable pub rendition : List ℕ → Terminal → Stepped
+rendition values t =
+    if every isVisual values then goesTo (withPen (t .state) (penAfterAll values (t .state .modes .pen))) t
+    else refusing t
+
+-- SM and RM: mode 6, erasure.
+unfoldable pub setMode : Bool → List ℕ → Terminal → Stepped
+setMode on values t =
+    if every (λ value. eqb value 6) values then goesTo (withErasure (t .state) on) t
+    else refusing t

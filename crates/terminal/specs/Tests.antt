@@ -1,0 +1,60 @@
+-- The refusals of each call, as one ordered list of tests: the first that holds decides.
+use mathlib.Core.Bool.{Bool, not}
+use mathlib.Core.List.{List, [], _∷_}
+use Prim.Native.Nat.{ℕ}
+use lib.Dec.{ltb}
+use lib.ListN.{length}
+use Rattle.words.specs.Choice.{if_then_else_, _and_}
+use Rattle.page.specs.Page.{Page, validPage}
+use Rattle.state.specs.declared.Size.{Size}
+use Rattle.state.specs.Tests.{sizeFits, validState}
+use Rattle.steps.specs.Steps.{Terminal, Stepped}
+use Rattle.keys.specs.Keys.{isKnown, isLockedOut, lacksCell, keyStep}
+use Rattle.terminal.specs.declared.Answer.{Answer}
+use Rattle.terminal.specs.declared.Answer.the-variants.{Done, WrongSize, WrongState, NoRoom, UnknownKey, Locked, TooLong, NoCell}
+use Rattle.terminal.specs.Runs.{stepsOf, fitting}
+
+-- A line's test, and the answer that it gives.
+pub record LineTest : Type 0 where
+  pub holds : Bool
+  pub answer : Answer
+
+infix 68 _answers_
+abbrev pub _answers_ : Bool → Answer → LineTest
+test answers answer = record { holds = test; answer = answer }
+
+unfoldable pub firstOf : List LineTest → Answer
+firstOf [] = Done
+firstOf (line ∷ later) =
+    let further = firstOf later in
+    if line .holds then line .answer
+    else further
+
+-- A step is left out, since its transmission exceeds the room left.
+unfoldable pub exceedsRoom : ℕ → List Stepped → Bool
+exceedsRoom room steps = ltb (length (fitting room steps)) (length steps)
+
+-- Line 2 is not given; line 1 is tested before.
+unfoldable pub passesLine2 : Terminal → Bool
+passesLine2 t = validState (t .state) and validPage (t .page)
+
+unfoldable pub startLines : Size → Page → List LineTest
+startLines size page = not (sizeFits size page) answers WrongSize ∷ []
+
+unfoldable pub hostLines : Terminal → List ℕ → List ℕ → List LineTest
+hostLines t bytes output =
+    not (sizeFits (t .state .size) (t .page)) answers WrongSize
+    ∷ not (passesLine2 t) answers WrongState
+    ∷ ltb 65536 (length bytes) answers TooLong
+    ∷ exceedsRoom (length output) (stepsOf t bytes) answers NoRoom
+    ∷ []
+
+unfoldable pub keyLines : Terminal → ℕ → List ℕ → List LineTest
+keyLines t key output =
+    not (sizeFits (t .state .size) (t .page)) answers WrongSize
+    ∷ not (passesLine2 t) answers WrongState
+    ∷ not (isKnown key) answers UnknownKey
+    ∷ isLockedOut key (t .state) answers Locked
+    ∷ lacksCell key t answers NoCell
+    ∷ exceedsRoom (length output) (keyStep key t ∷ []) answers NoRoom
+    ∷ []
