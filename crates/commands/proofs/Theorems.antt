@@ -120,5 +120,5 @@ module _ (t : Terminal) where
   pub refusal-count : counted (refusing t) ≡ 0
   refusal-count = refl
 
-  pub message-count : (transmission : Transmission) (s : State) (page : Page) → counted (sends transmission s page) ≡ 0
-  message-count transmission s page = refl
+  pub transmission-count : (transmission : Transmission) (s : State) (page : Page) → counted (sends transmission s page) ≡ 0
+  transmission-count transmission s page = refl

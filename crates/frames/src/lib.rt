@@ -114,12 +114,12 @@ pub fn frame(line: &mut [u8], digits: usize) -> Kind
 }
 
 // A line of these bytes.
-fn put_line(text: &mut [u8], head: &[u8], message: &[u8]) -> usize
-    requires { ⌜ 2 * length (now head) + 2 * length (now transmission) < length (now text) ⌝ }
-    ensures { λ r. ⌜ Wrote 0 (lineOf (now (head .entry) ++ now (transmission .entry))) (now (text .entry)) r (now (text .exit)) ⌝ }
+fn put_line(text: &mut [u8], head: &[u8], sent: &[u8]) -> usize
+    requires { ⌜ 2 * length (now head) + 2 * length (now sent) < length (now text) ⌝ }
+    ensures { λ r. ⌜ Wrote 0 (lineOf (now (head .entry) ++ now (sent .entry))) (now (text .entry)) r (now (text .exit)) ⌝ }
 {
     let middle = numerals::put_hex(text, 0, head);
-    let end = numerals::put_hex(text, middle, message);
+    let end = numerals::put_hex(text, middle, sent);
     output::put_byte(text, end, 0x0A)
 }
 

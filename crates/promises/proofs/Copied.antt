@@ -75,7 +75,7 @@ module _ (copy : List ℕ) (t : Terminal) (valid : Valid t) (step : Stepped) (la
     and-later bytes now = λ i. now .0 i ∷ rest (lay bytes copy) (now .1) i
 
     copied-on : (transmission : Transmission) → step .transmission ≡ transmission
-        → copies copy (blockIn message ++ blocksSent later) ≡ map (blockHere true) (map (λ (block : List ℕ). step .terminal) (blockIn message) ++ standings later)
+        → copies copy (blockIn transmission ++ blocksSent later) ≡ map (blockHere true) (map (λ (block : List ℕ). step .terminal) (blockIn transmission) ++ standings later)
     unfolding blockIn markLeft
     copied-on silent is = rest copy (stays-copy (leaves step is))
     copied-on (report bytes) is = rest copy (stays-copy (leaves step is))

@@ -1,4 +1,4 @@
--- Demand 3 catches tags that are not set, messages in another order, and a host that finds blocks another way.
+-- Demand 3 catches tags that are not set, transmissions in another order, and a host that finds blocks another way.
 use mathlib.Core.Path.{_≡_, refl, sym, ap, _∙_}
 use mathlib.Core.Bool.{true, false}
 use mathlib.Core.List.{List, [], _∷_, _++_, map, reverse}
