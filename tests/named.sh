@@ -15,8 +15,8 @@ while IFS=: read -r file name; do
     last=${last##*/}
     last=${last%%.*}
     crate=${name%%::*}
-    if [[ $name == *::* ]] && [ -d "crates/$crate" ]; then
-        grep -qE "fn $last\b" crates/"$crate"/src/*.rt
+    if [[ $name == [a-z]*::* ]]; then
+        grep -qsE "(fn|enum|struct|type) $last\b" crates/"$crate"/src/*.rt
     else
         [ -e "$name" ] || [ -z "$last" ] || grep -qxF -- "$last" "$words" || grep -qE "(^|/)$last(\.|$)" <<<"$files"
     fi || {
