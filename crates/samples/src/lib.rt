@@ -70,9 +70,10 @@ pub fn send_on(
         (terminalOf state (now (characters .entry)) (now (marks .entry)))
         (terminalOf «state_there» (now («characters_there» .entry)) (now («marks_there» .entry)))
         (now (out .entry)) (now («out_there» .entry))
-        (given (r .first) (pageOf (now (characters .exit)) (now (marks .exit))) (now (out .exit)))
-        (given
-        (r .second) (pageOf (now («characters_there» .exit)) (now («marks_there» .exit))) (now («out_there» .exit))) ⌝ }
+        (given (r .first)
+        (pageOf (now (characters .exit)) (now (marks .exit))) (now (out .exit)))
+        (given (r .second)
+        (pageOf (now («characters_there» .exit)) (now («marks_there» .exit))) (now («out_there» .exit))) ⌝ }
 {
     let first = terminal::key(state, characters, marks, 267, out);
     let sent = first.sent;
