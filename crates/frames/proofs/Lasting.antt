@@ -1,4 +1,5 @@
--- 256 calls are enough for a frame: no transmission of a host byte exceeds the output, so a call given 3 takes a byte at least.
+-- 256 calls are enough for a frame: no transmission of a host byte exceeds the output, so a call given 3 takes a byte
+-- at least.
 use mathlib.Core.Path.{_≡_, sym, ap, _∙_}
 use mathlib.Core.Bool.{true}
 use mathlib.Core.List.{List, [], _∷_, _++_}

@@ -21,7 +21,8 @@ use Rattle.promises.specs.Further.{CopyingSteps}
 use Rattle.promises.proofs.Keeping.{sendable, leaves, was-on-page, same-form, same-full-block}
 use Rattle.promises.proofs.Following.{Follow, no-more, one-more, follow}
 
--- The copy is the full block of an earlier page of the same form; a cell that is not modified still has that page's character.
+-- The copy is the full block of an earlier page of the same form; a cell that is not modified still has that page's
+-- character.
 record IsCopy (copy : List ℕ) (t : Terminal) : Type 0 where
   page : Page
   is : copy ≡ block true (t .state .size .columns) page

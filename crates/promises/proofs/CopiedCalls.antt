@@ -1,4 +1,5 @@
--- Demand 3 carried to calls: what they sent is the transmissions of the steps that they did, and the host finds their blocks in it.
+-- Demand 3 carried to calls: what they sent is the transmissions of the steps that they did, and the host finds their
+-- blocks in it.
 use mathlib.Core.Path.{_≡_, refl, ap, _∙_}
 use mathlib.Core.List.{List, [], _∷_, _++_}
 use Prim.Native.Nat.{ℕ}
@@ -27,7 +28,7 @@ first-input [] asks later = (asks, later, refl)
 first-input (input ∷ before) asks later = (input, before ++ (asks ∷ later), refl)
 
 module _ (rules : Rules) (laws : StepLaws rules) (entries : Entries) (kept : Keeps rules entries) where
-  -- In all that calls wrote, the host finds the blocks of the steps that they did. Calls that did nothing wrote nothing.
+  -- In all that calls wrote, the host finds the blocks of the steps that they did. Calls that did none wrote nothing.
   found-by : (t : Terminal) (calls : List Call) (inputs : List Input) → inputsDone entries t calls ≡ inputs → blocksIn (bytesSentBy (steps rules t inputs)) ≡ blocksSent (steps rules t inputs)
   unfolding steps bytesSentBy blocksSent blocksFrom
   found-by t calls [] did = refl

@@ -13,4 +13,9 @@ bytes (string._∷_ character word) = code character ∷ bytes word
 -- A number below 100,000, with leading zeros.
 abbrev pub fiveDigits : ℕ → List ℕ
 fiveDigits number =
-    (0x30 + number / 10000) ∷ (0x30 + number / 1000 % 10) ∷ (0x30 + number / 100 % 10) ∷ (0x30 + number / 10 % 10) ∷ (0x30 + number % 10) ∷ []
+    (code "0" + number / 10000)
+    ∷ (code "0" + number / 1000 % 10)
+    ∷ (code "0" + number / 100 % 10)
+    ∷ (code "0" + number / 10 % 10)
+    ∷ (code "0" + number % 10)
+    ∷ []

@@ -1,4 +1,4 @@
--- The demands, said of calls that run: what each function gives and leaves is that of its calls, and then the promise.
+-- Demands 2 and 3, said of calls that run: what a sample gives and leaves is that of its calls, and then the promise.
 use mathlib.Core.Path.{_≡_}
 use mathlib.Core.Bool.{Bool, true, false}
 use mathlib.Core.List.{List, _++_, List·Memᴰ}
@@ -14,7 +14,7 @@ use Rattle.terminal.specs.Answers.{Outcome, numberOf, given, bytesSent}
 use Rattle.terminal.specs.Calls.{hostCall, keyCall}
 use Rattle.promises.specs.Rules.{ourRules, byteSteps, totalOf}
 use Rattle.promises.specs.FeedingBack.{Receives}
-use Rattle.copy.specs.Laying.{laying}
+use Rattle.copy.specs.Copy.{laying}
 use Rattle.samples.specs.declared.Replies.{Replies}
 use Rattle.samples.specs.declared.KeyReplies.{KeyReplies}
 use Rattle.samples.specs.declared.Copy.{Copy}
@@ -23,9 +23,13 @@ use Rattle.samples.specs.declared.Copied.{Copied}
 
 -- Demand 2, cutting: host bytes in two reads, each with an output of its own. The page between them is the first
 -- call's. If neither is refused, they leave, send and store what the rules' steps of all the bytes do.
-pub record InTwoReads (t : Terminal) (bytes : List ℕ) (cut : ℕ) (lent lentLater : List ℕ) (replies : Replies) (page : Page) (output outputLater : List ℕ) : Type 0 where
-  pub first : given (replies .first) (hostCall t (take cut bytes) lent .terminal .page) output ≡ hostCall t (take cut bytes) lent
-  pub second : given (replies .second) page outputLater ≡ hostCall (hostCall t (take cut bytes) lent .terminal) (drop cut bytes) lentLater
+pub record InTwoReads
+    (t : Terminal) (bytes : List ℕ) (cut : ℕ) (lent lentLater : List ℕ)
+    (replies : Replies) (page : Page) (output outputLater : List ℕ) : Type 0 where
+  pub first : given (replies .first) (hostCall t (take cut bytes) lent .terminal .page) output
+      ≡ hostCall t (take cut bytes) lent
+  pub second : given (replies .second) page outputLater
+      ≡ hostCall (hostCall t (take cut bytes) lent .terminal) (drop cut bytes) lentLater
   pub as-one : numberOf (replies .first .answer) ≡ 0 → numberOf (replies .second .answer) ≡ 0 →
       record {
         terminal = record { state = replies .second .state; page = page };
@@ -40,7 +44,8 @@ pub record Restored (sender receiver : Terminal) (block : List ℕ) (outcome : O
   pub nothing-refused : (step : Stepped) → List·Memᴰ step (byteSteps ourRules receiver block) → step .wasRefused ≡ false
   pub characters : (cell : ℕ) → unprotectedAt sender cell ≡ true →
       characterAt (outcome .terminal) cell ≡ characterAt sender cell
-  pub protected-cells : (cell : ℕ) → unprotectedAt sender cell ≡ false → CellKept (receiver .page) (outcome .terminal .page) cell
+  pub protected-cells : (cell : ℕ) → unprotectedAt sender cell ≡ false →
+      CellKept (receiver .page) (outcome .terminal .page) cell
   pub protection : (cell : ℕ) → unprotectedAt (outcome .terminal) cell ≡ unprotectedAt sender cell
 
 -- Key 267 at the sender, and the bytes that it sent as host bytes to the receiver.
@@ -57,17 +62,23 @@ abbrev pub typedCall : Terminal → ℕ → List ℕ → List ℕ → Outcome
 typedCall t key lentFull lentTyped = keyCall (fullCall t lentFull .terminal) key lentTyped
 
 abbrev pub changedCall : Terminal → ℕ → List ℕ → List ℕ → List ℕ → Outcome
-changedCall t key lentFull lentTyped lentChanged = keyCall (typedCall t key lentFull lentTyped .terminal) 266 lentChanged
+changedCall t key lentFull lentTyped lentChanged =
+    keyCall (typedCall t key lentFull lentTyped .terminal) 266 lentChanged
 
-pub record ThreeKeys (t : Terminal) (key : ℕ) (lentFull lentTyped lentChanged : List ℕ) (replies : KeyReplies) (page : Page) (full typed changed : List ℕ) : Type 0 where
+pub record ThreeKeys
+    (t : Terminal) (key : ℕ) (lentFull lentTyped lentChanged : List ℕ)
+    (replies : KeyReplies) (page : Page) (full typed changed : List ℕ) : Type 0 where
   pub first : given (replies .full) (fullCall t lentFull .terminal .page) full ≡ fullCall t lentFull
-  pub second : given (replies .typed) (typedCall t key lentFull lentTyped .terminal .page) typed ≡ typedCall t key lentFull lentTyped
+  pub second : given (replies .typed) (typedCall t key lentFull lentTyped .terminal .page) typed
+      ≡ typedCall t key lentFull lentTyped
   pub third : given (replies .changed) page changed ≡ changedCall t key lentFull lentTyped lentChanged
 
 -- All three are given 0.
 unfoldable pub allAnswered : KeyReplies → Bool
 allAnswered replies =
-    eqb (numberOf (replies .full .answer)) 0 and eqb (numberOf (replies .typed .answer)) 0 and eqb (numberOf (replies .changed .answer)) 0
+    eqb (numberOf (replies .full .answer)) 0
+    and eqb (numberOf (replies .typed .answer)) 0
+    and eqb (numberOf (replies .changed .answer)) 0
 
 -- What is laid where all were given 0; else nothing is.
 pub record Left : Type 0 where
@@ -79,7 +90,9 @@ copying true bytes lent = record { copy = Made (laying bytes lent .answer); outp
 copying false bytes lent = record { copy = NotSent; output = lent }
 
 -- The bytes that the host laid are the full block of the page as it then stands.
-pub record CopyKept (t : Terminal) (key : ℕ) (lentFull lentTyped lentChanged lent : List ℕ) (copied : Copied) (page : Page) (full typed changed output : List ℕ) : Type 0 where
+pub record CopyKept
+    (t : Terminal) (key : ℕ) (lentFull lentTyped lentChanged lent : List ℕ)
+    (copied : Copied) (page : Page) (full typed changed output : List ℕ) : Type 0 where
   pub keys : ThreeKeys t key lentFull lentTyped lentChanged (copied .replies) page full typed changed
   pub is-copy : record { copy = copied .copy; output = output }
       ≡ copying (allAnswered (copied .replies))

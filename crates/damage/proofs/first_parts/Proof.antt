@@ -1,16 +1,16 @@
 use borrow.Author.Needs.{needs}
-use Rattle.damage.specs.Parts.{figuresOf}
-use Rattle.damage.proofs.figures_of.Statement.{statement}
-use Rattle.damage.proofs.figures_of.Tie as tie
+use Rattle.damage.specs.Parts.{firstParts}
+use Rattle.damage.proofs.first_parts.Statement.{statement}
+use Rattle.damage.proofs.first_parts.Tie as tie
 
 returns : tie.Need-returns
-unfolding figuresOf
+unfolding firstParts
 returns c =
     let soft = c .before .before .before .before in
     rw (c .before .flag-number4 .ensures, soft .flag-number3 .ensures, soft .before .flag-number2 .ensures, soft .before .before .flag-number .ensures)
 
-pub figures-of-spec : {M : Type 1} → statement M
-figures-of-spec =
+pub first-parts-spec : {M : Type 1} → statement M
+first-parts-spec =
     tie.close
     (tie.spec
     (λ c. search needs)

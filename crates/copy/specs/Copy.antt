@@ -4,6 +4,7 @@ use mathlib.Core.Path.{_≡_}
 use mathlib.Core.Bool.{Bool, true, false}
 use mathlib.Core.List.{List, [], _∷_, _++_}
 use Prim.Native.Nat.{ℕ, _+_, _-_, _<_, _≤_}
+use Prim.Native.Char.{code}
 use lib.Dec.{leb, eqb}
 use lib.ListN.{length, take, drop}
 use Rattle.words.specs.Choice.{if_then_else_, _and_, _or_}
@@ -37,7 +38,7 @@ entryEnd bytes at = at + 1 + plainLength (drop (at + 1) bytes)
 unfoldable pub sameHead : List ℕ → List ℕ → Bool
 sameHead [] other = false
 sameHead (a ∷ one) [] = false
-sameHead (a ∷ one) (b ∷ other) = eqb a b and (eqb a 0x66 or sameHead one other)
+sameHead (a ∷ one) (b ∷ other) = eqb a b and (eqb a (code "f") or sameHead one other)
 
 -- The bytes of a part of the block, or of the copy.
 abbrev pub sourceOf : List ℕ → List ℕ → Part → List ℕ
