@@ -186,18 +186,18 @@ fn bracket_step(
     if table::most_arguments(letter) < count {
         return steps::refuse(state);
     }
-    if table::is_move(letter) {
-        return table::move_command(state, letter, arguments);
+    if table::moves::is_move(letter) {
+        return table::moves::move_command(state, letter, arguments);
     }
     let what = table::value(letter, arguments, 0);
     let cells = marks.len();
     match letter {
-        0x57 => table::tab_control(state, what), // W
+        0x57 => table::settings::tab_control(state, what), // W
         0x4A => erase_part(state, characters, marks, what, 0, cells), // J
         0x4B => erase_row(state, characters, marks, what), // K
-        0x6D => table::rendition(state, arguments, count as usize), // m
-        0x68 => table::set_mode(state, true, arguments, count as usize), // h
-        0x6C => table::set_mode(state, false, arguments, count as usize), // l
+        0x6D => table::settings::rendition(state, arguments, count as usize), // m
+        0x68 => table::settings::set_mode(state, true, arguments, count as usize), // h
+        0x6C => table::settings::set_mode(state, false, arguments, count as usize), // l
         _ => sending::status_report(state, before, out, at, what), // n
     }
 }

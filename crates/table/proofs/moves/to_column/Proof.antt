@@ -9,8 +9,8 @@ use Rattle.steps.specs.declared.Step.{Step}
 use Rattle.steps.specs.Steps.{goesTo}
 use Rattle.steps.specs.Told.{told, tells}
 use Rattle.table.specs.Moves.{toColumn}
-use Rattle.table.proofs.to_column.Statement.{statement}
-use Rattle.table.proofs.to_column.Tie as tie
+use Rattle.table.proofs.moves.to_column.Statement.{statement}
+use Rattle.table.proofs.moves.to_column.Tie as tie
 
 -- past the last column a step that leaves the state as it is will do
 ignored : (state : State) (column : ℕ) (step : Step) → state .size .columns < column → ((page : Page) → told step page ≡ tells (goesTo state (record { state = state; page = page }))) → (page : Page) → told step page ≡ tells (toColumn column (record { state = state; page = page }))

@@ -2,8 +2,8 @@ use mathlib.Core.Path.{sym, _∙_}
 use borrow.Author.Needs.{needs}
 use Rattle.words.specs.Choice.{if_then_else_}
 use Rattle.table.specs.Settings.{rendition}
-use Rattle.table.proofs.rendition.Statement.{statement}
-use Rattle.table.proofs.rendition.Tie as tie
+use Rattle.table.proofs.settings.rendition.Statement.{statement}
+use Rattle.table.proofs.settings.rendition.Tie as tie
 
 pub rendition-spec : {M : Type 1} → statement M
 unfolding rendition if_then_else_

@@ -7,8 +7,8 @@ use lib.ListN.{length, take, drop}
 use Rattle.words.specs.Lists.{every}
 use Rattle.table.specs.Settings.{isVisual}
 use Rattle.table.proofs.Walking.{next-value-passes, value-fails, all-values-pass}
-use Rattle.table.proofs.all_visual.Statement.{statement}
-use Rattle.table.proofs.all_visual.Tie as tie
+use Rattle.table.proofs.settings.all_visual.Statement.{statement}
+use Rattle.table.proofs.settings.all_visual.Tie as tie
 
 -- the test of all values is the test of those from i on
 abbrev Inv-loop : tie.InvT-loop

@@ -2,8 +2,8 @@ use borrow.Author.Needs.{needs}
 use borrow.Author.Tests.{ne-eqb}
 use Rattle.words.specs.Choice.{if_then_else_}
 use Rattle.table.specs.Settings.{penAfter}
-use Rattle.table.proofs.pen_after.Statement.{statement}
-use Rattle.table.proofs.pen_after.Tie as tie
+use Rattle.table.proofs.settings.pen_after.Statement.{statement}
+use Rattle.table.proofs.settings.pen_after.Tie as tie
 
 returns-6 : tie.Need-returns-6
 unfolding penAfter if_then_else_

@@ -1,8 +1,8 @@
 use borrow.Author.Needs.{needs}
 use Rattle.words.proofs.Choosing.{tests}
 use Rattle.table.specs.Moves.{toPlace}
-use Rattle.table.proofs.to_place.Statement.{statement}
-use Rattle.table.proofs.to_place.Tie as tie
+use Rattle.table.proofs.moves.to_place.Statement.{statement}
+use Rattle.table.proofs.moves.to_place.Tie as tie
 
 pub to-place-spec : {M : Type 1} → statement M
 unfolding toPlace

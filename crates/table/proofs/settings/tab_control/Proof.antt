@@ -2,8 +2,8 @@ use borrow.Author.Needs.{needs}
 use borrow.Author.Tests.{ne-eqb}
 use Rattle.words.specs.Choice.{if_then_else_}
 use Rattle.table.specs.Settings.{tabControl}
-use Rattle.table.proofs.tab_control.Statement.{statement}
-use Rattle.table.proofs.tab_control.Tie as tie
+use Rattle.table.proofs.settings.tab_control.Statement.{statement}
+use Rattle.table.proofs.settings.tab_control.Tie as tie
 
 pub tab-control-spec : {M : Type 1} → statement M
 unfolding tabControl if_then_else_

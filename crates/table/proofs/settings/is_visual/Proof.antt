@@ -1,8 +1,8 @@
 use borrow.Author.Tests.{ne-eqb}
 use Rattle.words.specs.Choice.{_or_}
 use Rattle.table.specs.Settings.{isVisual}
-use Rattle.table.proofs.is_visual.Statement.{statement}
-use Rattle.table.proofs.is_visual.Tie as tie
+use Rattle.table.proofs.settings.is_visual.Statement.{statement}
+use Rattle.table.proofs.settings.is_visual.Tie as tie
 
 returns-7 : tie.Need-returns-7
 unfolding _or_ isVisual

@@ -4,8 +4,8 @@ use borrow.Author.Tests.{le-leb, lt-leb, ne-eqb}
 use Rattle.words.specs.Choice.{_and_, _or_}
 use Rattle.words.proofs.Choosing.{both-hold, first-fails, second-fails, first-holds, second-decides}
 use Rattle.table.specs.Moves.{isMove}
-use Rattle.table.proofs.is_move.Statement.{statement}
-use Rattle.table.proofs.is_move.Tie as tie
+use Rattle.table.proofs.moves.is_move.Statement.{statement}
+use Rattle.table.proofs.moves.is_move.Tie as tie
 
 returns : tie.Need-returns
 unfolding isMove

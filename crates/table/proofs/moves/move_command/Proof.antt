@@ -2,8 +2,8 @@ use borrow.Author.Needs.{needs}
 use Rattle.words.specs.Choice.{if_then_else_}
 use Rattle.table.specs.Moves.{moveStep}
 use Rattle.table.proofs.Letters.{in-table, only-z}
-use Rattle.table.proofs.move_command.Statement.{statement}
-use Rattle.table.proofs.move_command.Tie as tie
+use Rattle.table.proofs.moves.move_command.Statement.{statement}
+use Rattle.table.proofs.moves.move_command.Tie as tie
 
 returns-12 : tie.Need-returns-12
 unfolding moveStep if_then_else_

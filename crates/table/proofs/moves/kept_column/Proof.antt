@@ -1,7 +1,7 @@
 use Rattle.words.proofs.Choosing.{tests}
 use Rattle.table.specs.Moves.{keptColumn}
-use Rattle.table.proofs.kept_column.Statement.{statement}
-use Rattle.table.proofs.kept_column.Tie as tie
+use Rattle.table.proofs.moves.kept_column.Statement.{statement}
+use Rattle.table.proofs.moves.kept_column.Tie as tie
 
 pub kept-column-spec : {M : Type 1} → statement M
 unfolding keptColumn

@@ -1,8 +1,8 @@
 use borrow.Author.Needs.{needs}
 use Rattle.words.proofs.Choosing.{tests}
 use Rattle.table.specs.Moves.{toRow}
-use Rattle.table.proofs.to_row.Statement.{statement}
-use Rattle.table.proofs.to_row.Tie as tie
+use Rattle.table.proofs.moves.to_row.Statement.{statement}
+use Rattle.table.proofs.moves.to_row.Tie as tie
 
 pub to-row-spec : {M : Type 1} → statement M
 unfolding toRow

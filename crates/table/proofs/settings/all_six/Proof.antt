@@ -8,8 +8,8 @@ use lib.Dec.{eqb}
 use lib.ListN.{length, take, drop}
 use Rattle.words.specs.Lists.{every}
 use Rattle.table.proofs.Walking.{next-value-passes, value-fails, all-values-pass}
-use Rattle.table.proofs.all_six.Statement.{statement}
-use Rattle.table.proofs.all_six.Tie as tie
+use Rattle.table.proofs.settings.all_six.Statement.{statement}
+use Rattle.table.proofs.settings.all_six.Tie as tie
 
 abbrev isSix : ℕ → Bool
 isSix value = eqb value 6

@@ -2,8 +2,8 @@ use mathlib.Core.Path.{sym, _∙_}
 use borrow.Author.Needs.{needs}
 use Rattle.words.specs.Choice.{if_then_else_}
 use Rattle.table.specs.Settings.{setMode}
-use Rattle.table.proofs.set_mode.Statement.{statement}
-use Rattle.table.proofs.set_mode.Tie as tie
+use Rattle.table.proofs.settings.set_mode.Statement.{statement}
+use Rattle.table.proofs.settings.set_mode.Tie as tie
 
 pub set-mode-spec : {M : Type 1} → statement M
 unfolding setMode if_then_else_

@@ -5,8 +5,8 @@ use borrow.Author.Needs.{needs}
 use lib.ListN.{length, take, drop}
 use Rattle.table.specs.Settings.{penAfterAll}
 use Rattle.table.proofs.Walking.{next-value, all-values}
-use Rattle.table.proofs.pen_after_all.Statement.{statement}
-use Rattle.table.proofs.pen_after_all.Tie as tie
+use Rattle.table.proofs.settings.pen_after_all.Statement.{statement}
+use Rattle.table.proofs.settings.pen_after_all.Tie as tie
 
 -- what all values make of the pen is what those from i on make of it now
 abbrev Inv-loop : tie.InvT-loop
