@@ -5,14 +5,15 @@ use mathlib.Core.List.{List, [], _∷_, _++_}
 use Prim.Native.Nat.{ℕ, suc, _+_, _-_, _<_, _≤_}
 use native.Mathlib.Nat.{not-suc-le-zero}
 use native.Mathlib.Omega.{arith}
+use borrow.Author.Tests.{not-true, not-false}
 use lib.ListN.{length, take, drop, getD, set, replicate, length-drop, drop-of-length-le}
 use lib.Seq.{drop-cons, drop-drop, set-at, length-take-le}
 use Rattle.words.specs.Choice.{if_then_else_, _and_, _or_}
 use Rattle.words.specs.Lists.{within, each, onPart}
 use Rattle.words.proofs.Choosing.{then-case, else-case, both-hold, first-fails, second-fails}
 use Rattle.words.proofs.Writing.{pushed, each-last, each-first, inside, before-range, after-range}
-use Rattle.page.specs.Marks.{unprotected}
-use Rattle.page.specs.Page.{Page, pageOf, closedUp, movedRight, erasable, erased, scrolledUp, scrolledDown, pulledUp, pushedDown, tagged, partStored}
+use Rattle.page.specs.Marks.{withoutModified, unprotected}
+use Rattle.page.specs.Page.{Page, pageOf, closedUp, movedRight, erasable, erased, scrolledUp, scrolledDown, pulledUp, pushedDown, tagged, partStored, markAfterBlock}
 
 -- The last store of `close_up`, and of `move_right`.
 pub closes-up : (part : List ℕ) → 0 < length part → set (drop 1 part ++ drop (length part - 1) part) (length part - 1) 0x20 ≡ closedUp part
@@ -54,6 +55,16 @@ module _ (mode : Bool) (from to : ℕ) (marks : List ℕ) (v cell x : ℕ) where
 pub still-erasable : (mode : Bool) (before now : List ℕ) (cell : ℕ) → getD now cell 0 ≡ getD before cell 0 → erasable mode now cell ≡ erasable mode before cell
 unfolding erasable unprotected
 still-erasable mode before now cell same = rw same
+
+-- What sending makes of the mark of a cell.
+module _ (marks : List ℕ) (cell : ℕ) where
+  pub sent-unprotected : unprotected marks cell ≡ true → markAfterBlock (getD marks cell 0) ≡ withoutModified (getD marks cell 0)
+  unfolding unprotected markAfterBlock
+  sent-unprotected free = else-case _ _ _ (not-true _ free)
+
+  pub sent-protected : unprotected marks cell ≡ false → markAfterBlock (getD marks cell 0) ≡ getD marks cell 0
+  unfolding unprotected markAfterBlock
+  sent-protected protected = then-case _ _ _ (not-false _ protected)
 
 -- The row that a scroll has left, erased whatever its marks are.
 module _ (v columns : ℕ) (list marks : List ℕ) (fits : columns ≤ length list) where

@@ -4,7 +4,6 @@ use mathlib.Core.Bool.{true, false, not}
 use mathlib.Core.List.{List}
 use Prim.Native.Nat.{ℕ, _<_, _≤_}
 use native.Mathlib.Omega.{arith}
-use borrow.Author.Tests.{not-false}
 use lib.ListN.{length, getD}
 use lib.Seq.{getD-set-same}
 use Rattle.words.specs.Lists.{within}
@@ -12,6 +11,7 @@ use Rattle.words.proofs.Choosing.{then-case, else-case, either-line}
 use Rattle.words.proofs.Writing.{each-at, each-keeps, set-keeps, inside, outside-range}
 use Rattle.page.specs.Marks.{isProtected, isModified, withModified, withoutModified, unprotected}
 use Rattle.page.specs.Page.{Page, typed, tagged, markAfterBlock, modifiedCleared}
+use Rattle.page.proofs.Laws.{sent-protected}
 use Rattle.page.proofs.Bits.{other-bit, set-others, set-bit, cleared-others}
 
 -- Tagging and sending leave bit 0 of a mark.
@@ -60,5 +60,5 @@ module _ (marks : List ℕ) (cell : ℕ) where
   cleared-protection = ap not (each-keeps _ marks cell isProtected (sent-protection (getD marks cell 0)))
 
   pub protected-uncleared : unprotected marks cell ≡ false → getD (modifiedCleared marks) cell 0 ≡ getD marks cell 0
-  unfolding unprotected modifiedCleared markAfterBlock
-  protected-uncleared protected = each-keeps _ marks cell (λ (mark : ℕ). mark) (then-case _ _ _ (not-false _ protected))
+  unfolding modifiedCleared
+  protected-uncleared protected = each-keeps _ marks cell (λ (mark : ℕ). mark) (sent-protected marks cell protected)

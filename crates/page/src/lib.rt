@@ -5,7 +5,7 @@ ghost use Prim.Native.Nat.{_≤_, _<_};
 ghost use lib.ListN.{length, getD, set};
 ghost use Rattle.words.specs.Lists.{every};
 ghost use Rattle.page.specs.Marks.{isProtected, isModified, isBold, isUnderlined, isBlinking, isReversed, isConcealed, withModified, withoutModified, validCharacter, validMark, unprotected};
-ghost use Rattle.page.specs.Page.{pageOf, validPage, textStored, typed, erasable, HasErased, scrolledUp, scrolledDown, tagged, blanked, closedUp, movedRight, partStored, markAfterBlock, modifiedCleared, pulledUp, pushedDown};
+ghost use Rattle.page.specs.Page.{pageOf, validPage, textStored, typed, erasable, HasErased, scrolledUp, scrolledDown, tagged, blanked, closedUp, movedRight, partStored, modifiedCleared, pulledUp, pushedDown};
 
 // What a cell has beside its character, a bit for each mark; bit 7 is zero.
 pub type Mark = u8;
@@ -293,24 +293,17 @@ pub fn insert_blank(characters: &mut [u8], marks: &mut [Mark], from: usize, to: 
     tag(marks, from, to);
 }
 
-// What sending does to one mark.
-fn mark_after_block(mark: Mark) -> Mark
-    ensures { λ r. ⌜ r ≡ markAfterBlock mark ⌝ }
-{
-    if is_protected(mark) {
-        return mark;
-    }
-    without_modified(mark)
-}
-
 // Sending clears modified on all unprotected cells.
 pub fn clear_modified(marks: &mut [Mark])
     ensures { λ _. ⌜ now (marks .exit) ≡ modifiedCleared (now (marks .entry)) ⌝ }
 {
     let mut cell = 0;
     while cell < marks.len() {
-        let mark = mark_at(marks, cell);
-        set_mark(marks, cell, mark_after_block(mark));
+        let at = cell;
         cell += 1;
+        if is_unprotected(marks, at) {
+            let mark = mark_at(marks, at);
+            set_mark(marks, at, without_modified(mark));
+        }
     }
 }

@@ -1,10 +1,12 @@
-use mathlib.Core.Path.{_≡_, refl, ap, _∙_}
+use mathlib.Core.Path.{_≡_, refl, sym, ap, _∙_}
 use Prim.Native.Nat.{_≤_, _<_, _-_}
 use native.Mathlib.Omega.{arith}
 use borrow.Author.Needs.{needs}
 use lib.ListN.{length}
-use Rattle.words.proofs.Writing.{upTo, length-each, next-changed, all-written}
-use Rattle.page.specs.Page.{markAfterBlock, modifiedCleared}
+use Rattle.words.proofs.Writing.{upTo, length-each, next-changed, next-same, all-written}
+use Rattle.page.specs.Marks.{withoutModified}
+use Rattle.page.specs.Page.{modifiedCleared}
+use Rattle.page.proofs.Laws.{sent-unprotected, sent-protected}
 use Rattle.page.proofs.clear_modified.Statement.{statement}
 use Rattle.page.proofs.clear_modified.Tie as tie
 
@@ -20,13 +22,27 @@ loop-again : tie.Need-loop-again Inv-loop μ-loop
 unfolding modifiedCleared
 loop-again c =
     let stored = c .before .before in
-    let turn = stored .before .before .before .before .before .before in
+    let read = stored .before .before .before in
+    let answer = read .before .before .before in
+    let turn = answer .before .before .before in
     let here : turn .loop .cell < length (turn .before .before .args .marks .now) = omega arith in (
       search needs,
       search needs,
       stored .set-mark .ensures
           ∙ next-changed _ _ _ _ (turn .loop .inv .2) here _
-          (stored .before .mark-after-block .ensures ∙ ap markAfterBlock (stored .before .before .before .mark-at .ensures)),
+          (stored .before .without-modified .ensures
+          ∙ ap withoutModified (read .mark-at .ensures)
+          ∙ sym (sent-unprotected _ _ (sym (answer .is-unprotected .ensures) ∙ read .before .before .if1 .taken))),
+    )
+
+loop-again-2 : tie.Need-loop-again-2 Inv-loop μ-loop
+unfolding modifiedCleared
+loop-again-2 c =
+    let turn = c .before .before .before .before in
+    let here : turn .loop .cell < length (turn .before .before .args .marks .now) = omega arith in (
+      search needs,
+      turn .loop .inv .1,
+      next-same _ _ _ _ (turn .loop .inv .2) here (sym (sent-protected _ _ (sym (c .before .is-unprotected .ensures) ∙ c .if1 .left))),
     )
 
 returns : tie.Need-returns Inv-loop μ-loop
@@ -42,11 +58,14 @@ clear-modified-spec =
     Inv-loop
     μ-loop
     (λ c. (search needs, refl, refl))
-    (λ c κs. search needs)
-    (λ c κs. search needs)
-    (λ c κs. search needs)
     (λ c. search needs)
+    (λ c κs. search needs)
+    (λ c κs. search needs)
+    (λ c κs. search needs)
+    (λ c κs. search needs)
     (λ c. search needs)
     loop-again
+    (λ c. search needs)
+    loop-again-2
     (λ c. search needs)
     returns)
