@@ -11,7 +11,7 @@ use Rattle.words.proofs.Choosing.{either-line, both, both-hold, range-is}
 use Rattle.words.proofs.Writing.{length-each, length-onPart}
 use Rattle.words.proofs.Passing.{passes, every-append, every-set, every-replicate, every-take, every-drop, every-each, every-onPart}
 use Rattle.page.specs.Marks.{validCharacter, validMark, withModified}
-use Rattle.page.specs.Page.{Page, pageOf, validPage, textStored, typed, erased, scrolledUp, scrolledDown, tagged, blanked, closedUp, movedRight, partStored, markAfterBlock, modifiedCleared}
+use Rattle.page.specs.Page.{Page, pageOf, cells, validPage, textStored, typed, erased, scrolledUp, scrolledDown, tagged, blanked, closedUp, movedRight, partStored, markAfterBlock, modifiedCleared}
 use Rattle.page.proofs.Bits.{OthersStay, stays-below, set-others, cleared-others}
 
 -- An operation takes no cell away and adds none.
@@ -137,8 +137,8 @@ module _ (page : Page) (valid : validPage page ≡ true) where
   unfolding validPage scrolledDown
   scrolled-down-keeps-valid columns =
       both-hold _ _
-      (every-append _ (replicate columns 0x20) _ (every-replicate _ columns 0x20 blank-valid) (every-take _ (length (page .characters) - columns) _ characters-valid))
-      (every-append _ (replicate columns 0) _ (every-replicate _ columns 0 refl) (every-take _ (length (page .marks) - columns) _ marks-valid))
+      (every-append _ (replicate columns 0x20) _ (every-replicate _ columns 0x20 blank-valid) (every-take _ (cells page - columns) _ characters-valid))
+      (every-append _ (replicate columns 0) _ (every-replicate _ columns 0 refl) (every-take _ (cells page - columns) _ marks-valid))
 
   pub part-keeps-valid : {change : List ℕ → List ℕ} → KeepsPart change → (from to : ℕ) → validPage (partStored change from to page) ≡ true
   unfolding validPage tagged

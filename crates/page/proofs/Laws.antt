@@ -13,7 +13,7 @@ use Rattle.words.specs.Lists.{within, each, onPart}
 use Rattle.words.proofs.Choosing.{then-case, else-case, both-hold, first-fails, second-fails}
 use Rattle.words.proofs.Writing.{pushed, each-last, each-first, inside, before-range, after-range}
 use Rattle.page.specs.Marks.{withoutModified, unprotected}
-use Rattle.page.specs.Page.{Page, pageOf, closedUp, movedRight, erasable, erased, scrolledUp, scrolledDown, pulledUp, pushedDown, tagged, partStored, markAfterBlock}
+use Rattle.page.specs.Page.{Page, pageOf, cells, closedUp, movedRight, erasable, erased, scrolledUp, scrolledDown, pulledUp, pushedDown, tagged, partStored, markAfterBlock}
 
 -- The last store of `close_up`, and of `move_right`.
 pub closes-up : (part : List ℕ) → 0 < length part → set (drop 1 part ++ drop (length part - 1) part) (length part - 1) 0x20 ≡ closedUp part
@@ -78,20 +78,20 @@ module _ (v columns : ℕ) (list marks : List ℕ) (fits : columns ≤ length li
       (λ k x h l. erases true (end - columns) end marks v k x (omega arith) (omega arith) refl)
       ∙ rw b
 
-  first-row : each (erasing true 0 columns marks v) (pushed columns list) ≡ replicate columns v ++ take (length list - columns) list
+  first-row : (end : ℕ) → end ≡ length list → each (erasing true 0 columns marks v) (pushed columns list) ≡ replicate columns v ++ take (end - columns) list
   unfolding erasable _or_
-  first-row =
+  first-row end e =
       let a : length (take columns list) ≡ columns = length-take-le columns list fits in
       each-first _ v (take columns list) (take (length list - columns) list)
       (λ k x h. erases true 0 columns marks v k x (omega arith) (omega arith) refl)
       (λ k x h. leaves-after true 0 columns marks v k x (omega arith))
-      ∙ rw a
+      ∙ rw (a, e)
 
 module _ (columns : ℕ) (page moved scrolled : Page) (fits : columns ≤ length (page .characters)) (same : length (page .marks) ≡ length (page .characters)) where
   pub scrolls-up : moved ≡ pulledUp columns page → scrolled ≡ erased true (length (page .characters) - columns) (length (page .characters)) moved → scrolled ≡ scrolledUp columns page
   unfolding erased scrolledUp
   scrolls-up is-moved is-erased =
-      let end = length (page .characters) in
+      let end = cells page in
       let marks = pulledUp columns page .marks in
       is-erased ∙ ap (erased true (end - columns) end) is-moved
       ∙ (λ i. pageOf (last-row 0x20 columns (page .characters) marks fits end refl i) (last-row 0 columns (page .marks) marks (omega arith) end (sym same) i))
@@ -99,6 +99,7 @@ module _ (columns : ℕ) (page moved scrolled : Page) (fits : columns ≤ length
   pub scrolls-down : moved ≡ pushedDown columns page → scrolled ≡ erased true 0 columns moved → scrolled ≡ scrolledDown columns page
   unfolding erased scrolledDown
   scrolls-down is-moved is-erased =
+      let end = cells page in
       let marks = pushedDown columns page .marks in
       is-erased ∙ ap (erased true 0 columns) is-moved
-      ∙ (λ i. pageOf (first-row 0x20 columns (page .characters) marks fits i) (first-row 0 columns (page .marks) marks (omega arith) i))
+      ∙ (λ i. pageOf (first-row 0x20 columns (page .characters) marks fits end refl i) (first-row 0 columns (page .marks) marks (omega arith) end (sym same) i))
