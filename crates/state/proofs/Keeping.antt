@@ -21,7 +21,7 @@ use Rattle.state.specs.declared.Size.{Size}
 use Rattle.state.specs.declared.Cursor.{Cursor}
 use Rattle.state.specs.declared.State.{State}
 use Rattle.state.specs.State.{OnPage, withCursor, cursorAt, withLocks, withStops, withHalf, freshState, refused, inputDisabled, inputEnabled, unlocked}
-use Rattle.state.specs.Moves.{backBy, onBy, upBy, downBy, rightBy, leftBy, toMargin}
+use Rattle.state.specs.Moves.{backBy, onBy, upBy, downBy, rightBy, leftBy, toMargin, toNextCell}
 use Rattle.state.specs.Tabs.{stopSet, stopCleared, stopsCleared, stopsOn, stopsBack, tabbedOn, tabbedBack}
 use Rattle.state.specs.Pen.{penProtected, penUnprotected, penPlain, penBold, penUnderlined, penBlinking, penReversed, penConcealed, validPen, withPen, withErasure}
 use Rattle.state.specs.Tests.{listedRows, listedColumns, listedSize, cursorFits, stopsFit, validState}
@@ -218,6 +218,17 @@ module _ (s : State) (valid : validState s ≡ true) where
   pub margin-keeps-valid : KeepsValid s (toMargin s)
   unfolding toMargin
   margin-keeps-valid = let here = column-was in cursor-keeps-valid _ 1 row-was (omega arith, omega arith)
+
+  pub next-cell-keeps-valid : KeepsValid s (toNextCell s)
+  unfolding toNextCell
+  next-cell-keeps-valid =
+      let row = row-was in
+      let column = column-was in
+      either-line (KeepsValid s) _ _ _
+      (λ t. let less = ltb-true (s .cursor .column) (s .size .columns) t in cursor-keeps-valid _ _ row (omega arith, omega arith))
+      (λ _. either-line (KeepsValid s) _ _ _
+      (λ t. let less = ltb-true (s .cursor .row) (s .size .rows) t in cursor-keeps-valid _ 1 (omega arith, omega arith) (omega arith, omega arith))
+      (λ _. cursor-keeps-valid 1 1 (omega arith, omega arith) (omega arith, omega arith)))
 
   pub tab-on-keeps-valid : (n : ℕ) → KeepsValid s (tabbedOn n s)
   unfolding tabbedOn
