@@ -1,8 +1,8 @@
 use borrow.Author.Needs.{needs}
 use Rattle.words.proofs.Choosing.{tests}
 use Rattle.state.specs.Moves.{backBy}
-use Rattle.state.proofs.back_by.Statement.{statement}
-use Rattle.state.proofs.back_by.Tie as tie
+use Rattle.state.proofs.moves.back_by.Statement.{statement}
+use Rattle.state.proofs.moves.back_by.Tie as tie
 
 pub back-by-spec : {M : Type 1} → statement M
 unfolding backBy

@@ -3,8 +3,8 @@ use borrow.Author.Needs.{needs}
 use borrow.Author.Tests.{lt-ltb, le-ltb}
 use Rattle.words.proofs.Choosing.{first-decides, first-fails}
 use Rattle.state.specs.Pen.{validPen}
-use Rattle.state.proofs.is_valid_pen.Statement.{statement}
-use Rattle.state.proofs.is_valid_pen.Tie as tie
+use Rattle.state.proofs.tests.is_valid_pen.Statement.{statement}
+use Rattle.state.proofs.tests.is_valid_pen.Tie as tie
 
 pub is-valid-pen-spec : {M : Type 1} → statement M
 unfolding validPen

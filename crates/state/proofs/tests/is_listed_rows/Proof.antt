@@ -1,8 +1,8 @@
 use borrow.Author.Tests.{ne-eqb}
 use Rattle.words.specs.Choice.{_or_}
 use Rattle.state.specs.Tests.{listedRows}
-use Rattle.state.proofs.is_listed_rows.Statement.{statement}
-use Rattle.state.proofs.is_listed_rows.Tie as tie
+use Rattle.state.proofs.tests.is_listed_rows.Statement.{statement}
+use Rattle.state.proofs.tests.is_listed_rows.Tie as tie
 
 pub is-listed-rows-spec : {M : Type 1} → statement M
 unfolding _or_ listedRows

@@ -1,8 +1,8 @@
 use borrow.Author.Tests.{ne-eqb}
 use Rattle.words.specs.Choice.{_or_}
 use Rattle.state.specs.Tests.{listedColumns}
-use Rattle.state.proofs.is_listed_columns.Statement.{statement}
-use Rattle.state.proofs.is_listed_columns.Tie as tie
+use Rattle.state.proofs.tests.is_listed_columns.Statement.{statement}
+use Rattle.state.proofs.tests.is_listed_columns.Tie as tie
 
 pub is-listed-columns-spec : {M : Type 1} → statement M
 unfolding _or_ listedColumns

@@ -5,8 +5,8 @@ use lib.ListN.{length}
 use Rattle.words.proofs.Choosing.{then-case, else-case}
 use Rattle.state.specs.Tabs.{stopRight}
 use Rattle.state.proofs.Laws.{right-turn, right-end}
-use Rattle.state.proofs.stop_right.Statement.{statement}
-use Rattle.state.proofs.stop_right.Tie as tie
+use Rattle.state.proofs.tabs.stop_right.Statement.{statement}
+use Rattle.state.proofs.tabs.stop_right.Tie as tie
 
 -- the next stop to the right of the column asked for is the next to the right of `at`
 abbrev Inv-loop : tie.InvT-loop

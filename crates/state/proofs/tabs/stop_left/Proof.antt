@@ -5,8 +5,8 @@ use lib.ListN.{length}
 use Rattle.words.proofs.Choosing.{then-case, else-case}
 use Rattle.state.specs.Tabs.{stopLeft}
 use Rattle.state.proofs.Laws.{left-turn, left-end}
-use Rattle.state.proofs.stop_left.Statement.{statement}
-use Rattle.state.proofs.stop_left.Tie as tie
+use Rattle.state.proofs.tabs.stop_left.Statement.{statement}
+use Rattle.state.proofs.tabs.stop_left.Tie as tie
 
 -- the next stop to the left of the column asked for is the next to the left of `at`
 abbrev Inv-loop : tie.InvT-loop

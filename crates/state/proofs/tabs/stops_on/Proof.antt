@@ -4,8 +4,8 @@ use native.Mathlib.Omega.{arith}
 use borrow.Author.Needs.{needs}
 use Rattle.state.specs.Tabs.{stopsOn}
 use Rattle.state.proofs.Laws.{stops-on-turn, stops-on-end, right-within}
-use Rattle.state.proofs.stops_on.Statement.{statement}
-use Rattle.state.proofs.stops_on.Tie as tie
+use Rattle.state.proofs.tabs.stops_on.Statement.{statement}
+use Rattle.state.proofs.tabs.stops_on.Tie as tie
 
 -- n stops on from the column asked for is `left` stops on from `at`
 abbrev Inv-loop : tie.InvT-loop

@@ -4,8 +4,8 @@ use native.Mathlib.Omega.{arith}
 use borrow.Author.Needs.{needs}
 use Rattle.state.specs.Tabs.{stopsBack}
 use Rattle.state.proofs.Laws.{stops-back-turn, stops-back-end, left-within}
-use Rattle.state.proofs.stops_back.Statement.{statement}
-use Rattle.state.proofs.stops_back.Tie as tie
+use Rattle.state.proofs.tabs.stops_back.Statement.{statement}
+use Rattle.state.proofs.tabs.stops_back.Tie as tie
 
 -- n stops back from the column asked for is `left` stops back from `at`
 abbrev Inv-loop : tie.InvT-loop

@@ -1,8 +1,8 @@
 use borrow.Author.Needs.{needs}
 use Rattle.words.proofs.Choosing.{tests}
 use Rattle.state.specs.Moves.{onBy}
-use Rattle.state.proofs.on_by.Statement.{statement}
-use Rattle.state.proofs.on_by.Tie as tie
+use Rattle.state.proofs.moves.on_by.Statement.{statement}
+use Rattle.state.proofs.moves.on_by.Tie as tie
 
 pub on-by-spec : {M : Type 1} → statement M
 unfolding onBy

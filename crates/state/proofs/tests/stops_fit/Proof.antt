@@ -5,8 +5,8 @@ use borrow.Author.Needs.{needs}
 use lib.ListN.{length}
 use Rattle.state.specs.Tests.{stopsFit}
 use Rattle.state.proofs.Laws.{no-stop-next, stop-next, no-stops-left}
-use Rattle.state.proofs.stops_fit.Statement.{statement}
-use Rattle.state.proofs.stops_fit.Tie as tie
+use Rattle.state.proofs.tests.stops_fit.Statement.{statement}
+use Rattle.state.proofs.tests.stops_fit.Tie as tie
 
 -- the test of all stops past the last column is the test of those from i on
 abbrev Inv-loop : tie.InvT-loop
