@@ -25,7 +25,7 @@ use Rattle.state.specs.State.{OnPage, withHalf, refused}
 use Rattle.state.specs.Moves.{downBy, toMargin}
 use Rattle.state.specs.Pen.{validPen}
 use Rattle.state.specs.Tests.{validState}
-use Rattle.state.proofs.Keeping.{KeepsValid, size-bounds, on-page, parts, up-keeps-valid, down-keeps-valid, right-keeps-valid, left-keeps-valid, margin-keeps-valid, cursor-keeps-valid, tab-on-keeps-valid, tab-back-keeps-valid, stop-set-keeps-valid, stop-cleared-keeps-valid, stops-cleared-keeps-valid, pen-keeps-valid, protected-keeps-pen, unprotected-keeps-pen, erasure-keeps-valid, disabled-keeps-valid, enabled-keeps-valid, refused-keeps-valid, half-keeps-valid, fresh-valid}
+use Rattle.state.proofs.Keeping.{KeepsValid, size-bounds, on-page, parts, up-keeps-valid, down-keeps-valid, right-keeps-valid, left-keeps-valid, margin-keeps-valid, next-cell-keeps-valid, cursor-keeps-valid, tab-on-keeps-valid, tab-back-keeps-valid, stop-set-keeps-valid, stop-cleared-keeps-valid, stops-cleared-keeps-valid, pen-keeps-valid, protected-keeps-pen, unprotected-keeps-pen, erasure-keeps-valid, disabled-keeps-valid, enabled-keeps-valid, refused-keeps-valid, half-keeps-valid, fresh-valid}
 use Rattle.steps.specs.Steps.{Terminal, silent, report, fullBlock, blockTransmission, Stepped, withState, goesTo, stores, sends, refusing, cursorCell, Valid, rowStart}
 use Rattle.steps.specs.Claims.{markLeft, Refusal}
 use Rattle.steps.proofs.Storing.{Stored, text-stored, blank-stored, up-stored, down-stored, erasing-stored}
@@ -39,7 +39,7 @@ use Rattle.table.specs.Moves.{toColumn, toRow, toPlace, moveStep}
 use Rattle.table.specs.Settings.{tabControl, rendition, setMode}
 use Rattle.commands.specs.Host.{eventStep, settledState, settled, hostStep}
 use Rattle.commands.proofs.Claims.{EndsEscS, Stores, no-cell, text-cell, erased-cells, all-cells, HostSound, EventSound}
-use Rattle.commands.proofs.Values.{some-value, zero-is-one, some-column, pen-after-all-keeps-pen, next-cell-keeps-valid}
+use Rattle.commands.proofs.Values.{some-value, zero-is-one, some-column, pen-after-all-keeps-pen}
 use Rattle.sequence.proofs.Events.{Tells, event-tells}
 
 then-keeps : {before between after : State} → KeepsValid before between → KeepsValid between after → KeepsValid before after

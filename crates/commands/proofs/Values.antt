@@ -1,20 +1,17 @@
--- The values that commands work with are as they may be: arguments, the pen, the next cell.
+-- The values that commands work with are as they may be: arguments, the pen.
 use mathlib.Core.Path.{_≡_, refl, ap, _∙_}
 use mathlib.Core.Bool.{true}
 use mathlib.Core.List.{List, [], _∷_}
 use Prim.Native.Nat.{ℕ, _≤_}
 use native.Mathlib.Omega.{arith}
-use borrow.Author.Tests.{ltb-true, eqb-true, eqb-false}
+use borrow.Author.Tests.{eqb-true, eqb-false}
 use lib.Dec.{eqb}
 use lib.ListN.{getD}
 use Rattle.words.specs.Choice.{if_then_else_, _and_, _or_, _is_to_}
 use Rattle.words.proofs.Choosing.{either-line}
-use Rattle.state.specs.declared.State.{State}
 use Rattle.state.specs.Pen.{validPen}
-use Rattle.state.specs.Tests.{validState}
-use Rattle.state.proofs.Keeping.{KeepsValid, parts, row-range, column-range, cursor-keeps-valid, plain-keeps-pen, bold-keeps-pen, underlined-keeps-pen, blinking-keeps-pen, reversed-keeps-pen, concealed-keeps-pen}
+use Rattle.state.proofs.Keeping.{plain-keeps-pen, bold-keeps-pen, underlined-keeps-pen, blinking-keeps-pen, reversed-keeps-pen, concealed-keeps-pen}
 use Rattle.table.specs.Table.{allowed, valueOf}
-use Rattle.state.specs.Moves.{toNextCell}
 use Rattle.table.specs.Moves.{keptColumn}
 use Rattle.table.specs.Settings.{penAfter, penAfterAll}
 
@@ -48,16 +45,3 @@ pub pen-after-all-keeps-pen : (values : List ℕ) (pen : ℕ) → validPen pen �
 unfolding penAfterAll
 pen-after-all-keeps-pen [] pen p = p
 pen-after-all-keeps-pen (value ∷ later) pen p = pen-after-all-keeps-pen later (penAfter value pen) (pen-after-keeps-pen value pen p)
-
--- The next cell in page order.
-pub next-cell-keeps-valid : (s : State) → validState s ≡ true → KeepsValid s (toNextCell s)
-unfolding toNextCell
-next-cell-keeps-valid s valid =
-    let fits = parts s valid .cursor in
-    let row = row-range (s .size) (s .cursor) fits in
-    let column = column-range (s .size) (s .cursor) fits in
-    either-line (KeepsValid s) _ _ _
-    (λ t. let less = ltb-true (s .cursor .column) (s .size .columns) t in cursor-keeps-valid s valid _ _ row (omega arith, omega arith))
-    (λ _. either-line (KeepsValid s) _ _ _
-    (λ t. let less = ltb-true (s .cursor .row) (s .size .rows) t in cursor-keeps-valid s valid _ 1 (omega arith, omega arith) (omega arith, omega arith))
-    (λ _. cursor-keeps-valid s valid 1 1 (omega arith, omega arith) (omega arith, omega arith)))

@@ -10,8 +10,9 @@ use Rattle.words.specs.Lists.{every}
 use Rattle.words.proofs.Choosing.{either-line, both, both-hold, range-is}
 use Rattle.words.proofs.Writing.{length-each, length-onPart}
 use Rattle.words.proofs.Passing.{passes, every-append, every-set, every-replicate, every-take, every-drop, every-each, every-onPart}
-use Rattle.page.specs.Marks.{validCharacter, validMark, withModified, withoutModified}
-use Rattle.page.specs.Page.{Page, pageOf, validPage, textStored, typed, erased, scrolledUp, scrolledDown, tagged, blanked, closedUp, movedRight, partStored, markAfterBlock, modifiedCleared}
+use Rattle.page.specs.Marks.{validCharacter, validMark, withModified}
+use Rattle.page.specs.Page.{Page, pageOf, cells, validPage, textStored, typed, erased, scrolledUp, scrolledDown, tagged, blanked, closedUp, movedRight, partStored, markAfterBlock, modifiedCleared}
+use Rattle.page.proofs.Bits.{OthersStay, stays-below, set-others, cleared-others}
 
 -- An operation takes no cell away and adds none.
 pub record SameSize (before after : Page) : Type 0 where
@@ -50,14 +51,17 @@ module _ (page : Page) (columns : ℕ) (fits : columns ≤ length (page .charact
     marks = simp (length-append, length-take, length-replicate) (omega arith);
   }
 
--- The marks that the keys and sending leave, and the blanks, are as they may be.
+-- A valid mark stays so whatever is done to a bit below 7: so do those that the keys and sending leave. And the blanks.
+pub mark-stays-valid : (n mark after : ℕ) → OthersStay n mark after → n < 7 → validMark mark ≡ true → validMark after ≡ true
+mark-stays-valid n mark after stay low p = lt-ltb after 0x80 (stays-below n mark after stay 7 low (ltb-true mark 0x80 p))
+
 modified-valid : (mark : ℕ) → validMark mark ≡ true → validMark (withModified mark) ≡ true
-modified-valid mark p = lt-ltb (withModified mark) 0x80 (omega (arith, ltb-true mark 0x80 p))
+modified-valid mark = mark-stays-valid 1 mark (withModified mark) (set-others 1 mark) (omega arith)
 
 sent-valid : (mark : ℕ) → validMark mark ≡ true → validMark (markAfterBlock mark) ≡ true
 unfolding markAfterBlock
 sent-valid mark p =
-    either-line (λ m. validMark m ≡ true) _ _ _ (λ _. p) (λ _. lt-ltb (withoutModified mark) 0x80 (omega (arith, ltb-true mark 0x80 p)))
+    either-line (λ m. validMark m ≡ true) _ _ _ (λ _. p) (λ _. mark-stays-valid 1 mark _ (cleared-others 1 mark) (omega arith) p)
 
 blank-valid : validCharacter 0x20 ≡ true
 blank-valid = range-is 0x20 0x20 0x7E (omega arith) (omega arith)
@@ -133,8 +137,8 @@ module _ (page : Page) (valid : validPage page ≡ true) where
   unfolding validPage scrolledDown
   scrolled-down-keeps-valid columns =
       both-hold _ _
-      (every-append _ (replicate columns 0x20) _ (every-replicate _ columns 0x20 blank-valid) (every-take _ (length (page .characters) - columns) _ characters-valid))
-      (every-append _ (replicate columns 0) _ (every-replicate _ columns 0 refl) (every-take _ (length (page .marks) - columns) _ marks-valid))
+      (every-append _ (replicate columns 0x20) _ (every-replicate _ columns 0x20 blank-valid) (every-take _ (cells page - columns) _ characters-valid))
+      (every-append _ (replicate columns 0) _ (every-replicate _ columns 0 refl) (every-take _ (cells page - columns) _ marks-valid))
 
   pub part-keeps-valid : {change : List ℕ → List ℕ} → KeepsPart change → (from to : ℕ) → validPage (partStored change from to page) ≡ true
   unfolding validPage tagged

@@ -5,14 +5,15 @@ use mathlib.Core.List.{List, [], _∷_, _++_}
 use Prim.Native.Nat.{ℕ, suc, _+_, _-_, _<_, _≤_}
 use native.Mathlib.Nat.{not-suc-le-zero}
 use native.Mathlib.Omega.{arith}
+use borrow.Author.Tests.{not-true, not-false}
 use lib.ListN.{length, take, drop, getD, set, replicate, length-drop, drop-of-length-le}
 use lib.Seq.{drop-cons, drop-drop, set-at, length-take-le}
 use Rattle.words.specs.Choice.{if_then_else_, _and_, _or_}
 use Rattle.words.specs.Lists.{within, each, onPart}
 use Rattle.words.proofs.Choosing.{then-case, else-case, both-hold, first-fails, second-fails}
 use Rattle.words.proofs.Writing.{pushed, each-last, each-first, inside, before-range, after-range}
-use Rattle.page.specs.Marks.{unprotected}
-use Rattle.page.specs.Page.{Page, pageOf, closedUp, movedRight, erasable, erased, scrolledUp, scrolledDown, pulledUp, pushedDown, tagged, partStored}
+use Rattle.page.specs.Marks.{withoutModified, unprotected}
+use Rattle.page.specs.Page.{Page, pageOf, cells, closedUp, movedRight, erasable, erased, scrolledUp, scrolledDown, pulledUp, pushedDown, tagged, partStored, markAfterBlock}
 
 -- The last store of `close_up`, and of `move_right`.
 pub closes-up : (part : List ℕ) → 0 < length part → set (drop 1 part ++ drop (length part - 1) part) (length part - 1) 0x20 ≡ closedUp part
@@ -55,6 +56,16 @@ pub still-erasable : (mode : Bool) (before now : List ℕ) (cell : ℕ) → getD
 unfolding erasable unprotected
 still-erasable mode before now cell same = rw same
 
+-- What sending makes of the mark of a cell.
+module _ (marks : List ℕ) (cell : ℕ) where
+  pub sent-unprotected : unprotected marks cell ≡ true → markAfterBlock (getD marks cell 0) ≡ withoutModified (getD marks cell 0)
+  unfolding unprotected markAfterBlock
+  sent-unprotected free = else-case _ _ _ (not-true _ free)
+
+  pub sent-protected : unprotected marks cell ≡ false → markAfterBlock (getD marks cell 0) ≡ getD marks cell 0
+  unfolding unprotected markAfterBlock
+  sent-protected protected = then-case _ _ _ (not-false _ protected)
+
 -- The row that a scroll has left, erased whatever its marks are.
 module _ (v columns : ℕ) (list marks : List ℕ) (fits : columns ≤ length list) where
   last-row : (end : ℕ) → end ≡ length list → each (erasing true (end - columns) end marks v) (drop columns list ++ drop (length list - columns) list) ≡ drop columns list ++ replicate columns v
@@ -67,20 +78,20 @@ module _ (v columns : ℕ) (list marks : List ℕ) (fits : columns ≤ length li
       (λ k x h l. erases true (end - columns) end marks v k x (omega arith) (omega arith) refl)
       ∙ rw b
 
-  first-row : each (erasing true 0 columns marks v) (pushed columns list) ≡ replicate columns v ++ take (length list - columns) list
+  first-row : (end : ℕ) → end ≡ length list → each (erasing true 0 columns marks v) (pushed columns list) ≡ replicate columns v ++ take (end - columns) list
   unfolding erasable _or_
-  first-row =
+  first-row end e =
       let a : length (take columns list) ≡ columns = length-take-le columns list fits in
       each-first _ v (take columns list) (take (length list - columns) list)
       (λ k x h. erases true 0 columns marks v k x (omega arith) (omega arith) refl)
       (λ k x h. leaves-after true 0 columns marks v k x (omega arith))
-      ∙ rw a
+      ∙ rw (a, e)
 
 module _ (columns : ℕ) (page moved scrolled : Page) (fits : columns ≤ length (page .characters)) (same : length (page .marks) ≡ length (page .characters)) where
   pub scrolls-up : moved ≡ pulledUp columns page → scrolled ≡ erased true (length (page .characters) - columns) (length (page .characters)) moved → scrolled ≡ scrolledUp columns page
   unfolding erased scrolledUp
   scrolls-up is-moved is-erased =
-      let end = length (page .characters) in
+      let end = cells page in
       let marks = pulledUp columns page .marks in
       is-erased ∙ ap (erased true (end - columns) end) is-moved
       ∙ (λ i. pageOf (last-row 0x20 columns (page .characters) marks fits end refl i) (last-row 0 columns (page .marks) marks (omega arith) end (sym same) i))
@@ -88,6 +99,7 @@ module _ (columns : ℕ) (page moved scrolled : Page) (fits : columns ≤ length
   pub scrolls-down : moved ≡ pushedDown columns page → scrolled ≡ erased true 0 columns moved → scrolled ≡ scrolledDown columns page
   unfolding erased scrolledDown
   scrolls-down is-moved is-erased =
+      let end = cells page in
       let marks = pushedDown columns page .marks in
       is-erased ∙ ap (erased true 0 columns) is-moved
-      ∙ (λ i. pageOf (first-row 0x20 columns (page .characters) marks fits i) (first-row 0 columns (page .marks) marks (omega arith) i))
+      ∙ (λ i. pageOf (first-row 0x20 columns (page .characters) marks fits end refl i) (first-row 0 columns (page .marks) marks (omega arith) end (sym same) i))

@@ -2,31 +2,28 @@
 use mathlib.Core.Path.{_≡_, refl, ap, _∙_}
 use mathlib.Core.Bool.{true, false, not}
 use mathlib.Core.List.{List}
-use Prim.Native.Nat.{ℕ, _+_, _*_, _/_, _%_, _<_, _≤_}
+use Prim.Native.Nat.{ℕ, _<_, _≤_}
 use native.Mathlib.Omega.{arith}
-use borrow.Author.Tests.{eq-eqb, not-false}
 use lib.ListN.{length, getD}
 use lib.Seq.{getD-set-same}
 use Rattle.words.specs.Lists.{within}
 use Rattle.words.proofs.Choosing.{then-case, else-case, either-line}
 use Rattle.words.proofs.Writing.{each-at, each-keeps, set-keeps, inside, outside-range}
-use Rattle.page.specs.Marks.{isProtected, isModified, withModified, unprotected}
+use Rattle.page.specs.Marks.{isProtected, isModified, withModified, withoutModified, unprotected}
 use Rattle.page.specs.Page.{Page, typed, tagged, markAfterBlock, modifiedCleared}
+use Rattle.page.proofs.Laws.{sent-protected}
+use Rattle.page.proofs.Bits.{other-bit, set-others, set-bit, cleared-others}
 
 -- Tagging and sending leave bit 0 of a mark.
 modified-protection : (mark : ℕ) → isProtected (withModified mark) ≡ isProtected mark
-modified-protection mark = let bit : (mark / 4 * 4 + 2 + mark % 2) % 2 ≡ mark % 2 = omega arith in rw bit
+modified-protection mark = other-bit 1 mark (withModified mark) (set-others 1 mark) 0 (λ same. omega arith)
 
 pub sent-protection : (mark : ℕ) → isProtected (markAfterBlock mark) ≡ isProtected mark
 unfolding markAfterBlock
 sent-protection mark =
     either-line (λ (m : ℕ). isProtected m ≡ isProtected mark) _ _ _
     (λ _. refl)
-    (λ _. let bit : (mark / 4 * 4 + mark % 2) % 2 ≡ mark % 2 = omega arith in rw bit)
-
--- Tagging sets bit 1.
-is-modified : (mark : ℕ) → isModified (withModified mark) ≡ true
-is-modified mark = eq-eqb (withModified mark / 2 % 2) 1 (omega arith)
+    (λ _. other-bit 1 mark (withoutModified mark) (cleared-others 1 mark) 0 (λ same. omega arith))
 
 -- A typed character.
 module _ (page : Page) (cell character : ℕ) where
@@ -36,7 +33,7 @@ module _ (page : Page) (cell character : ℕ) where
 
   pub typed-modified : cell < length (page .marks) → isModified (getD (typed cell character page .marks) cell 0) ≡ true
   unfolding typed
-  typed-modified here = ap isModified (getD-set-same (page .marks) cell _ 0 here) ∙ is-modified (getD (page .marks) cell 0)
+  typed-modified here = ap isModified (getD-set-same (page .marks) cell _ 0 here) ∙ set-bit 1 (getD (page .marks) cell 0)
 
 -- Cells that were tagged.
 module _ (from to : ℕ) (marks : List ℕ) (cell : ℕ) where
@@ -54,7 +51,7 @@ module _ (from to : ℕ) (marks : List ℕ) (cell : ℕ) where
   pub tagged-modified : from ≤ cell → cell < to → cell < length marks → isModified (getD (tagged from to marks) cell 0) ≡ true
   unfolding tagged
   tagged-modified low high here =
-      ap isModified (each-at _ marks cell here ∙ then-case _ _ _ (inside from to cell low high)) ∙ is-modified (getD marks cell 0)
+      ap isModified (each-at _ marks cell here ∙ then-case _ _ _ (inside from to cell low high)) ∙ set-bit 1 (getD marks cell 0)
 
 -- Marks that were sent.
 module _ (marks : List ℕ) (cell : ℕ) where
@@ -63,5 +60,5 @@ module _ (marks : List ℕ) (cell : ℕ) where
   cleared-protection = ap not (each-keeps _ marks cell isProtected (sent-protection (getD marks cell 0)))
 
   pub protected-uncleared : unprotected marks cell ≡ false → getD (modifiedCleared marks) cell 0 ≡ getD marks cell 0
-  unfolding unprotected modifiedCleared markAfterBlock
-  protected-uncleared protected = each-keeps _ marks cell (λ (mark : ℕ). mark) (then-case _ _ _ (not-false _ protected))
+  unfolding modifiedCleared
+  protected-uncleared protected = each-keeps _ marks cell (λ (mark : ℕ). mark) (sent-protected marks cell protected)

@@ -1,39 +1,49 @@
 -- Document 01, "The terminal and its sources": what a cell has, a character and a byte of marks.
 use mathlib.Core.Bool.{Bool, not}
 use mathlib.Core.List.{List}
-use Prim.Native.Nat.{ℕ, _+_, _*_, _/_, _%_}
+use Prim.Native.Nat.{ℕ, _+_, _*_, _/_, _%_, _^_}
 use lib.Dec.{ltb, eqb}
 use lib.ListN.{getD}
 use Rattle.words.specs.Choice.{_is_to_}
 
--- `mark` is a cell's whole byte of marks; each question asks for one of its bits, from the lowest up.
+-- `mark` is a cell's whole byte of marks. Bit n of it, counted from 0 at the lowest: read, set and cleared; the others stay.
+abbrev pub hasBit : ℕ → ℕ → Bool
+hasBit n mark = eqb (mark / 2 ^ n % 2) 1
+
+abbrev pub withBit : ℕ → ℕ → ℕ
+withBit n mark = mark / 2 ^ (1 + n) * 2 ^ (1 + n) + 2 ^ n + mark % 2 ^ n
+
+abbrev pub withoutBit : ℕ → ℕ → ℕ
+withoutBit n mark = mark / 2 ^ (1 + n) * 2 ^ (1 + n) + mark % 2 ^ n
+
+-- A question for each mark.
 abbrev pub isProtected : ℕ → Bool
-isProtected mark = eqb (mark % 2) 1
+isProtected = hasBit 0
 
 abbrev pub isModified : ℕ → Bool
-isModified mark = eqb (mark / 2 % 2) 1
+isModified = hasBit 1
 
 abbrev pub isBold : ℕ → Bool
-isBold mark = eqb (mark / 4 % 2) 1
+isBold = hasBit 2
 
 abbrev pub isUnderlined : ℕ → Bool
-isUnderlined mark = eqb (mark / 8 % 2) 1
+isUnderlined = hasBit 3
 
 abbrev pub isBlinking : ℕ → Bool
-isBlinking mark = eqb (mark / 16 % 2) 1
+isBlinking = hasBit 4
 
 abbrev pub isReversed : ℕ → Bool
-isReversed mark = eqb (mark / 32 % 2) 1
+isReversed = hasBit 5
 
 abbrev pub isConcealed : ℕ → Bool
-isConcealed mark = eqb (mark / 64 % 2) 1
+isConcealed = hasBit 6
 
--- The marks with bit 1 set, and cleared; the other bits stay.
+-- The marks with modified set, and cleared.
 abbrev pub withModified : ℕ → ℕ
-withModified mark = mark / 4 * 4 + 2 + mark % 2
+withModified = withBit 1
 
 abbrev pub withoutModified : ℕ → ℕ
-withoutModified mark = mark / 4 * 4 + mark % 2
+withoutModified = withoutBit 1
 
 -- A character is 20 to 7E; bit 7 of the marks is zero.
 abbrev pub validCharacter : ℕ → Bool

@@ -16,6 +16,10 @@ pub record Page : Type 0 where
 abbrev pub pageOf : List ℕ → List ℕ → Page
 pageOf characters marks = record { characters = characters; marks = marks }
 
+-- How many cells a page has. (A page that passes line 1 has as many marks.)
+abbrev pub cells : Page → ℕ
+cells page = length (page .characters)
+
 -- "Numbers a call gives back", 2: every character is 20 to 7E, and bit 7 of every marks byte is zero.
 unfoldable pub validPage : Page → Bool
 validPage page = every validCharacter (page .characters) and every validMark (page .marks)
@@ -62,8 +66,8 @@ scrolledUp columns page =
 unfoldable pub scrolledDown : ℕ → Page → Page
 scrolledDown columns page =
     record {
-      characters = replicate columns 0x20 ++ take (length (page .characters) - columns) (page .characters);
-      marks = replicate columns 0 ++ take (length (page .marks) - columns) (page .marks);
+      characters = replicate columns 0x20 ++ take (cells page - columns) (page .characters);
+      marks = replicate columns 0 ++ take (cells page - columns) (page .marks);
     }
 
 -- A scroll without the new row: the last row, or the first, stays as it is. (Steps on the way to the two above.)

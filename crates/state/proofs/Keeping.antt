@@ -1,6 +1,6 @@
 -- What the tests of a state tell, and that every change of it leaves a valid state and the page's size.
-use mathlib.Core.Path.{_≡_, refl}
-use mathlib.Core.Bool.{Bool, true, false}
+use mathlib.Core.Path.{_≡_, refl, ap, _∙_}
+use mathlib.Core.Bool.{Bool, true, false, not}
 use mathlib.Core.List.{List}
 use mathlib.Core.Logic.{_⊎_, inl, inr, ⊎-elim}
 use Prim.Native.Nat.{ℕ, zero, suc, _-_, _/_, _%_, _<_, _≤_}
@@ -15,11 +15,13 @@ use Rattle.words.proofs.Choosing.{either-line, both, both-hold, one-holds, rang
 use Rattle.sequence.specs.declared.HalfRead.{HalfRead}
 use Rattle.sequence.specs.Record.{validHalfRead}
 use Rattle.sequence.proofs.Keeping.{nothing-valid}
+use Rattle.page.proofs.Bits.{OthersStay, other-bit, set-others, cleared-others}
+use Rattle.page.proofs.Keeping.{mark-stays-valid}
 use Rattle.state.specs.declared.Size.{Size}
 use Rattle.state.specs.declared.Cursor.{Cursor}
 use Rattle.state.specs.declared.State.{State}
 use Rattle.state.specs.State.{OnPage, withCursor, cursorAt, withLocks, withStops, withHalf, freshState, refused, inputDisabled, inputEnabled, unlocked}
-use Rattle.state.specs.Moves.{backBy, onBy, upBy, downBy, rightBy, leftBy, toMargin}
+use Rattle.state.specs.Moves.{backBy, onBy, upBy, downBy, rightBy, leftBy, toMargin, toNextCell}
 use Rattle.state.specs.Tabs.{stopSet, stopCleared, stopsCleared, stopsOn, stopsBack, tabbedOn, tabbedBack}
 use Rattle.state.specs.Pen.{penProtected, penUnprotected, penPlain, penBold, penUnderlined, penBlinking, penReversed, penConcealed, validPen, withPen, withErasure}
 use Rattle.state.specs.Tests.{listedRows, listedColumns, listedSize, cursorFits, stopsFit, validState}
@@ -145,32 +147,35 @@ unfolding validPen
 pen-in-range pen h k = both-hold _ _ (lt-ltb pen 0x80 h) (rw (ne-eqb (pen / 2 % 2) 1 (λ e. omega arith)))
 
 module _ (pen : ℕ) (valid : validPen pen ≡ true) where
-  new-pen : (new : ℕ) → (pen < 0x80 → pen / 2 % 2 ≡ 0 → (new < 0x80) × (new / 2 % 2 ≡ 0)) → validPen new ≡ true
-  new-pen new keeps = let was = pen-range pen valid in let now = keeps (was .0) (was .1) in pen-in-range new (now .0) (now .1)
+  -- a pen may have any bit below 7 changed but modified
+  stays-in-range : (n new : ℕ) → OthersStay n pen new → n < 7 → (1 ≡ n → ⊥) → validPen new ≡ true
+  unfolding validPen
+  stays-in-range n new stay low other =
+      both-hold _ _ (mark-stays-valid n pen new stay low (both valid .0)) (ap not (other-bit n pen new stay 1 other) ∙ both valid .1)
 
   pub protected-keeps-pen : validPen (penProtected pen) ≡ true
-  protected-keeps-pen = new-pen (penProtected pen) (λ h k. (omega arith, omega arith))
+  protected-keeps-pen = stays-in-range 0 _ (set-others 0 pen) (omega arith) (omega arith)
 
   pub unprotected-keeps-pen : validPen (penUnprotected pen) ≡ true
-  unprotected-keeps-pen = new-pen (penUnprotected pen) (λ h k. (omega arith, omega arith))
-
-  pub plain-keeps-pen : validPen (penPlain pen) ≡ true
-  plain-keeps-pen = new-pen (penPlain pen) (λ h k. (omega arith, omega arith))
+  unprotected-keeps-pen = stays-in-range 0 _ (cleared-others 0 pen) (omega arith) (omega arith)
 
   pub bold-keeps-pen : validPen (penBold pen) ≡ true
-  bold-keeps-pen = new-pen (penBold pen) (λ h k. (omega arith, omega arith))
+  bold-keeps-pen = stays-in-range 2 _ (set-others 2 pen) (omega arith) (omega arith)
 
   pub underlined-keeps-pen : validPen (penUnderlined pen) ≡ true
-  underlined-keeps-pen = new-pen (penUnderlined pen) (λ h k. (omega arith, omega arith))
+  underlined-keeps-pen = stays-in-range 3 _ (set-others 3 pen) (omega arith) (omega arith)
 
   pub blinking-keeps-pen : validPen (penBlinking pen) ≡ true
-  blinking-keeps-pen = new-pen (penBlinking pen) (λ h k. (omega arith, omega arith))
+  blinking-keeps-pen = stays-in-range 4 _ (set-others 4 pen) (omega arith) (omega arith)
 
   pub reversed-keeps-pen : validPen (penReversed pen) ≡ true
-  reversed-keeps-pen = new-pen (penReversed pen) (λ h k. (omega arith, omega arith))
+  reversed-keeps-pen = stays-in-range 5 _ (set-others 5 pen) (omega arith) (omega arith)
 
   pub concealed-keeps-pen : validPen (penConcealed pen) ≡ true
-  concealed-keeps-pen = new-pen (penConcealed pen) (λ h k. (omega arith, omega arith))
+  concealed-keeps-pen = stays-in-range 6 _ (set-others 6 pen) (omega arith) (omega arith)
+
+  pub plain-keeps-pen : validPen (penPlain pen) ≡ true
+  plain-keeps-pen = pen-in-range (penPlain pen) (omega arith) (omega arith)
 
 -- A change of the state that leaves it valid, and the page's size as it was.
 pub record KeepsValid (before after : State) : Type 0 where
@@ -213,6 +218,17 @@ module _ (s : State) (valid : validState s ≡ true) where
   pub margin-keeps-valid : KeepsValid s (toMargin s)
   unfolding toMargin
   margin-keeps-valid = let here = column-was in cursor-keeps-valid _ 1 row-was (omega arith, omega arith)
+
+  pub next-cell-keeps-valid : KeepsValid s (toNextCell s)
+  unfolding toNextCell
+  next-cell-keeps-valid =
+      let row = row-was in
+      let column = column-was in
+      either-line (KeepsValid s) _ _ _
+      (λ t. let less = ltb-true (s .cursor .column) (s .size .columns) t in cursor-keeps-valid _ _ row (omega arith, omega arith))
+      (λ _. either-line (KeepsValid s) _ _ _
+      (λ t. let less = ltb-true (s .cursor .row) (s .size .rows) t in cursor-keeps-valid _ 1 (omega arith, omega arith) (omega arith, omega arith))
+      (λ _. cursor-keeps-valid 1 1 (omega arith, omega arith) (omega arith, omega arith)))
 
   pub tab-on-keeps-valid : (n : ℕ) → KeepsValid s (tabbedOn n s)
   unfolding tabbedOn

@@ -2,3 +2,4 @@ pub mod Laws
 pub mod Keeping
 pub mod Lines
 pub mod Pens
+pub mod Arrays

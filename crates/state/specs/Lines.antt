@@ -4,7 +4,7 @@ use mathlib.Core.Bool.{true}
 use Prim.Native.Nat.{ℕ, _*_, _<_, _≤_}
 use lib.ListN.{length, getD}
 use Rattle.page.specs.Marks.{isModified}
-use Rattle.page.specs.Page.{Page}
+use Rattle.page.specs.Page.{Page, cells}
 use Rattle.sequence.specs.Range.{HalfReadOutOfRange}
 use Rattle.state.specs.declared.Size.{Size}
 use Rattle.state.specs.declared.State.{State}
@@ -14,7 +14,7 @@ use Rattle.state.specs.Tabs.{stopAt}
 pub data Line1 (size : Size) (page : Page) : Type 0 where
   rows-not-listed : (size .rows ≡ 24 → ⊥) → (size .rows ≡ 27 → ⊥) → (size .rows ≡ 48 → ⊥) → Line1 size page
   columns-not-listed : (size .columns ≡ 80 → ⊥) → (size .columns ≡ 132 → ⊥) → (size .columns ≡ 160 → ⊥) → Line1 size page
-  characters-not-as-long : (length (page .characters) ≡ size .rows * size .columns → ⊥) → Line1 size page
+  characters-not-as-long : (cells page ≡ size .rows * size .columns → ⊥) → Line1 size page
   marks-not-as-long : (length (page .marks) ≡ size .rows * size .columns → ⊥) → Line1 size page
 
 -- A cell is 20 to 7E, and bit 7 of its marks is zero: a byte below 80. The pen is a marks byte without modified.
@@ -25,8 +25,8 @@ pub data Line2 (s : State) (page : Page) : Type 0 where
   before-first-column : s .cursor .column < 1 → Line2 s page
   past-last-column : s .size .columns < s .cursor .column → Line2 s page
   -- what a cell has
-  cell-too-low : (cell : ℕ) → cell < length (page .characters) → getD (page .characters) cell 0 < 0x20 → Line2 s page
-  cell-too-high : (cell : ℕ) → cell < length (page .characters) → 0x7E < getD (page .characters) cell 0 → Line2 s page
+  cell-too-low : (cell : ℕ) → cell < cells page → getD (page .characters) cell 0 < 0x20 → Line2 s page
+  cell-too-high : (cell : ℕ) → cell < cells page → 0x7E < getD (page .characters) cell 0 → Line2 s page
   marks-bit-7 : (cell : ℕ) → cell < length (page .marks) → 0x80 ≤ getD (page .marks) cell 0 → Line2 s page
   -- a tab stop off the page
   stop-past-last-column : (column : ℕ) → s .size .columns < column → stopAt (s .stops) column ≡ true → Line2 s page

@@ -6,7 +6,7 @@ use lib.Dec.{leb, eqb}
 use lib.ListN.{length, drop}
 use Rattle.words.specs.Choice.{_and_, _or_, _is_to_}
 use Rattle.words.specs.Lists.{every}
-use Rattle.page.specs.Page.{Page}
+use Rattle.page.specs.Page.{Page, cells}
 use Rattle.sequence.specs.Record.{validHalfRead}
 use Rattle.state.specs.declared.Size.{Size}
 use Rattle.state.specs.declared.Cursor.{Cursor}
@@ -27,7 +27,7 @@ listedSize size = listedRows (size .rows) and listedColumns (size .columns)
 unfoldable pub sizeFits : Size → Page → Bool
 sizeFits size page =
     listedSize size
-    and eqb (length (page .characters)) (size .rows * size .columns)
+    and eqb (cells page) (size .rows * size .columns)
     and eqb (length (page .marks)) (size .rows * size .columns)
 
 -- The cursor is on the page.

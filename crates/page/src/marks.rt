@@ -1,0 +1,96 @@
+// The marks of a cell, a bit for each; see specs/Marks.antt.
+ghost use mathlib.Core.Path.{_≡_};
+ghost use Prim.Native.Nat.{_<_};
+ghost use lib.ListN.{length, getD, set};
+ghost use Rattle.page.specs.Marks.{isProtected, isModified, isBold, isUnderlined, isBlinking, isReversed};
+ghost use Rattle.page.specs.Marks.{isConcealed, withModified, withoutModified, unprotected};
+
+// What a cell has beside its character, a bit for each mark; bit 7 is zero.
+pub type Mark = u8;
+
+// Bit 0: protected.
+pub fn is_protected(mark: Mark) -> bool
+    ensures { λ r. ⌜ r ≡ isProtected mark ⌝ }
+{
+    mark % 2 == 1
+}
+
+// Bit 1: modified, that is, changed by a key since the last block.
+pub fn is_modified(mark: Mark) -> bool
+    ensures { λ r. ⌜ r ≡ isModified mark ⌝ }
+{
+    mark / 2 % 2 == 1
+}
+
+// Bits 2 to 6, the visual marks: bold.
+pub fn is_bold(mark: Mark) -> bool
+    ensures { λ r. ⌜ r ≡ isBold mark ⌝ }
+{
+    mark / 4 % 2 == 1
+}
+
+// Underlined.
+pub fn is_underlined(mark: Mark) -> bool
+    ensures { λ r. ⌜ r ≡ isUnderlined mark ⌝ }
+{
+    mark / 8 % 2 == 1
+}
+
+// Blinking.
+pub fn is_blinking(mark: Mark) -> bool
+    ensures { λ r. ⌜ r ≡ isBlinking mark ⌝ }
+{
+    mark / 16 % 2 == 1
+}
+
+// Reversed.
+pub fn is_reversed(mark: Mark) -> bool
+    ensures { λ r. ⌜ r ≡ isReversed mark ⌝ }
+{
+    mark / 32 % 2 == 1
+}
+
+// Concealed.
+pub fn is_concealed(mark: Mark) -> bool
+    ensures { λ r. ⌜ r ≡ isConcealed mark ⌝ }
+{
+    mark / 64 % 2 == 1
+}
+
+// The mark of a cell that a key has stored.
+pub fn with_modified(mark: Mark) -> Mark
+    ensures { λ r. ⌜ r ≡ withModified mark ⌝ }
+{
+    mark / 4 * 4 + 2 + mark % 2
+}
+
+// The mark of a cell that a block has sent.
+pub fn without_modified(mark: Mark) -> Mark
+    ensures { λ r. ⌜ r ≡ withoutModified mark ⌝ }
+{
+    mark / 4 * 4 + mark % 2
+}
+
+// The one function that reads a mark: nothing else indexes the marks.
+pub fn mark_at(marks: &[Mark], cell: usize) -> Mark
+    requires { ⌜ cell < length (now marks) ⌝ }
+    ensures { λ r. ⌜ r ≡ getD (now (marks .entry)) cell 0 ⌝ }
+{
+    marks[cell]
+}
+
+// The one function that writes a mark.
+pub fn set_mark(marks: &mut [Mark], cell: usize, mark: Mark)
+    requires { ⌜ cell < length (now marks) ⌝ }
+    ensures { λ _. ⌜ now (marks .exit) ≡ set (now (marks .entry)) cell mark ⌝ }
+{
+    marks[cell] = mark;
+}
+
+// The one function that says whether a cell is unprotected.
+pub fn is_unprotected(marks: &[Mark], cell: usize) -> bool
+    requires { ⌜ cell < length (now marks) ⌝ }
+    ensures { λ r. ⌜ r ≡ unprotected (now (marks .entry)) cell ⌝ }
+{
+    !is_protected(mark_at(marks, cell))
+}

@@ -1,0 +1,91 @@
+// The pen and erasure mode; see specs/Pen.antt.
+use crate::Modes;
+use crate::State;
+use page::Mark;
+ghost use mathlib.Core.Path.{_≡_};
+ghost use Rattle.state.specs.Pen.{penProtected, penUnprotected, penPlain, penBold, penUnderlined};
+ghost use Rattle.state.specs.Pen.{penBlinking, penReversed, penConcealed, withPen, withErasure};
+
+// ESC V: what is written is protected.
+pub fn pen_protected(pen: Mark) -> Mark
+    ensures { λ r. ⌜ r ≡ penProtected pen ⌝ }
+{
+    pen / 2 * 2 + 1
+}
+
+// ESC W: what is written is unprotected.
+pub fn pen_unprotected(pen: Mark) -> Mark
+    ensures { λ r. ⌜ r ≡ penUnprotected pen ⌝ }
+{
+    pen / 2 * 2
+}
+
+// m 0: no visual marks; protection stays.
+pub fn pen_plain(pen: Mark) -> Mark
+    ensures { λ r. ⌜ r ≡ penPlain pen ⌝ }
+{
+    pen % 2
+}
+
+// m 1.
+pub fn pen_bold(pen: Mark) -> Mark
+    ensures { λ r. ⌜ r ≡ penBold pen ⌝ }
+{
+    pen / 8 * 8 + 4 + pen % 4
+}
+
+// m 4.
+pub fn pen_underlined(pen: Mark) -> Mark
+    ensures { λ r. ⌜ r ≡ penUnderlined pen ⌝ }
+{
+    pen / 16 * 16 + 8 + pen % 8
+}
+
+// m 5.
+pub fn pen_blinking(pen: Mark) -> Mark
+    ensures { λ r. ⌜ r ≡ penBlinking pen ⌝ }
+{
+    pen / 32 * 32 + 16 + pen % 16
+}
+
+// m 7.
+pub fn pen_reversed(pen: Mark) -> Mark
+    ensures { λ r. ⌜ r ≡ penReversed pen ⌝ }
+{
+    pen / 64 * 64 + 32 + pen % 32
+}
+
+// m 8.
+pub fn pen_concealed(pen: Mark) -> Mark
+    ensures { λ r. ⌜ r ≡ penConcealed pen ⌝ }
+{
+    pen / 128 * 128 + 64 + pen % 64
+}
+
+impl State {
+    // Another pen.
+    pub fn with_pen(self, pen: Mark) -> Self
+        ensures { λ r. ⌜ r ≡ withPen self pen ⌝ }
+    {
+        let modes = Modes {
+            pen,
+            erasure: self.modes.erasure,
+        };
+        let mut next = self;
+        next.modes = modes;
+        next
+    }
+
+    // Mode 6, erasure, set or reset.
+    pub fn with_erasure(self, erasure: bool) -> Self
+        ensures { λ r. ⌜ r ≡ withErasure self erasure ⌝ }
+    {
+        let modes = Modes {
+            pen: self.modes.pen,
+            erasure,
+        };
+        let mut next = self;
+        next.modes = modes;
+        next
+    }
+}
