@@ -15,7 +15,7 @@ use Rattle.words.specs.Output.{placed}
 use Rattle.terminal.specs.Runs.{stepsOf, after, bytesSentBy}
 use Rattle.terminal.specs.Answers.{Outcome, bytesSent}
 use Rattle.terminal.specs.Calls.{hostCall, keyCall}
-use Rattle.terminal.proofs.Deciding.{valid-holds, key-done}
+use Rattle.terminal.proofs.Deciding.{key-done}
 use Rattle.terminal.proofs.Cases.{host-did}
 use Rattle.promises.specs.Rules.{ourRules, Input, byte, press, stepOf, steps}
 use Rattle.promises.specs.Entries.{ourEntries, Call, read, keyPress, outcomeOf, outcomes, callAll, inputsOf, inputsDone}
@@ -173,7 +173,7 @@ end = at 5 (form 0x58 0x59 noTag)
 pub call-267 : keyCall start 267 (replicate 17 0) ≡ leaves 0 0 0 (fullBytes 0x41 0x43) start
 unfolding validity keySteps calls
 call-267 =
-    key-done start 267 (replicate 17 0) refl (valid-holds start start-valid) refl refl refl (omega (arith, ap length (full-noTag 0x41 0x43)))
+    key-done start 267 (replicate 17 0) (record { valid = start-valid; known = refl; not-locked-out = refl; has-cell = refl }) (omega (arith, ap length (full-noTag 0x41 0x43)))
     ∙ (λ i. record { number = 0; taken = 0; sent = length (full-noTag 0x41 0x43 i); stored = 0; terminal = start; output = placed 0 (full-noTag 0x41 0x43 i) (replicate 17 0) })
 
 typedX-valid : Valid typedX
@@ -197,7 +197,7 @@ typedY-valid = record { size = refl; state = refl; page = refl }
 call-266 : keyCall typedY 266 (replicate 9 0) ≡ leaves 0 0 0 changedBytes end
 unfolding validity keySteps calls
 call-266 =
-    key-done typedY 266 (replicate 9 0) refl (valid-holds typedY typedY-valid) refl refl refl (omega (arith, ap length changed-secondTagged))
+    key-done typedY 266 (replicate 9 0) (record { valid = typedY-valid; known = refl; not-locked-out = refl; has-cell = refl }) (omega (arith, ap length changed-secondTagged))
     ∙ (λ i. record { number = 0; taken = 0; sent = length (changed-secondTagged i); stored = 0; terminal = end; output = placed 0 (changed-secondTagged i) (replicate 9 0) })
 
 -- All that is seen, call by call; and the inputs that these calls did are those above.
