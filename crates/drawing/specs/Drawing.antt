@@ -17,7 +17,8 @@ use Rattle.sequence.specs.declared.HalfRead.{HalfRead}
 use Rattle.state.specs.declared.Modes.{Modes}
 use Rattle.state.specs.declared.Locks.{Locks}
 use Rattle.state.specs.declared.State.{State}
-use Rattle.numerals.specs.Text.{bytes, fiveDigits}
+use Rattle.words.specs.Text.{bytes}
+use Rattle.numerals.specs.Text.{fiveDigits}
 use Rattle.numerals.specs.Hexadecimal.{hexByte, hexOf}
 
 abbrev pub lineEnd : List ℕ

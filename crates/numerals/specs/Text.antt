@@ -1,14 +1,7 @@
--- Words and numbers as text.
+-- Numbers as text.
 use mathlib.Core.List.{List, [], _∷_}
 use Prim.Native.Nat.{ℕ, _+_, _/_, _%_}
 use Prim.Native.Char.{code}
-use Prim.Native.String as string
-use Prim.Native.String.{String}
-
--- The codes of a word's characters.
-abbrev pub bytes : String → List ℕ
-bytes string.[] = []
-bytes (string._∷_ character word) = code character ∷ bytes word
 
 -- A number below 100,000, with leading zeros.
 abbrev pub fiveDigits : ℕ → List ℕ

@@ -13,11 +13,11 @@ use Rattle.blocks.specs.Finding.{blocksIn}
 use Rattle.page.specs.Page.{Page}
 use Rattle.steps.specs.Steps.{Terminal, silent, report, fullBlock, changedBlock, Stepped, Valid}
 use Rattle.words.specs.Output.{placed}
-use Rattle.numerals.specs.Text.{bytes}
+use Rattle.words.specs.Text.{bytes}
 use Rattle.terminal.specs.Runs.{stepsOf, after, bytesSentBy}
 use Rattle.terminal.specs.Answers.{Outcome, bytesSent}
 use Rattle.terminal.specs.Calls.{hostCall, keyCall}
-use Rattle.terminal.proofs.Deciding.{valid-holds, key-done}
+use Rattle.terminal.proofs.Deciding.{key-done}
 use Rattle.terminal.proofs.Cases.{host-did}
 use Rattle.promises.specs.Rules.{ourRules, Input, byte, press, stepOf, steps}
 use Rattle.promises.specs.Entries.{ourEntries, Call, read, keyPress, outcomeOf, outcomes, callAll, inputsOf, inputsDone}
@@ -178,7 +178,7 @@ end = at 5 (form "X" "Y" noTag)
 pub call-267 : keyCall start 267 (replicate 17 0) ≡ leaves 0 0 0 (fullBytes "A" "C") start
 unfolding validity keySteps calls
 call-267 =
-    key-done start 267 (replicate 17 0) refl (valid-holds start start-valid) refl refl refl (omega (arith, ap length (full-noTag "A" "C")))
+    key-done start 267 (replicate 17 0) (record { valid = start-valid; known = refl; not-locked-out = refl; has-cell = refl }) (omega (arith, ap length (full-noTag "A" "C")))
     ∙ (λ i. record { number = 0; taken = 0; sent = length (full-noTag "A" "C" i); stored = 0; terminal = start; output = placed 0 (full-noTag "A" "C" i) (replicate 17 0) })
 
 typedX-valid : Valid typedX
@@ -202,7 +202,7 @@ typedY-valid = record { size = refl; state = refl; page = refl }
 call-266 : keyCall typedY 266 (replicate 9 0) ≡ leaves 0 0 0 changedBytes end
 unfolding validity keySteps calls
 call-266 =
-    key-done typedY 266 (replicate 9 0) refl (valid-holds typedY typedY-valid) refl refl refl (omega (arith, ap length changed-secondTagged))
+    key-done typedY 266 (replicate 9 0) (record { valid = typedY-valid; known = refl; not-locked-out = refl; has-cell = refl }) (omega (arith, ap length changed-secondTagged))
     ∙ (λ i. record { number = 0; taken = 0; sent = length (changed-secondTagged i); stored = 0; terminal = end; output = placed 0 (changed-secondTagged i) (replicate 9 0) })
 
 -- All that is seen, call by call; and the inputs that these calls did are those above.

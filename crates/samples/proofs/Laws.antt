@@ -93,7 +93,7 @@ key-fits t key lent = go (key-case t key lent)
   where
     go : KeyCase t key lent → keyCall t key lent .sent ≤ length (keyCall t key lent .output)
     go (Cases.refused answer not-done is) = rw is (omega arith)
-    go (Cases.pressed valid known free has fits is) =
+    go (Cases.pressed passes fits is) =
         let bytes = bytesOf (keyStep key t .transmission) in
         let same = placed-length 0 (bytes ++ []) lent (rw (append-nil bytes) (omega arith)) in
         rw (is, same, append-nil bytes) fits

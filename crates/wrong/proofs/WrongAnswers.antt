@@ -18,9 +18,9 @@ use Rattle.terminal.specs.Runs.{after}
 use Rattle.terminal.specs.Calls.{hostCall, keyCall}
 use Rattle.terminal.specs.declared.Answer.the-variants.{NoRoom}
 use Rattle.terminal.specs.Answers.{numberOf, unchanged}
-use Rattle.terminal.proofs.Deciding.{valid-holds, key-no-room}
+use Rattle.terminal.proofs.Deciding.{key-no-room}
 use Rattle.terminal.proofs.Exceeding.{line-3-done}
-use Rattle.numerals.specs.Text.{bytes}
+use Rattle.words.specs.Text.{bytes}
 use Rattle.promises.specs.Rules.{ourRules, byteSteps}
 use Rattle.promises.specs.Entries.{Entries, read, keyPress}
 use Rattle.promises.specs.Demands.{Numbers, Refusals}
@@ -87,7 +87,10 @@ blanksRefusedStart-breaks-refusals kept =
 -- 266 with no room at all is given 3, since the block has a byte at least; and the cell is modified still.
 block-refused : keyCall oneField 266 [] ≡ unchanged NoRoom oneField []
 unfolding validity keySteps
-block-refused = key-no-room oneField 266 [] refl (valid-holds oneField one-field-valid) refl refl refl (omega (arith, ap length one-field-changed))
+block-refused =
+    key-no-room oneField 266 []
+    (record { valid = one-field-valid; known = refl; not-locked-out = refl; has-cell = refl })
+    (omega (arith, ap length one-field-changed))
 
 pub clearsTagsRefused-breaks-refusals : Refusals ourRules clearsTagsRefused → ⊥
 unfolding tests numberOf unchanged modifiedCleared eachFrom markAfterBlock

@@ -22,7 +22,7 @@ use Rattle.terminal.specs.Runs.{bytesSentBy}
 use Rattle.terminal.specs.Answers.{Outcome}
 use Rattle.terminal.specs.Calls.{hostCall}
 use Rattle.terminal.specs.Lines.{Line3, this-holds, not-this}
-use Rattle.numerals.specs.Text.{bytes}
+use Rattle.words.specs.Text.{bytes}
 use Rattle.promises.specs.Rules.{ourRules, press, byteSteps}
 use Rattle.promises.specs.Further.{changed-by-266, Progress, SendsBlocks, Bounded}
 use Rattle.wrong.specs.Entries.{stopsAtOnce, hidesSentOn3}

@@ -16,7 +16,7 @@ use Rattle.terminal.specs.Runs.{stepsOf, bytesSentBy}
 use Rattle.terminal.specs.Answers.{Outcome, bytesSent}
 use Rattle.terminal.specs.Calls.{hostCall}
 use Rattle.terminal.proofs.Cases.{host-did}
-use Rattle.numerals.specs.Text.{bytes}
+use Rattle.words.specs.Text.{bytes}
 use Rattle.promises.specs.Rules.{ourRules, Input, byte, press}
 use Rattle.promises.specs.Entries.{Entries, ourEntries, Call, read, keyPress, outcomeOf, inputsOf, inputsDone}
 use Rattle.promises.specs.Copying.{HostStoresNothing, blockIn, blocksSent, standings, copies, OmitsExactly, storedSince, OmissionHolds}

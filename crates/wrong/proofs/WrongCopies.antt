@@ -15,7 +15,7 @@ use Rattle.blocks.specs.Decode.{decode}
 use Rattle.blocks.specs.Lay.{lay}
 use Rattle.steps.specs.Steps.{Terminal, changedBlock, Valid}
 use Rattle.steps.specs.Seen.{fieldsHere}
-use Rattle.numerals.specs.Text.{bytes}
+use Rattle.words.specs.Text.{bytes}
 use Rattle.promises.specs.Rules.{Input, press}
 use Rattle.promises.specs.Copying.{HostStoresNothing, blockIn, blocksSent, standings, copies, OmitsExactly, storedSince, OmissionHolds}
 use Rattle.promises.specs.Further.{CopyingSteps, OmissionSteps}

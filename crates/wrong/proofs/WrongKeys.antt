@@ -12,7 +12,7 @@ use Rattle.sequence.specs.Record.{escRead}
 use Rattle.blocks.specs.Blocks.{block}
 use Rattle.state.specs.State.{withHalf}
 use Rattle.steps.specs.Steps.{Terminal, withState, Valid}
-use Rattle.numerals.specs.Text.{bytes}
+use Rattle.words.specs.Text.{bytes}
 use Rattle.promises.specs.Rules.{byte, press}
 use Rattle.promises.specs.Demands.{KeysKeep}
 use Rattle.promises.specs.Further.{BlocksKeep}

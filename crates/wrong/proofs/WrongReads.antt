@@ -8,7 +8,7 @@ use borrow.Author.Tests.{eqb-false}
 use lib.ListN.{length, getD, replicate}
 use Rattle.words.proofs.Choosing.{true-is-not-false}
 use Rattle.steps.specs.Steps.{Terminal}
-use Rattle.numerals.specs.Text.{bytes}
+use Rattle.words.specs.Text.{bytes}
 use Rattle.promises.specs.Rules.{ourRules, Total}
 use Rattle.promises.specs.Entries.{read, no-more, done, Read, ended, taken, stopped}
 use Rattle.promises.specs.Demands.{Cutting}
