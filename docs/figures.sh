@@ -3,7 +3,8 @@
 # Run it on a machine that does nothing else; it removes target/ first.
 set -eu
 cd "$(dirname "$0")/.."
-command -v /usr/bin/time >/dev/null || apt-get install -y -qq time >/dev/null
+. tests/tools/debian.sh
+need time
 lines() { find "$@" -type f -exec cat {} + 2>/dev/null | wc -l; }
 told() { sed -n "s/.* $2=\([0-9]*\).*/\1/p" <<<"$1"; }
 rm -rf target

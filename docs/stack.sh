@@ -6,9 +6,9 @@
 # The code is for x86-64, whatever this machine is.
 set -eu -o pipefail
 cd "$(dirname "$0")/.."
-objdump=x86_64-linux-gnu-objdump
-command -v $objdump >/dev/null || apt-get install -y -qq binutils-x86-64-linux-gnu >/dev/null
-command -v python3 >/dev/null || apt-get install -y -qq python3 >/dev/null
+. tests/tools/debian.sh
+need binutils-x86-64-linux-gnu python3-minimal
+objdump=/usr/bin/x86_64-linux-gnu-objdump
 
 # as written, before the compiler makes loops of what it can: each function, then what it calls
 rt mir terminal 2>/dev/null | grep -oE 'fn-def "[^"]*"|\(call \([a-z]+( \(fnRef "[^"]*")?' | awk -F '"' '
@@ -129,4 +129,5 @@ CODE
 archive=$room/target/staticlib/libstack.a
 
 # Only what was disassembled can be judged: docs/stack.py fails where an entry is missing.
-{ $objdump -r $archive; $objdump -dr --no-show-raw-insn -M intel $archive; } | python3 docs/stack.py start host key
+{ $objdump -r $archive; $objdump -dr --no-show-raw-insn -M intel $archive; } |
+    /usr/bin/python3 -I docs/stack.py start host key

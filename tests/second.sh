@@ -1,11 +1,10 @@
 #!/usr/bin/env bash
-# The programs against the second program (second/), which was written without sight of the Rattle code: on fixed seeds, which
-# decide, and on new ones, which are printed. A difference is shown as a short transcript.
+# The programs against the second program (second/), which was written without sight of the Rattle code: on fixed seeds,
+# which decide, and on new ones, which are printed. A difference is shown as a short transcript.
 set -eu
-command -v cargo >/dev/null || apt-get install -y -qq cargo >/dev/null
-build() { cargo "$@" --quiet --release --offline --manifest-path second/Cargo.toml --target-dir target/second; }
-build build
-build test >target/second/tests.log 2>&1 || { cat target/second/tests.log; exit 1; }
+. tests/tools/debian.sh
+second_cargo build
+second_cargo test >target/second/tests.log 2>&1 || { cat target/second/tests.log; exit 1; }
 second=target/second/release/second
 
 # the sample sessions, as stored

@@ -48,7 +48,7 @@ impl Comparison<'_> {
         mut parts: Vec<T>,
         input: impl Fn(&[T]) -> Vec<u8>,
     ) -> Result<Vec<T>, String> {
-        let mut size = parts.len().div_ceil(2);
+        let mut size = (parts.len() + 1) / 2;
         while size > 0 {
             let mut place = 0;
             let mut smaller = false;
@@ -85,15 +85,11 @@ impl Comparison<'_> {
         let mut kept: Vec<Vec<u8>> = kept.into_iter().map(<[u8]>::to_vec).collect();
         for index in 0..kept.len() {
             let line = kept[index].clone();
-            let Some(digits) = line.strip_prefix(self.mode.host_frame()) else {
-                continue;
+            let rest = line.strip_prefix(self.mode.host_frame());
+            let digits = match rest.and_then(|rest| rest.strip_suffix(b"\n")) {
+                Some(digits) if digits.len() % 2 == 0 => digits,
+                _ => continue,
             };
-            let Some(digits) = digits.strip_suffix(b"\n") else {
-                continue;
-            };
-            if digits.len() % 2 != 0 {
-                continue;
-            }
             let whole = |bytes: &[&[u8]]| [self.mode.host_frame(), &bytes.concat(), b"\n"].concat();
             let bytes = self.shrink(digits.chunks(2).collect(), |bytes| {
                 [&kept[..index].concat(), &whole(bytes), &kept[index + 1..].concat()[..]].concat()

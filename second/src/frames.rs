@@ -76,7 +76,7 @@ fn unhex(line: &[u8]) -> Option<Vec<u8>> {
         b'a'..=b'f' if wrong::is(29) => Some(byte - b'a' + 10),
         _ => None,
     };
-    if line.is_empty() || !line.len().is_multiple_of(2) {
+    if line.is_empty() || line.len() % 2 != 0 {
         return None;
     }
     line.chunks(2).map(|pair| Some(digit(pair[0])? << 4 | digit(pair[1])?)).collect()

@@ -31,7 +31,7 @@ pub fn transcript(seed: u64, frames: usize) -> Vec<u8> {
         keys: VecDeque::new(),
         first_size,
         step: seed as usize % 128 * 12,
-        dense: first_size == (48, 160) && (seed / 9).is_multiple_of(2),
+        dense: first_size == (48, 160) && seed / 9 % 2 == 0,
     };
     for _ in 0..frames {
         generator.frame();

@@ -26,7 +26,7 @@ pub fn calls(seed: u64, frames: usize) -> Vec<u8> {
         text: Vec::new(),
         plan: VecDeque::new(),
         size: (ROWS[place / 3], COLUMNS[place % 3]),
-        costly: usize::from(seed.is_multiple_of(10)),
+        costly: usize::from(seed % 10 == 0),
     };
     for _ in 0..frames {
         if generator.plan.is_empty() {
@@ -84,7 +84,7 @@ impl Sweep {
             let (character, mark) = (wrong[count % wrong.len()], 0x80 + (count % 0x80) as u8);
             for (frame, value, fresh) in [(0x26, character, 0x20), (0x27, mark, 0)] {
                 self.emit(&cell(frame, place, value));
-                self.probe((place + usize::from(frame)).is_multiple_of(2));
+                self.probe((place + usize::from(frame)) % 2 == 0);
                 self.emit(&cell(frame, place, fresh));
             }
         }

@@ -217,10 +217,12 @@ fn lacking(message: &Message, known: &Known, told: &[Told]) -> Result<(), String
         told[0].state == known.state_without_last,
         "the state is not what the bytes before left",
     )?;
-    let Some(rest) = told.get(1) else { return Ok(()) };
-    let mut ended = rest.clone();
-    ended.taken += message.before_last;
-    ensure(ended == known.whole, "the rest does not end as one call")
+    let mut rest = match told.get(1) {
+        Some(rest) => rest.clone(),
+        None => return Ok(()),
+    };
+    rest.taken += message.before_last;
+    ensure(rest == known.whole, "the rest does not end as one call")
 }
 
 /// Every room up to the message's length, one after the other on one page, which is put back after each.

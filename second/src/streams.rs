@@ -42,7 +42,7 @@ impl<'a> Stream<'a> {
     }
 
     fn protected(&self, place: usize) -> bool {
-        self.marks.get(place).is_some_and(|marks| marks & PROTECTED != 0)
+        self.marks.get(place).map_or(false, |marks| marks & PROTECTED != 0)
     }
 
     /// A cell worth visiting: most often at a border of protection, else a corner or an edge.

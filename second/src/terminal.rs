@@ -314,7 +314,7 @@ impl Screen<'_> {
         if wrong::is(11) {
             return place == 0;
         }
-        place.is_multiple_of(self.width())
+        place % self.width() == 0
     }
 
     fn starts_field(&self, place: usize) -> bool {
@@ -431,8 +431,8 @@ impl Screen<'_> {
             0x80.. => self.refuse(),
             0x7F if inside && wrong::is(7) => {}
             0x0D if inside && wrong::is(21) => self.control(byte),
-            ..0x20 | 0x7F if inside => self.refuse(),
-            ..0x20 | 0x7F => self.control(byte),
+            0x00..=0x1F | 0x7F if inside => self.refuse(),
+            0x00..=0x1F | 0x7F => self.control(byte),
             _ => match self.state.half.kind {
                 ESCAPE => return self.after_escape(byte),
                 INTERMEDIATE if byte < 0x30 => {}
@@ -569,7 +569,7 @@ impl Screen<'_> {
         match byte {
             b'0'..=b'9' => self.state.half.digit(byte - b'0'),
             b';' => self.state.half.next_argument(),
-            ..0x40 => self.state.half.spoil(),
+            0x00..=0x3F => self.state.half.spoil(),
             _ => {
                 if self.sequence(byte)? {
                     self.state.half = Half::OUTSIDE;

@@ -11,7 +11,7 @@ ghost use Rattle.calls.specs.Frames.{twoAt, fourAt, Lendable};
 
 const STDIN: i32 = 0;
 
-const NEW_LINE: u8 = 0x0A;
+const NEW_LINE: u8 = b'\n';
 
 // No input lasts this many reads.
 const MOST_READS: u64 = 0x1000000000000000;
@@ -569,6 +569,6 @@ fn main() {
     let mut input = [0u8; 4096];
     let mut line = [0u8; 512];
     let mut characters = [0u8; 8192];
-    let mut marks = [0u8; 8192];
+    let mut marks: [Mark; 8192] = [0; 8192];
     read_all(&mut input, &mut line, &mut characters, &mut marks);
 }

@@ -25,7 +25,7 @@ use Rattle.commands.specs.Commands.{freshStep, escStep, erasing, erasePa
 use Rattle.sending.specs.Sending.{sendBlock, readyReport, cursorReport, statusReport}
 use Rattle.table.specs.Moves.{toColumn, toRow, toPlace, keptColumn, isMove, moveStep}
 use Rattle.table.specs.Settings.{tabControl, isVisual, penAfter, penAfterAll, rendition, setMode}
-use Rattle.commands.specs.Host.{eventStep, hostStep}
+use Rattle.commands.specs.Host.{eventStep, settledState, settled, hostStep}
 use Rattle.commands.proofs.Streams.{esc, numbers, csi, runFrom, run, terminalWith, fresh}
 
 -- A scroll on the page of 24 by 80, of which a few cells are looked at: a row, a column, and what stands there.
@@ -97,7 +97,7 @@ scrolls =
     ∷ []
 
 scrolled-as-worked-out : map asRun scrolls ≡ scrolls
-unfolding cell seenAt scroll asRun filled movedUp movedDown scrolls esc numbers csi runFrom run fresh if_then_else_ _and_ _or_ _is_to_ within every eachFrom numbersFrom withDigit withNextArgument isControl isCancel outsideSequence afterEsc afterIntermediate afterBracket insideSequence advanceOf unprotected textStored erasable erased cellsErased scrolledUp scrolledDown decimal placeBytes refused inputDisabled inputEnabled backBy onBy upBy downBy rightBy leftBy toMargin stopSet stopCleared stopsCleared stopRight stopLeft stopsOn stopsBack tabbedOn tabbedBack bytesOf allowed valueOf toNextCell textStep lineDown lineUp nextLine controlStep freshStep escStep toColumn toRow toPlace keptColumn tabControl erasing erasePart isVisual penAfter penAfterAll rendition setMode readyReport cursorReport statusReport isMove moveStep listedStep bracketStep eventStep hostStep
+unfolding cell seenAt scroll asRun filled movedUp movedDown scrolls esc numbers csi runFrom run fresh if_then_else_ _and_ _or_ _is_to_ within every eachFrom numbersFrom withDigit withNextArgument isControl isCancel outsideSequence afterEsc afterIntermediate afterBracket insideSequence advanceOf unprotected textStored erasable erased cellsErased scrolledUp scrolledDown decimal placeBytes refused inputDisabled inputEnabled backBy onBy upBy downBy rightBy leftBy toMargin stopSet stopCleared stopsCleared stopRight stopLeft stopsOn stopsBack tabbedOn tabbedBack bytesOf allowed valueOf toNextCell textStep lineDown lineUp nextLine controlStep freshStep escStep toColumn toRow toPlace keptColumn tabControl erasing erasePart isVisual penAfter penAfterAll rendition setMode readyReport cursorReport statusReport isMove moveStep listedStep bracketStep eventStep settledState settled hostStep
 scrolled-as-worked-out = refl
 
 -- A page of 3 rows by 4 columns, small enough to be shown whole. No call takes its size, which line 1 refuses; the steps go by
@@ -204,10 +204,10 @@ examples =
     ∷ []
 
 as-worked-out : map asLeft examples ≡ examples
-unfolding small leaves asLeft at2x2 erasureSet examples selected markAfterBlock modifiedCleared placeOf opensStretch joined startsField endFrom fieldEnd fieldsFrom fieldsOf entryBytes encode entryOf isInBlock entriesSent block blockTransmission sendBlock esc numbers csi runFrom run fresh if_then_else_ _and_ _or_ _is_to_ within every eachFrom numbersFrom withDigit withNextArgument isControl isCancel outsideSequence afterEsc afterIntermediate afterBracket insideSequence advanceOf unprotected textStored erasable erased cellsErased scrolledUp scrolledDown decimal placeBytes refused inputDisabled inputEnabled backBy onBy upBy downBy rightBy leftBy toMargin stopSet stopCleared stopsCleared stopRight stopLeft stopsOn stopsBack tabbedOn tabbedBack bytesOf allowed valueOf toNextCell textStep lineDown lineUp nextLine controlStep freshStep escStep toColumn toRow toPlace keptColumn tabControl erasing erasePart isVisual penAfter penAfterAll rendition setMode readyReport cursorReport statusReport isMove moveStep listedStep bracketStep eventStep hostStep
+unfolding small leaves asLeft at2x2 erasureSet examples selected markAfterBlock modifiedCleared placeOf opensStretch joined startsField endFrom fieldEnd fieldsFrom fieldsOf entryBytes encode entryOf isInBlock entriesSent block blockTransmission sendBlock esc numbers csi runFrom run fresh if_then_else_ _and_ _or_ _is_to_ within every eachFrom numbersFrom withDigit withNextArgument isControl isCancel outsideSequence afterEsc afterIntermediate afterBracket insideSequence advanceOf unprotected textStored erasable erased cellsErased scrolledUp scrolledDown decimal placeBytes refused inputDisabled inputEnabled backBy onBy upBy downBy rightBy leftBy toMargin stopSet stopCleared stopsCleared stopRight stopLeft stopsOn stopsBack tabbedOn tabbedBack bytesOf allowed valueOf toNextCell textStep lineDown lineUp nextLine controlStep freshStep escStep toColumn toRow toPlace keptColumn tabControl erasing erasePart isVisual penAfter penAfterAll rendition setMode readyReport cursorReport statusReport isMove moveStep listedStep bracketStep eventStep settledState settled hostStep
 as-worked-out = refl
 
 -- What ESC S sends: A at 1;1, C and D at 1;3, F and G at 2;2, I and J at 3;1, L at 3;4, then 03.
 full-block-sent : run small (esc 0x53) .sent ≡ (0x1B ∷ 0x5B ∷ 0x31 ∷ 0x3B ∷ 0x31 ∷ 0x66 ∷ 0x41 ∷ 0x1B ∷ 0x5B ∷ 0x31 ∷ 0x3B ∷ 0x33 ∷ 0x66 ∷ 0x43 ∷ 0x44 ∷ 0x1B ∷ 0x5B ∷ 0x32 ∷ 0x3B ∷ 0x32 ∷ 0x66 ∷ 0x46 ∷ 0x47 ∷ 0x1B ∷ 0x5B ∷ 0x33 ∷ 0x3B ∷ 0x31 ∷ 0x66 ∷ 0x49 ∷ 0x4A ∷ 0x1B ∷ 0x5B ∷ 0x33 ∷ 0x3B ∷ 0x34 ∷ 0x66 ∷ 0x4C ∷ 0x03 ∷ [])
-unfolding small selected markAfterBlock modifiedCleared placeOf opensStretch joined startsField endFrom fieldEnd fieldsFrom fieldsOf entryBytes encode entryOf isInBlock entriesSent block blockTransmission sendBlock esc numbers csi runFrom run fresh if_then_else_ _and_ _or_ _is_to_ within every eachFrom numbersFrom withDigit withNextArgument isControl isCancel outsideSequence afterEsc afterIntermediate afterBracket insideSequence advanceOf unprotected textStored erasable erased cellsErased scrolledUp scrolledDown decimal placeBytes refused inputDisabled inputEnabled backBy onBy upBy downBy rightBy leftBy toMargin stopSet stopCleared stopsCleared stopRight stopLeft stopsOn stopsBack tabbedOn tabbedBack bytesOf allowed valueOf toNextCell textStep lineDown lineUp nextLine controlStep freshStep escStep toColumn toRow toPlace keptColumn tabControl erasing erasePart isVisual penAfter penAfterAll rendition setMode readyReport cursorReport statusReport isMove moveStep listedStep bracketStep eventStep hostStep
+unfolding small selected markAfterBlock modifiedCleared placeOf opensStretch joined startsField endFrom fieldEnd fieldsFrom fieldsOf entryBytes encode entryOf isInBlock entriesSent block blockTransmission sendBlock esc numbers csi runFrom run fresh if_then_else_ _and_ _or_ _is_to_ within every eachFrom numbersFrom withDigit withNextArgument isControl isCancel outsideSequence afterEsc afterIntermediate afterBracket insideSequence advanceOf unprotected textStored erasable erased cellsErased scrolledUp scrolledDown decimal placeBytes refused inputDisabled inputEnabled backBy onBy upBy downBy rightBy leftBy toMargin stopSet stopCleared stopsCleared stopRight stopLeft stopsOn stopsBack tabbedOn tabbedBack bytesOf allowed valueOf toNextCell textStep lineDown lineUp nextLine controlStep freshStep escStep toColumn toRow toPlace keptColumn tabControl erasing erasePart isVisual penAfter penAfterAll rendition setMode readyReport cursorReport statusReport isMove moveStep listedStep bracketStep eventStep settledState settled hostStep
 full-block-sent = refl

@@ -6,8 +6,9 @@ use Prim.Native.Nat.{ℕ}
 use Rattle.sequence.specs.declared.HalfRead.{HalfRead}
 use Rattle.page.specs.Page.{cellsErased}
 use Rattle.blocks.proofs.Claims.{IsReport}
-use Rattle.steps.specs.Steps.{Terminal, report, fullBlock, changedBlock, Stepped, cursorCell, allCells}
-use Rattle.steps.specs.Claims.{SendsBlock, Sound}
+use Rattle.steps.specs.Steps.{Terminal, report, fullBlock, changedBlock, Stepped, refusing, cursorCell, allCells}
+use Rattle.steps.specs.Claims.{SendsBlock}
+use Rattle.steps.proofs.Soundness.{Sound}
 
 -- The byte ends ESC S.
 abbrev pub EndsEscS : HalfRead → ℕ → Type 0
@@ -28,3 +29,8 @@ pub record HostSound (Asked : Type 0) (t : Terminal) (step : Stepped) : Type 0 w
   pub full-block : (bytes : List ℕ) → step .transmission ≡ fullBlock bytes → SendsBlock true Asked t step bytes
   pub no-changed-block : (bytes : List ℕ) → step .transmission ≡ changedBlock bytes → ⊥
   pub is-report : (bytes : List ℕ) → step .transmission ≡ report bytes → IsReport bytes
+
+-- And of what an event does, before it is settled: where it is refused nothing happened.
+pub record EventSound (Asked : Type 0) (t : Terminal) (step : Stepped) : Type 0 where
+  pub host : HostSound Asked t step
+  pub refusal : step .wasRefused ≡ true → step ≡ refusing t

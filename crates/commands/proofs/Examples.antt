@@ -22,7 +22,7 @@ use Rattle.commands.specs.Commands.{freshStep, escStep, erasing, erasePa
 use Rattle.table.specs.Moves.{toColumn, toRow, toPlace, keptColumn, isMove, moveStep}
 use Rattle.table.specs.Settings.{tabControl, isVisual, penAfter, penAfterAll, rendition, setMode}
 use Rattle.sending.specs.Sending.{readyReport, cursorReport, statusReport}
-use Rattle.commands.specs.Host.{eventStep, hostStep}
+use Rattle.commands.specs.Host.{eventStep, settledState, settled, hostStep}
 use Rattle.commands.proofs.Streams.{esc, numbers, csi, Ran, runFrom, run, fresh}
 
 -- What is seen of a terminal after a stream, with the cells stored and the bytes sent on the way.
@@ -203,5 +203,5 @@ examples =
 
 -- Each stream leaves what the example says.
 as-worked-out : map (λ (e : Example). seenOf (run fresh (e .bytes))) examples ≡ map (λ (e : Example). e .seen) examples
-unfolding seenOf gives sets at4x20 threeStops examples esc numbers csi runFrom run fresh if_then_else_ _and_ _or_ _is_to_ within every eachFrom numbersFrom withDigit withNextArgument isControl isCancel outsideSequence afterEsc afterIntermediate afterBracket insideSequence advanceOf unprotected textStored erasable erased cellsErased scrolledUp scrolledDown decimal placeBytes refused inputDisabled inputEnabled backBy onBy upBy downBy rightBy leftBy toMargin stopSet stopCleared stopsCleared stopRight stopLeft stopsOn stopsBack tabbedOn tabbedBack bytesOf allowed valueOf toNextCell textStep lineDown lineUp nextLine controlStep freshStep escStep toColumn toRow toPlace keptColumn tabControl erasing erasePart isVisual penAfter penAfterAll rendition setMode readyReport cursorReport statusReport isMove moveStep listedStep bracketStep eventStep hostStep
+unfolding seenOf gives sets at4x20 threeStops examples esc numbers csi runFrom run fresh if_then_else_ _and_ _or_ _is_to_ within every eachFrom numbersFrom withDigit withNextArgument isControl isCancel outsideSequence afterEsc afterIntermediate afterBracket insideSequence advanceOf unprotected textStored erasable erased cellsErased scrolledUp scrolledDown decimal placeBytes refused inputDisabled inputEnabled backBy onBy upBy downBy rightBy leftBy toMargin stopSet stopCleared stopsCleared stopRight stopLeft stopsOn stopsBack tabbedOn tabbedBack bytesOf allowed valueOf toNextCell textStep lineDown lineUp nextLine controlStep freshStep escStep toColumn toRow toPlace keptColumn tabControl erasing erasePart isVisual penAfter penAfterAll rendition setMode readyReport cursorReport statusReport isMove moveStep listedStep bracketStep eventStep settledState settled hostStep
 as-worked-out = refl

@@ -22,7 +22,7 @@ use Rattle.steps.specs.Steps.{Terminal, Stepped, bytesOf, blockTransmission, wi
 use Rattle.steps.specs.Seen.{blockHere}
 use Rattle.commands.specs.Commands.{escStep, listedStep, bracketStep}
 use Rattle.sending.specs.Sending.{sendBlock, readyReport, cursorReport, statusReport}
-use Rattle.commands.specs.Host.{eventStep, hostStep}
+use Rattle.commands.specs.Host.{eventStep, settled, hostStep}
 use Rattle.steps.proofs.Soundness.{sized}
 use Rattle.commands.proofs.Silent.{text-silent, control-silent, esc-silent, move-silent, tab-silent, erase-silent, rendition-silent, mode-silent}
 
@@ -80,6 +80,6 @@ event-short half (BracketCommand final) t fits = either-line Short _ _ _ (λ _. 
 event-short half Refused t fits = omega arith
 
 pub step-short : (byte : ℕ) (t : Terminal) → sizeFits (t .state .size) (t .page) ≡ true → Short (hostStep byte t)
-unfolding hostStep
+unfolding hostStep settled
 step-short byte t fits =
     event-short (t .state .half) (advanceOf (t .state .half) byte .event) (withState t (withHalf (t .state) (advanceOf (t .state .half) byte .half))) fits

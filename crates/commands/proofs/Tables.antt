@@ -1,5 +1,5 @@
 -- Every line of every table is sound, so every table is. The proofs follow the definitions line by line.
-use mathlib.Core.Path.{_≡_, refl, _∙_}
+use mathlib.Core.Path.{_≡_, refl, sym, _∙_}
 use mathlib.Core.Bool.{Bool, true, false}
 use mathlib.Core.List.{List}
 use Prim.Native.Nat.{ℕ, _+_, _*_, _<_, _≤_}
@@ -9,7 +9,7 @@ use borrow.Author.Tests.{leb-true, eqb-true}
 use lib.Dec.{eqb}
 use lib.ListN.{length, take}
 use Rattle.words.specs.Choice.{if_then_else_}
-use Rattle.words.proofs.Choosing.{either-line, both}
+use Rattle.words.proofs.Choosing.{true-is-not-false, either-line, both}
 use Rattle.sequence.specs.declared.HalfRead.{HalfRead}
 use Rattle.sequence.specs.declared.Event.{Event}
 use Rattle.sequence.specs.declared.Event.the-variants.{Nothing, Text, Control, EscCommand, BracketCommand, Refused}
@@ -21,23 +21,24 @@ use Rattle.blocks.specs.Blocks.{block}
 use Rattle.blocks.proofs.Claims.{IsReport}
 use Rattle.blocks.proofs.Finding.{ready-is-report, cursor-is-report}
 use Rattle.state.specs.declared.State.{State}
-use Rattle.state.specs.State.{OnPage, withHalf}
+use Rattle.state.specs.State.{OnPage, withHalf, refused}
 use Rattle.state.specs.Moves.{downBy, toMargin}
 use Rattle.state.specs.Pen.{validPen}
-use Rattle.state.proofs.Keeping.{KeepsValid, size-bounds, on-page, parts, up-keeps-valid, down-keeps-valid, right-keeps-valid, left-keeps-valid, margin-keeps-valid, next-cell-keeps-valid, cursor-keeps-valid, tab-on-keeps-valid, tab-back-keeps-valid, stop-set-keeps-valid, stop-cleared-keeps-valid, stops-cleared-keeps-valid, pen-keeps-valid, protected-keeps-pen, unprotected-keeps-pen, erasure-keeps-valid, disabled-keeps-valid, enabled-keeps-valid, half-keeps-valid, fresh-valid}
+use Rattle.state.specs.Tests.{validState}
+use Rattle.state.proofs.Keeping.{KeepsValid, size-bounds, on-page, parts, up-keeps-valid, down-keeps-valid, right-keeps-valid, left-keeps-valid, margin-keeps-valid, next-cell-keeps-valid, cursor-keeps-valid, tab-on-keeps-valid, tab-back-keeps-valid, stop-set-keeps-valid, stop-cleared-keeps-valid, stops-cleared-keeps-valid, pen-keeps-valid, protected-keeps-pen, unprotected-keeps-pen, erasure-keeps-valid, disabled-keeps-valid, enabled-keeps-valid, refused-keeps-valid, half-keeps-valid, fresh-valid}
 use Rattle.steps.specs.Steps.{Terminal, silent, report, fullBlock, blockTransmission, Stepped, withState, goesTo, stores, sends, refusing, cursorCell, Valid, rowStart}
-use Rattle.steps.specs.Claims.{markLeft, Sound}
+use Rattle.steps.specs.Claims.{markLeft, Refusal}
 use Rattle.steps.proofs.Storing.{Stored, text-stored, blank-stored, up-stored, down-stored, erasing-stored}
 use Rattle.steps.proofs.Transmissions.{silent-is-no-full, silent-is-no-changed, silent-is-no-report, report-is-no-full, report-is-no-changed, full-is-no-changed, same-report, same-full, block-is-no-report}
-use Rattle.steps.proofs.Soundness.{Sized, sized, row-on-page, cursor-on-page, goes-soundly, refuses-soundly, stores-soundly, reports-soundly, clears-soundly}
+use Rattle.steps.proofs.Soundness.{Sound, Sized, sized, row-on-page, cursor-on-page, goes-soundly, refuses-soundly, stores-soundly, reports-soundly, clears-soundly}
 use Rattle.table.specs.Table.{allowed, valueOf}
 use Rattle.commands.specs.Text.{textStep, lineDown, lineUp, nextLine, controlStep}
 use Rattle.commands.specs.Commands.{freshStep, escStep, erasing, erasePart, listedStep, bracketStep}
 use Rattle.sending.specs.Sending.{sendBlock, readyReport, cursorReport, statusReport}
 use Rattle.table.specs.Moves.{toColumn, toRow, toPlace, moveStep}
 use Rattle.table.specs.Settings.{tabControl, rendition, setMode}
-use Rattle.commands.specs.Host.{eventStep, hostStep}
-use Rattle.commands.proofs.Claims.{EndsEscS, Stores, no-cell, text-cell, erased-cells, all-cells, HostSound}
+use Rattle.commands.specs.Host.{eventStep, settledState, settled, hostStep}
+use Rattle.commands.proofs.Claims.{EndsEscS, Stores, no-cell, text-cell, erased-cells, all-cells, HostSound, EventSound}
 use Rattle.commands.proofs.Values.{some-value, zero-is-one, some-column, pen-after-all-keeps-pen}
 use Rattle.sequence.proofs.Events.{Tells, event-tells}
 
@@ -46,13 +47,13 @@ then-keeps first second = record { size = second .size ∙ first .size; valid = 
 
 module _ (Asked : Type 0) (t : Terminal) (valid : Valid t) where
   abbrev Holds : Stepped → Type 0
-  Holds step = HostSound Asked t step
+  Holds step = EventSound Asked t step
 
   line : {test : Bool} {a b : Stepped} → (test ≡ true → Holds a) → Holds b → Holds (if test then a else b)
   line {test} {a} {b} first rest = either-line Holds test a b first (λ _. rest)
 
   -- The kinds of steps.
-  silently : {step : Stepped} → step .transmission ≡ silent → Stores t (step .cells) → Sound t step → Holds step
+  silently : {step : Stepped} → step .transmission ≡ silent → Stores t (step .cells) → Sound t step → HostSound Asked t step
   silently {step} e stored sound = record {
     sound = sound;
     stored = stored;
@@ -61,33 +62,36 @@ module _ (Asked : Type 0) (t : Terminal) (valid : Valid t) where
     is-report = λ bytes f. absurd (silent-is-no-report bytes (cc));
   }
 
+  done : {step : Stepped} → HostSound Asked t step → step .wasRefused ≡ false → Holds step
+  done holds e = record { host = holds; refusal = λ was. absurd (true-is-not-false (sym was ∙ e)) }
+
   goes : (s : State) → KeepsValid (t .state) s → Holds (goesTo s t)
-  goes s keeps = silently refl no-cell (goes-soundly t valid s keeps)
+  goes s keeps = done (silently refl no-cell (goes-soundly t valid s keeps)) refl
 
   refuses : Holds (refusing t)
-  refuses = silently refl no-cell (refuses-soundly t valid)
+  refuses = record { host = silently refl no-cell (refuses-soundly t valid); refusal = λ _. refl }
 
   puts : {cells : List ℕ} {unlocks : Bool} {s : State} {page : Page} → Stores t cells → KeepsValid (t .state) s → Stored (t .page) cells unlocks page → Holds (stores cells unlocks s page)
-  puts {cells} {unlocks} {s} {page} names keeps stored = silently refl names (stores-soundly t valid cells unlocks s page keeps stored)
+  puts {cells} {unlocks} {s} {page} names keeps stored = done (silently refl names (stores-soundly t valid cells unlocks s page keeps stored)) refl
 
   reports : (said : List ℕ) → IsReport said → Holds (sends (report said) (t .state) (t .page))
-  reports said is = record {
+  reports said is = done (record {
     sound = reports-soundly t valid said;
     stored = no-cell;
     full-block = λ bytes e. absurd (report-is-no-full said bytes e);
     no-changed-block = λ bytes e. report-is-no-changed said bytes e;
     is-report = λ bytes e. rw (same-report said bytes e) is;
-  }
+  }) refl
 
   full-block-holds : Asked → Holds (sendBlock true t)
   unfolding sendBlock blockTransmission markLeft
-  full-block-holds asked = let said = block true (t .state .size .columns) (t .page) in record {
+  full-block-holds asked = let said = block true (t .state .size .columns) (t .page) in done (record {
     sound = clears-soundly t valid (fullBlock said) (λ mark. refl);
     stored = no-cell;
     full-block = λ bytes e. record { asked = asked; of-page = same-full said bytes e; no-cell = refl };
     no-changed-block = λ bytes e. full-is-no-changed said bytes e;
     is-report = λ bytes e. absurd (block-is-no-report said bytes true e);
-  }
+  }) refl
 
   -- What is known of a valid terminal.
   stays : KeepsValid (t .state) (t .state)
@@ -260,7 +264,7 @@ module _ (Asked : Type 0) (t : Terminal) (valid : Valid t) where
   bracket-holds final half = line (λ _. refuses) (listed-holds final (half .arguments) (half .count))
 
 -- What an event does; only ESC S asks for a full block.
-event-holds : (half : HalfRead) (byte : ℕ) (event : Event) (t : Terminal) → Valid t → Tells half byte event → HostSound (EndsEscS half byte) t (eventStep half event t)
+event-holds : (half : HalfRead) (byte : ℕ) (event : Event) (t : Terminal) → Valid t → Tells half byte event → EventSound (EndsEscS half byte) t (eventStep half event t)
 unfolding eventStep Tells
 event-holds half byte Nothing t valid _ = goes (EndsEscS half byte) t valid (t .state) (stays (EndsEscS half byte) t valid)
 event-holds half byte (Text character) t valid is = text-holds (EndsEscS half byte) t valid character is
@@ -283,18 +287,6 @@ whatever-half-read Asked t half step holds = let sound = holds .sound in record 
     size = sound .size;
     touches = sound .touches;
     once = sound .once;
-    refusal = λ e. let refusal = sound .refusal e in record {
-      soft-lock = refusal .soft-lock;
-      invalid-command = refusal .invalid-command;
-      manual-lock = refusal .manual-lock;
-      page = refusal .page;
-      size = refusal .size;
-      cursor = refusal .cursor;
-      modes = refusal .modes;
-      stops = refusal .stops;
-      nothing-sent = refusal .nothing-sent;
-      no-cell = refusal .no-cell;
-    };
     protection = sound .protection;
   };
   stored = whatever-half-stores t half (holds .stored);
@@ -303,10 +295,59 @@ whatever-half-read Asked t half step holds = let sound = holds .sound in record 
   is-report = holds .is-report;
 }
 
-pub host-holds : (byte : ℕ) (t : Terminal) → Valid t → HostSound (EndsEscS (t .state .half) byte) t (hostStep byte t)
-unfolding hostStep
-host-holds byte t valid =
-    let half = advanceOf (t .state .half) byte .half in
-    let keeps = half-keeps-valid (t .state) (valid .state) half (advance-keeps (t .state .half) byte (parts (t .state) (valid .state) .half)) in
-    whatever-half-read _ t half _
-    (event-holds (t .state .half) byte _ (withState t (withHalf (t .state) half)) (record { size = valid .size; state = keeps .valid; page = valid .page }) (event-tells (t .state .half) byte))
+-- Settling changes the locks alone, and leaves them valid.
+settled-keeps-valid : (s : State) → validState s ≡ true → (wasRefused : Bool) → KeepsValid s (settledState wasRefused s)
+unfolding settledState if_then_else_
+settled-keeps-valid s ok true = refused-keeps-valid s ok
+settled-keeps-valid s ok false = record { size = refl; valid = ok }
+
+settled-holds : (Asked : Type 0) (t : Terminal) (step : Stepped) → HostSound Asked t step → HostSound Asked t (settled step)
+unfolding settled
+settled-holds Asked t step holds = let sound = holds .sound in let keeps = settled-keeps-valid (step .terminal .state) (sound .valid .state) (step .wasRefused) in record {
+  sound = record {
+    valid = record { size = rw (keeps .size) (sound .valid .size); state = keeps .valid; page = sound .valid .page };
+    size = keeps .size ∙ sound .size;
+    touches = sound .touches;
+    once = sound .once;
+    protection = sound .protection;
+  };
+  stored = holds .stored;
+  full-block = λ bytes e. let full = holds .full-block bytes e in record { asked = full .asked; of-page = full .of-page; no-cell = full .no-cell };
+  no-changed-block = holds .no-changed-block;
+  is-report = holds .is-report;
+}
+
+-- What is left of a refused command, which did nothing.
+refusal-settled : (t : Terminal) (half : HalfRead) → Refusal t (settled (refusing (withState t (withHalf (t .state) half))))
+unfolding settled settledState refused if_then_else_
+refusal-settled t half = record {
+  soft-lock = refl;
+  invalid-command = refl;
+  manual-lock = refl;
+  page = refl;
+  size = refl;
+  cursor = refl;
+  modes = refl;
+  stops = refl;
+  nothing-sent = refl;
+  no-cell = refl;
+}
+
+-- The event of a byte, on the terminal whose half-read record is advanced.
+module _ (byte : ℕ) (t : Terminal) (valid : Valid t) where
+  abbrev next : Terminal
+  next = withState t (withHalf (t .state) (advanceOf (t .state .half) byte .half))
+
+  byte-holds : EventSound (EndsEscS (t .state .half) byte) next (eventStep (t .state .half) (advanceOf (t .state .half) byte .event) next)
+  byte-holds =
+      let keeps = half-keeps-valid (t .state) (valid .state) (next .state .half) (advance-keeps (t .state .half) byte (parts (t .state) (valid .state) .half)) in
+      let still : Valid next = record { size = valid .size; state = keeps .valid; page = valid .page } in
+      event-holds (t .state .half) byte _ next still (event-tells (t .state .half) byte)
+
+  pub host-holds : HostSound (EndsEscS (t .state .half) byte) t (hostStep byte t)
+  unfolding hostStep
+  host-holds = settled-holds _ t _ (whatever-half-read _ t (next .state .half) _ (byte-holds .host))
+
+  pub host-refusal : hostStep byte t .wasRefused ≡ true → Refusal t (hostStep byte t)
+  unfolding hostStep settled
+  host-refusal was = rw (byte-holds .refusal was) (refusal-settled t (next .state .half))

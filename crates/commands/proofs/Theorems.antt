@@ -21,7 +21,7 @@ use Rattle.commands.specs.Text.{textStep, lineDown, lineUp, nextLine}
 use Rattle.commands.specs.Commands.{freshStep, erasing}
 use Rattle.commands.specs.Host.{hostStep}
 use Rattle.commands.proofs.Claims.{EndsEscS, Stores}
-use Rattle.commands.proofs.Tables.{host-holds}
+use Rattle.commands.proofs.Tables.{host-holds, host-refusal}
 
 module _ (byte : ℕ) (t : Terminal) (valid : Valid t) where
   -- The terminal stays valid, and its size the same.
@@ -52,7 +52,7 @@ module _ (byte : ℕ) (t : Terminal) (valid : Valid t) where
 
   -- A refused command sets the soft lock and message 1, and all else stays but the half-read record.
   pub step-refused : hostStep byte t .wasRefused ≡ true → Refusal t (hostStep byte t)
-  step-refused refused = host-holds byte t valid .sound .refusal refused
+  step-refused was = host-refusal byte t valid was
 
   -- Only ESC S sends a full block, and it has all fields of the page; no byte sends a changed block.
   pub step-sends-full : (bytes : List ℕ) → hostStep byte t .transmission ≡ fullBlock bytes → SendsBlock true (EndsEscS (t .state .half) byte) t (hostStep byte t) bytes
@@ -120,5 +120,5 @@ module _ (t : Terminal) where
   pub refusal-count : counted (refusing t) ≡ 0
   refusal-count = refl
 
-  pub message-count : (transmission : Transmission) (s : State) (page : Page) → counted (sends transmission s page) ≡ 0
-  message-count transmission s page = refl
+  pub transmission-count : (transmission : Transmission) (s : State) (page : Page) → counted (sends transmission s page) ≡ 0
+  transmission-count transmission s page = refl

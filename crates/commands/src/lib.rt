@@ -1,5 +1,5 @@
 // Document 01, "Reading host bytes" and "Commands": what text, control bytes and commands do to the page.
-// What each function leaves is defined in specs/Commands.antt and specs/Host.antt of `steps`.
+// What each function leaves is defined in specs/.
 use page::Mark;
 use sequence::Event;
 use state::State;
@@ -12,7 +12,7 @@ ghost use Rattle.steps.specs.Steps.{Valid, cursorCell, rowStart, terminalOf};
 ghost use Rattle.steps.specs.Told.{told, tells, written};
 ghost use Rattle.commands.specs.Text.{textStep, lineDown, lineUp, controlStep};
 ghost use Rattle.commands.specs.Commands.{freshStep, escStep, erasing, erasePart, bracketStep};
-ghost use Rattle.commands.specs.Host.{hostStep};
+ghost use Rattle.commands.specs.Host.{FinalInTable, eventStep, settledState, hostStep};
 
 fn text(state: State, characters: &mut [u8], marks: &mut [Mark], character: u8) -> Step
     requires { ⌜ Valid (terminalOf state (now characters) (now marks)) ⌝ }
@@ -186,20 +186,64 @@ fn bracket_step(
     if table::most_arguments(letter) < count {
         return steps::refuse(state);
     }
-    if table::is_move(letter) {
-        return table::move_command(state, letter, arguments);
+    if table::moves::is_move(letter) {
+        return table::moves::move_command(state, letter, arguments);
     }
     let what = table::value(letter, arguments, 0);
     let cells = marks.len();
     match letter {
-        0x57 => table::tab_control(state, what), // W
+        0x57 => table::settings::tab_control(state, what), // W
         0x4A => erase_part(state, characters, marks, what, 0, cells), // J
         0x4B => erase_row(state, characters, marks, what), // K
-        0x6D => table::rendition(state, arguments, count as usize), // m
-        0x68 => table::set_mode(state, true, arguments, count as usize), // h
-        0x6C => table::set_mode(state, false, arguments, count as usize), // l
+        0x6D => table::settings::rendition(state, arguments, count as usize), // m
+        0x68 => table::settings::set_mode(state, true, arguments, count as usize), // h
+        0x6C => table::settings::set_mode(state, false, arguments, count as usize), // l
         _ => sending::status_report(state, before, out, at, what), // n
     }
+}
+
+// What an event does. `before` is the state before the event's byte, which has a command's arguments.
+fn event_step(
+    state: State,
+    before: State,
+    characters: &mut [u8],
+    marks: &mut [Mark],
+    out: &mut [u8],
+    at: usize,
+    event: Event,
+) -> Step
+    requires { ⌜ Valid (terminalOf state (now characters) (now marks)) ⌝ }
+    requires { ⌜ (at ≤ length (now out)) × FinalInTable event × (before .half .count ≤ 8) ⌝ }
+    ensures { λ r. ⌜ record { told = told r (pageOf (now (characters .exit)) (now (marks .exit))); output = now (out .exit) } ≡ written at (now (out .entry)) (terminalOf before (now (characters .entry)) (now (marks .entry))) (eventStep (before .half) event (terminalOf state (now (characters .entry)) (now (marks .entry)))) ⌝ }
+{
+    match event {
+        Event::Nothing => steps::quiet(state),
+        Event::Text(character) => text(state, characters, marks, character),
+        Event::Control(code) => control(state, characters, marks, code),
+        Event::EscCommand(letter) => esc_step(state, before, characters, marks, out, at, letter),
+        Event::BracketCommand(letter) => bracket_step(
+            state,
+            before,
+            characters,
+            marks,
+            out,
+            at,
+            letter,
+        ),
+        Event::Refused => steps::refuse(state),
+    }
+}
+
+// A refused command sets the soft lock and message 1, and nothing else: every refusal of a command comes through here.
+fn settle(step: Step) -> Step
+    ensures { λ r. ⌜ r ≡ record { state = settledState (step .refused) (step .state); stored = step .stored; sent = step .sent; refused = step .refused; protection = step .protection; exceeds = step .exceeds } ⌝ }
+{
+    if step.refused {
+        let mut settled = step;
+        settled.state = step.state.refuse();
+        return settled;
+    }
+    step
 }
 
 // The step of a host byte. Its transmission is written into the output from `at` on; where it does not fit nothing happens.
@@ -217,22 +261,7 @@ pub fn step(
 {
     let half = state.half;
     let advanced = half.advance(byte);
-    let event = advanced.event;
     let next = state.with_half(advanced.half);
-    match event {
-        Event::Nothing => steps::quiet(next),
-        Event::Text(character) => text(next, characters, marks, character),
-        Event::Control(code) => control(next, characters, marks, code),
-        Event::EscCommand(letter) => esc_step(next, state, characters, marks, out, at, letter),
-        Event::BracketCommand(letter) => bracket_step(
-            next,
-            state,
-            characters,
-            marks,
-            out,
-            at,
-            letter,
-        ),
-        Event::Refused => steps::refuse(next),
-    }
+    let event = advanced.event;
+    settle(event_step(next, state, characters, marks, out, at, event))
 }

@@ -16,7 +16,7 @@ use Rattle.output.specs.Decimal.{decimal, placeBytes}
 use Rattle.blocks.specs.Blocks.{Entry, entryBytes, encode}
 use Rattle.blocks.specs.Lay.{samePlace}
 use Rattle.blocks.proofs.Decoding.{digits, plain, valid, encode-injective}
-use Rattle.copy.specs.Laying.{plainLength, sameHead}
+use Rattle.copy.specs.Copy.{plainLength, sameHead}
 use Rattle.blocks.specs.Decode.{validEntry}
 
 -- The end of an entry: a byte below 20 ends it, and any other is passed.

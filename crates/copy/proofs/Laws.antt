@@ -16,7 +16,7 @@ use Rattle.blocks.specs.Decode.{decode, validEntry}
 use Rattle.blocks.specs.Lay.{samePlace, laidOn, lay}
 use Rattle.blocks.proofs.Decoding.{runOf, entry-is, plain-run, valid}
 use Rattle.blocks.proofs.Theorems.{entries-read-back}
-use Rattle.copy.specs.Laying.{IsBlock, plainLength, entryEnd, sameHead, NextLaid}
+use Rattle.copy.specs.Copy.{IsBlock, plainLength, entryEnd, sameHead, NextLaid}
 use Rattle.copy.proofs.Finding.{plain-then, same-head-is}
 
 -- What is written for valid entries is a block.

@@ -13,7 +13,7 @@ use Rattle.words.proofs.Choosing.{less-or-not}
 use Rattle.words.proofs.Output.{length-part, wrote-none, wrote-then}
 use Rattle.blocks.specs.Lay.{lay}
 use Rattle.copy.specs.declared.Part.{Part}
-use Rattle.copy.specs.Laying.{IsBlock, sourceOf, partBytes, NextLaid}
+use Rattle.copy.specs.Copy.{IsBlock, sourceOf, partBytes, NextLaid}
 use Rattle.copy.proofs.Laws.{lay-end}
 
 part-length : (block copy : List ℕ) (at : ℕ) (part : Part) → NextLaid block copy at part → length (lay block (drop at copy)) ≡ part .to - part .from + length (lay block (drop (part .next) copy))

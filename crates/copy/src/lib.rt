@@ -6,7 +6,10 @@ ghost use lib.Dec.{leb};
 ghost use lib.ListN.{length, drop, getD};
 ghost use Rattle.words.specs.Output.{Wrote};
 ghost use Rattle.blocks.specs.Lay.{lay};
-ghost use Rattle.copy.specs.Laying.{IsBlock, entryEnd, sameHead, sourceOf, partBytes, NextLaid, laying};
+ghost use Rattle.copy.specs.Copy.{IsBlock, entryEnd, sameHead, sourceOf, partBytes, NextLaid, laying};
+
+// An entry of a block starts with it.
+const ESC: u8 = 0x1B;
 
 // Whether the bytes were laid, and how many they are.
 pub enum Laid {
@@ -51,7 +54,7 @@ fn same_head(one: &[u8], at: usize, other: &[u8], from: usize) -> bool
         if one[here] != other[there] {
             return false;
         }
-        if one[here] == 0x66 {
+        if one[here] == b'f' {
             return true;
         }
         here += 1;
@@ -67,7 +70,7 @@ fn laid_part(block: &[u8], copy: &[u8], at: usize) -> Part
 {
     let next = entry_end(copy, at);
     let mut here = 0;
-    while block[here] == 0x1B {
+    while block[here] == ESC {
         let end = entry_end(block, here);
         if same_head(block, here, copy, at) {
             return Part {
@@ -94,7 +97,7 @@ fn has_room(block: &[u8], copy: &[u8], room: usize) -> bool
 {
     let mut left = room;
     let mut at = 0;
-    while copy[at] == 0x1B {
+    while copy[at] == ESC {
         let part = laid_part(block, copy, at);
         let size = part.to - part.from;
         if left < size {
@@ -107,8 +110,10 @@ fn has_room(block: &[u8], copy: &[u8], room: usize) -> bool
 }
 
 fn put_part(out: &mut [u8], at: usize, block: &[u8], copy: &[u8], part: Part) -> usize
-    requires { ⌜ (part .from ≤ part .to) × (part .to ≤ length (sourceOf (now block) (now copy) part)) × (at + (part .to - part .from) ≤ length (now out)) ⌝ }
-    ensures { λ r. ⌜ Wrote at (partBytes (now (block .entry)) (now (copy .entry)) part) (now (out .entry)) r (now (out .exit)) ⌝ }
+    requires { ⌜ (part .from ≤ part .to) × (part .to ≤ length (sourceOf (now block) (now copy) part))
+        × (at + (part .to - part .from) ≤ length (now out)) ⌝ }
+    ensures { λ r. ⌜ Wrote at (partBytes (now (block .entry)) (now (copy .entry)) part)
+        (now (out .entry)) r (now (out .exit)) ⌝ }
 {
     let from = part.from;
     let to = part.to;
@@ -125,7 +130,7 @@ fn put_laid(out: &mut [u8], block: &[u8], copy: &[u8]) -> usize
 {
     let mut next = 0;
     let mut at = 0;
-    while copy[at] == 0x1B {
+    while copy[at] == ESC {
         let part = laid_part(block, copy, at);
         next = put_part(out, next, block, copy, part);
         at = part.next;
@@ -136,7 +141,8 @@ fn put_laid(out: &mut [u8], block: &[u8], copy: &[u8]) -> usize
 // Lays a block over a copy, into the output from its start on; where there is too little room nothing happens.
 pub fn lay(block: &[u8], copy: &[u8], out: &mut [u8]) -> Laid
     requires { ⌜ IsBlock (now block) × IsBlock (now copy) ⌝ }
-    ensures { λ r. ⌜ record { answer = r; output = now (out .exit) } ≡ laying (lay (now (block .entry)) (now (copy .entry))) (now (out .entry)) ⌝ }
+    ensures { λ r. ⌜ record { answer = r; output = now (out .exit) }
+        ≡ laying (lay (now (block .entry)) (now (copy .entry))) (now (out .entry)) ⌝ }
 {
     if !has_room(block, copy, out.len()) {
         return Laid::NoRoom;

@@ -7,7 +7,7 @@ use lib.Dec.{eqb}
 use Rattle.words.specs.Choice.{if_then_else_, _and_, _is_to_}
 use Rattle.words.specs.Lists.{every}
 use Rattle.state.specs.State.{zeroState}
-use Rattle.damage.specs.Parts.{flagNumber, figuresOf, partOf, chosen, argumentsWith, stopsWith, withPart}
+use Rattle.damage.specs.Parts.{flagNumber, firstParts, partOf, chosen, argumentsWith, stopsWith, withPart}
 
 -- the first and the last of each group
 abbrev parts : List ℕ
@@ -17,10 +17,10 @@ abbrev onlyThis : ℕ → Bool
 onlyThis part = every (λ other. eqb (partOf (withPart zeroState part 1) other) (flagNumber (eqb other part))) parts
 
 pub each-alone : every onlyThis parts ≡ true
-unfolding if_then_else_ _and_ _is_to_ every flagNumber figuresOf partOf chosen argumentsWith stopsWith withPart
+unfolding if_then_else_ _and_ _is_to_ every flagNumber firstParts partOf chosen argumentsWith stopsWith withPart
 each-alone = refl
 
 -- a number, a byte, a flag, an argument and a tab stop set to 65,535; a part that there is not
 pub largest-set : partOf (withPart zeroState 0 65535) 0 ∷ partOf (withPart zeroState 4 65535) 4 ∷ partOf (withPart zeroState 5 65535) 5 ∷ partOf (withPart zeroState 19 65535) 19 ∷ partOf (withPart zeroState 179 65535) 179 ∷ partOf (withPart zeroState 180 65535) 180 ∷ [] ≡ 65535 ∷ 255 ∷ 1 ∷ 65535 ∷ 1 ∷ 0 ∷ []
-unfolding if_then_else_ _and_ _is_to_ flagNumber figuresOf partOf chosen argumentsWith stopsWith withPart
+unfolding if_then_else_ _and_ _is_to_ flagNumber firstParts partOf chosen argumentsWith stopsWith withPart
 largest-set = refl

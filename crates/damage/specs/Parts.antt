@@ -19,8 +19,8 @@ abbrev pub isOn : ℕ → Bool
 isOn value = ltb 0 value
 
 -- The parts before the arguments and the tab stops.
-unfoldable pub figuresOf : State → List ℕ
-figuresOf s =
+unfoldable pub firstParts : State → List ℕ
+firstParts s =
     s .size .rows
     ∷ s .size .columns
     ∷ s .cursor .row
@@ -38,7 +38,7 @@ figuresOf s =
 -- A part's value; past the last part, 0.
 unfoldable pub partOf : State → ℕ → ℕ
 partOf s part =
-    if ltb part 12 then getD (figuresOf s) part 0
+    if ltb part 12 then getD (firstParts s) part 0
     else if ltb part 20 then getD (s .half .arguments) (part - 12) 0
     else if ltb part 180 then flagNumber (getD (s .stops) (part - 20) false)
     else 0
@@ -64,7 +64,11 @@ withPart s part value =
     record {
       size = record { rows = chosen 0 part value (s .size .rows); columns = chosen 1 part value (s .size .columns) };
       cursor = record { row = chosen 2 part value (s .cursor .row); column = chosen 3 part value (s .cursor .column) };
-      modes = record { pen = chosen 4 part (value % 256) (s .modes .pen); erasure = chosen 5 part (isOn value) (s .modes .erasure) };
+      modes =
+          record {
+            pen = chosen 4 part (value % 256) (s .modes .pen);
+            erasure = chosen 5 part (isOn value) (s .modes .erasure);
+          };
       locks =
           record {
             manual = chosen 6 part (isOn value) (s .locks .manual);

@@ -7,7 +7,8 @@ use state::Size;
 use state::State;
 ghost use mathlib.Core.Path.{_≡_};
 ghost use Prim.Native.Nat.{_%_};
-ghost use Rattle.damage.specs.Parts.{flagNumber, isOn, figuresOf, partOf, chosen, argumentsWith, stopsWith, withPart};
+ghost use Rattle.damage.specs.Parts.{flagNumber, isOn, firstParts, partOf};
+ghost use Rattle.damage.specs.Parts.{chosen, argumentsWith, stopsWith, withPart};
 
 // As many parts as a state has.
 pub const PARTS: usize = 180;
@@ -22,8 +23,8 @@ fn flag_number(flag: bool) -> usize
 }
 
 // The parts before the arguments and the tab stops.
-fn figures_of(state: State) -> [usize; 12]
-    ensures { λ r. ⌜ r ≡ figuresOf state ⌝ }
+fn first_parts(state: State) -> [usize; 12]
+    ensures { λ r. ⌜ r ≡ firstParts state ⌝ }
 {
     [
         state.size.rows,
@@ -41,12 +42,13 @@ fn figures_of(state: State) -> [usize; 12]
     ]
 }
 
+// A part's value; past the last part, 0.
 pub fn part_of(state: State, part: usize) -> usize
     ensures { λ r. ⌜ r ≡ partOf state part ⌝ }
 {
     if part < 12 {
-        let figures = figures_of(state);
-        return figures[part];
+        let parts = first_parts(state);
+        return parts[part];
     }
     if part < 20 {
         let arguments = state.half.arguments;
@@ -114,6 +116,7 @@ fn stops_with(stops: [bool; 160], part: usize, value: u16) -> [bool; 160]
     next
 }
 
+// The state with one part set; past the last part, the state as it is.
 pub fn with_part(state: State, part: usize, value: u16) -> State
     ensures { λ r. ⌜ r ≡ withPart state part value ⌝ }
 {

@@ -2,14 +2,15 @@
 use mathlib.Core.Path.{_≡_, refl}
 use mathlib.Core.Bool.{true, false}
 use mathlib.Core.List.{[], _∷_, _++_, flatMap}
+use Prim.Native.Char.{code}
 use lib.ListN.{replicate}
 use Rattle.words.specs.Choice.{if_then_else_}
 use Rattle.state.specs.declared.State.{State}
 use Rattle.numerals.specs.Hexadecimal.{digitOf}
-use Rattle.numerals.specs.Figures.{bytes}
+use Rattle.words.specs.Text.{bytes}
 use Rattle.drawing.specs.Drawing.{exactly, penLine, locksLine, stopsLine, halfLine, stateLines, rowsOf, rowLine, drawn}
 
--- two rows of three columns, a tab stop in column 2, and ESC [ 1 ; 65535 read so far
+-- Two rows of three columns, a tab stop in column 2, and ESC [ 1 ; 65535 read so far
 abbrev small : State
 small =
     record {
@@ -23,7 +24,7 @@ small =
 
 pub small-drawn : drawn small (bytes "KN .-!") (0 ∷ 1 ∷ 0x4D ∷ 0xFF ∷ 0xA0 ∷ 2 ∷ [])
     ≡ bytes "size 00002 00003\ncursor 00001 00003\npen 4D erasure 1\nmanual 0 soft 1 message 00001\nstops .T"
-    ++ replicate 158 0x2E
+    ++ replicate 158 (code ".")
     ++ bytes "\nhalf 00003 spoilt 0 count 00002 arguments 00001 65535 00000 00000 00000 00000 00000 00000\n|KN |\n|.-!|\n:00014D\n:FFA002\n"
 unfolding if_then_else_ flatMap digitOf exactly penLine locksLine stopsLine halfLine stateLines rowsOf rowLine drawn
 small-drawn = refl

@@ -12,7 +12,7 @@ use Rattle.state.specs.declared.Modes.{Modes}
 use Rattle.state.specs.declared.Locks.{Locks}
 use Rattle.state.specs.declared.State.{State}
 use Rattle.numerals.specs.Hexadecimal.{hexOf}
-use Rattle.numerals.specs.Figures.{bytes}
+use Rattle.words.specs.Text.{bytes}
 use Rattle.numerals.proofs.Walks.{flat-length}
 use Rattle.numerals.proofs.Digits.{hex-length}
 use Rattle.drawing.specs.Drawing.{lineEnd, stopOf, spaced, penLine, locksLine, exactly, allStops, stopsLine, allArguments, halfLine, stateLines, rowsOf, rowLine, rowLines, drawn}

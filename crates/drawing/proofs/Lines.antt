@@ -9,7 +9,7 @@ use lib.Seq.{drop-drop}
 use Rattle.words.proofs.Choosing.{then-case, else-case}
 use Rattle.words.proofs.Walking.{once-more}
 use Rattle.numerals.specs.Hexadecimal.{hexOf}
-use Rattle.numerals.specs.Figures.{bytes}
+use Rattle.words.specs.Text.{bytes}
 use Rattle.drawing.specs.Drawing.{lineEnd, rowsOf, rowLine, rowLines}
 
 module _ (row : List ℕ) {inHex : Bool} where

@@ -17,7 +17,8 @@ use Rattle.sequence.specs.declared.HalfRead.{HalfRead}
 use Rattle.state.specs.declared.Modes.{Modes}
 use Rattle.state.specs.declared.Locks.{Locks}
 use Rattle.state.specs.declared.State.{State}
-use Rattle.numerals.specs.Figures.{bytes, fiveDigits}
+use Rattle.words.specs.Text.{bytes}
+use Rattle.numerals.specs.Text.{fiveDigits}
 use Rattle.numerals.specs.Hexadecimal.{hexByte, hexOf}
 
 abbrev pub lineEnd : List ℕ
@@ -40,7 +41,8 @@ flagged word flag = word ++ flagText flag
 abbrev pub spaced : ℕ → List ℕ
 spaced number = numbered (bytes " ") number
 
--- Exactly so many elements: a longer list is cut, a shorter one filled up. A state's lists have these lengths, but only its type in the code says so.
+-- Exactly so many elements: a longer list is cut, a shorter one filled up. A state's lists have these lengths, but only
+-- its type in the code says so.
 unfoldable pub exactly : {A : Type 0} → ℕ → A → List A → List A
 exactly zero filler list = []
 exactly (suc n) filler [] = filler ∷ exactly n filler []

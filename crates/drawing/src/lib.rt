@@ -10,7 +10,9 @@ ghost use Prim.Native.Nat.{_+_, _*_, _<_, _≤_};
 ghost use lib.ListN.{length};
 ghost use Rattle.words.specs.Choice.{if_then_else_};
 ghost use Rattle.words.specs.Output.{Wrote};
-ghost use Rattle.drawing.specs.Drawing.{numbered, flagged, spaced, pairLine, penLine, locksLine, allStops, stopsLine, allArguments, halfLine, stateLines, rowLine, rowLines, drawn, FiveDigitsEach};
+ghost use Rattle.drawing.specs.Drawing.{numbered, flagged, spaced, pairLine, penLine, locksLine};
+ghost use Rattle.drawing.specs.Drawing.{allStops, stopsLine, allArguments, halfLine, stateLines};
+ghost use Rattle.drawing.specs.Drawing.{rowLine, rowLines, drawn, FiveDigitsEach};
 
 fn byte_if(test: bool, yes: u8, no: u8) -> u8
     ensures { λ r. ⌜ r ≡ (if test then yes else no) ⌝ }
@@ -167,7 +169,8 @@ fn put_rows(
 ) -> usize
     requires { ⌜ length (now cells) ≡ rows * columns ⌝ }
     requires { ⌜ at + length (rowLines in_hex rows columns (now cells)) ≤ length (now text) ⌝ }
-    ensures { λ r. ⌜ Wrote at (rowLines in_hex rows columns (now (cells .entry))) (now (text .entry)) r (now (text .exit)) ⌝ }
+    ensures { λ r. ⌜ Wrote at (rowLines in_hex rows columns (now (cells .entry)))
+        (now (text .entry)) r (now (text .exit)) ⌝ }
 {
     let mut next = at;
     let mut from = 0;
@@ -181,11 +184,14 @@ fn put_rows(
     next
 }
 
+// A terminal's state and page, whose size the lent cells have.
 pub fn draw(state: State, characters: &[u8], marks: &[Mark], text: &mut [u8], at: usize) -> usize
     requires { ⌜ FiveDigitsEach state ⌝ }
-    requires { ⌜ (length (now characters) ≡ state .size .rows * state .size .columns) × (length (now marks) ≡ state .size .rows * state .size .columns) ⌝ }
+    requires { ⌜ (length (now characters) ≡ state .size .rows * state .size .columns)
+        × (length (now marks) ≡ state .size .rows * state .size .columns) ⌝ }
     requires { ⌜ at + length (drawn state (now characters) (now marks)) ≤ length (now text) ⌝ }
-    ensures { λ r. ⌜ Wrote at (drawn state (now (characters .entry)) (now (marks .entry))) (now (text .entry)) r (now (text .exit)) ⌝ }
+    ensures { λ r. ⌜ Wrote at (drawn state (now (characters .entry)) (now (marks .entry)))
+        (now (text .entry)) r (now (text .exit)) ⌝ }
 {
     let rows = state.size.rows;
     let columns = state.size.columns;

@@ -1,5 +1,7 @@
-// The examples of document 01 that are not starred: a host call of 65,536 bytes is accepted, and one of 65,537 is given 6.
-// A line for each call: its bytes; then its number, the bytes taken, the bytes sent, the cells stored, the cursor's row and column.
+// The examples of document 01 that are not starred: a host call of 65,536 bytes is accepted, and one of 65,537 is
+// given 6. A line for each call: its bytes; then its number, the bytes taken, the bytes sent, the cells stored, the
+// cursor's row and column.
+use page::Mark;
 use terminal::Reply;
 
 fn print(number: usize, after: u8) {
@@ -21,9 +23,9 @@ fn tell(bytes: usize, reply: Reply) {
 
 fn main() {
     let mut characters = [0u8; 1920];
-    let mut marks = [0u8; 1920];
+    let mut marks: [Mark; 1920] = [0; 1920];
     let mut out = [0u8; 1];
-    let bytes = [0x41u8; 65537];
+    let bytes = [b'A'; 65537];
     let started = terminal::start(24, 80, &mut characters, &mut marks);
     tell(0, started);
     let state = started.state;

@@ -1,11 +1,13 @@
 -- Laws of the calls: what an output held before makes no difference, and the bytes sent fit in it.
 use mathlib.Core.Path.{_≡_, refl, sym, ap, _∙_}
+use mathlib.Core.Bool.{Bool, true, false}
 use mathlib.Core.List.{List, [], _∷_, _++_}
 use Prim.Native.Nat.{ℕ, _-_, _%_, _≤_}
 use native.Mathlib.Omega.{arith}
 use borrow.Author.Tests.{leb-true}
 use lib.Dec.{leb}
 use lib.ListN.{length, length-append, length-replicate}
+use Rattle.words.specs.Choice.{if_then_else_}
 use Rattle.words.specs.Output.{placed}
 use Rattle.words.proofs.Choosing.{either-line}
 use Rattle.words.proofs.Output.{placed-before, wrote-none}
@@ -14,7 +16,7 @@ use Rattle.keys.specs.Keys.{keyStep}
 use Rattle.terminal.specs.declared.Answer.{Answer}
 use Rattle.terminal.specs.declared.Answer.the-variants.{Done, WrongSize, WrongState, NoRoom, UnknownKey, Locked, TooLong, NoCell}
 use Rattle.terminal.specs.Runs.{stepsOf, fitting, bytesSentBy}
-use Rattle.terminal.specs.Answers.{Outcome, numberOf, unchanged, afterSteps, gives, bytesSent}
+use Rattle.terminal.specs.Answers.{Outcome, numberOf, unchanged, afterSteps, changesNothing, gives, bytesSent}
 use Rattle.terminal.specs.Tests.{firstOf, hostLines, keyLines}
 use Rattle.terminal.specs.Calls.{hostCall, keyCall}
 use Rattle.terminal.proofs.Running.{steps-count}
@@ -66,15 +68,12 @@ module _ (t : Terminal) (taken : ℕ) (steps : List Stepped) (one other : List �
       }
 
   gives-alike : (answer : Answer) → Alike (gives answer taken t one steps) (gives answer taken t other steps) other
-  unfolding gives
-  gives-alike Done = did-alike Done
-  gives-alike WrongSize = unchanged-alike WrongSize
-  gives-alike WrongState = unchanged-alike WrongState
-  gives-alike NoRoom = did-alike NoRoom
-  gives-alike UnknownKey = unchanged-alike UnknownKey
-  gives-alike Locked = unchanged-alike Locked
-  gives-alike TooLong = unchanged-alike TooLong
-  gives-alike NoCell = unchanged-alike NoCell
+  unfolding gives if_then_else_
+  gives-alike answer = go (changesNothing answer)
+    where
+      go : (nothing : Bool) → Alike (if nothing then unchanged answer t one else afterSteps answer taken t one steps) (if nothing then unchanged answer t other else afterSteps answer taken t other steps) other
+      go true = unchanged-alike answer
+      go false = did-alike answer
 
 -- Of steps that fit, the bytes do; and they are no more steps than there are.
 fitting-sends : (room : ℕ) (steps : List Stepped) → length (bytesSentBy (fitting room steps)) ≤ room
@@ -102,14 +101,10 @@ pub record Within (outcome : Outcome) (room most : ℕ) : Type 0 where
 
 gives-within : (answer : Answer) (taken : ℕ) (t : Terminal) (held : List ℕ) (steps : List Stepped) (room : ℕ) → length (bytesSentBy steps) ≤ room → Within (gives answer taken t held steps) room taken
 unfolding gives afterSteps unchanged
-gives-within Done taken t held steps room fits = record { sent = fits; taken = omega arith }
-gives-within WrongSize taken t held steps room fits = record { sent = omega arith; taken = omega arith }
-gives-within WrongState taken t held steps room fits = record { sent = omega arith; taken = omega arith }
-gives-within NoRoom taken t held steps room fits = record { sent = fits; taken = omega arith }
-gives-within UnknownKey taken t held steps room fits = record { sent = omega arith; taken = omega arith }
-gives-within Locked taken t held steps room fits = record { sent = omega arith; taken = omega arith }
-gives-within TooLong taken t held steps room fits = record { sent = omega arith; taken = omega arith }
-gives-within NoCell taken t held steps room fits = record { sent = omega arith; taken = omega arith }
+gives-within answer taken t held steps room fits =
+    either-line (λ (o : Outcome). Within o room taken) (changesNothing answer) _ _
+    (λ _. record { sent = omega arith; taken = omega arith })
+    (λ _. record { sent = fits; taken = omega arith })
 
 -- The output that the definition lends is as long as the code's.
 pub output-long : length output ≡ 65536

@@ -1,11 +1,11 @@
--- 256 calls are enough for a frame: no transmission of a host byte exceeds the output, so a call given 3 takes a byte at least.
-use mathlib.Core.Path.{_≡_, sym, ap, _∙_}
+-- 256 calls are enough for a frame: no transmission of a host byte exceeds the output, so a call given 3 takes a byte
+-- at least.
+use mathlib.Core.Path.{_≡_, sym, ap, _∙_, subst}
 use mathlib.Core.Bool.{true}
 use mathlib.Core.List.{List, [], _∷_, _++_}
 use Prim.Native.Nat.{ℕ, zero, suc, _+_, _<_, _≤_}
 use native.Mathlib.Omega.{arith}
-use borrow.Author.Tests.{eqb-true, leb-true, ltb-true, ltb-false}
-use lib.Dec.{ltb}
+use borrow.Author.Tests.{eqb-true, leb-true}
 use lib.ListN.{length, length-drop}
 use Rattle.words.proofs.Choosing.{true-is-not-false, then-case, else-case, either-line, either-way, both}
 use Rattle.state.specs.Tests.{sizeFits}
@@ -14,9 +14,12 @@ use Rattle.commands.specs.Host.{hostStep}
 use Rattle.commands.proofs.Lengths.{step-short}
 use Rattle.terminal.specs.Runs.{stepsOf, fitting}
 use Rattle.terminal.specs.Answers.{Outcome, numberOf, unchanged, afterSteps}
-use Rattle.terminal.specs.Tests.{exceedsRoom, passesLine2}
+use Rattle.terminal.specs.Tests.{exceedsRoom}
 use Rattle.terminal.specs.Calls.{hostCall}
-use Rattle.terminal.proofs.Deciding.{fits-on, host-wrong-size, host-wrong-state, host-too-long, host-no-room, host-done}
+use Rattle.terminal.proofs.Deciding.{fits-on}
+use Rattle.terminal.proofs.Exceeding.{line-3, line-3-done}
+use Rattle.terminal.proofs.Cases.{HostCase, host-case}
+use Rattle.terminal.proofs.Cases as Cases
 use Rattle.numerals.specs.Hexadecimal.{bytesIn}
 use Rattle.frames.specs.Frames.{Frame, start, host, key, noFrame, frameIn, frameOf, restOf}
 use Rattle.frames.specs.Sessions.{Session, noSession, session, output, started, hosted, keyed, uncalled, callOf, frameDone, lineDone}
@@ -33,19 +36,15 @@ module _ (t : Terminal) (size : sizeFits (t .state .size) (t .page) ≡ true) wh
 
 pub three-takes : (t : Terminal) (bytes : List ℕ) → hostCall t bytes output .number ≡ 3 → 0 < hostCall t bytes output .taken
 unfolding unchanged afterSteps numberOf
-three-takes t bytes three =
-    either-way (sizeFits (t .state .size) (t .page))
-    (λ size. either-way (passesLine2 t)
-    (λ valid. either-way (ltb 65536 (length bytes))
-    (λ long. refused (host-too-long t bytes output size valid (ltb-true 65536 (length bytes) long)) (λ e. omega (arith, e)))
-    (λ short. either-way (exceedsRoom (length output) (stepsOf t bytes))
-    (λ exceeds. rw (host-no-room t bytes output size valid (ltb-false 65536 (length bytes) short) exceeds) (takes-one t size bytes exceeds))
-    (λ fit. refused (host-done t bytes output size valid (ltb-false 65536 (length bytes) short) fit) (λ e. omega (arith, e)))))
-    (λ invalid. refused (host-wrong-state t bytes output size invalid) (λ e. omega (arith, e))))
-    (λ wrong. refused (host-wrong-size t bytes output wrong) (λ e. omega (arith, e)))
+three-takes t bytes three = go (host-case t bytes output)
   where
-    refused : {one : Outcome} → hostCall t bytes output ≡ one → (one .number ≡ 3 → ⊥) → 0 < hostCall t bytes output .taken
-    refused is other = absurd (other (sym (ap (λ (o : Outcome). o .number) is) ∙ three))
+    go : HostCase t bytes output → 0 < hostCall t bytes output .taken
+    go (Cases.refused answer a b is) = absurd (b (sym (ap (λ (o : Outcome). o .number) is) ∙ three))
+    go (Cases.stopped valid line is) =
+        let exceeds = line-3 (length output) (stepsOf t bytes) .1 line in
+        let some = takes-one t (valid .size) bytes exceeds in
+        rw is (subst (λ (steps : List Stepped). 0 < length steps) (line-3-done (length output) (stepsOf t bytes) line) some)
+    go (Cases.done valid fits is) = absurd (omega (arith, sym (ap (λ (o : Outcome). o .number) is) ∙ three))
 
 -- So what is left of a frame has fewer host bytes.
 unfoldable hostBytes : Frame → ℕ

@@ -1,4 +1,4 @@
--- What a line says (document 01, "Examples", the frames): a start with a size, host bytes, or a key; else it is no frame.
+-- What a line says (document 01, "Examples", the frames): a start with a size, host bytes, or a key; else no frame.
 use mathlib.Core.List.{List, [], _∷_}
 use Prim.Native.Nat.{ℕ, _+_, _*_}
 use lib.Dec.{eqb, leb}

@@ -14,11 +14,11 @@ use Rattle.frames.specs.declared.Kind.the-variants.{Start, Host, Key, Ot
 use Rattle.frames.specs.declared.Held.{Held}
 use Rattle.frames.specs.declared.Printed.{Printed}
 use Rattle.frames.specs.Frames.{Frame, start, host, key, noFrame}
-use Rattle.frames.specs.Sessions.{Session, noSession, session, FrameCall}
+use Rattle.frames.specs.Sessions.{Session, noSession, session, FrameCall, callOf}
 use Rattle.frames.specs.Transcript.{SoFar}
 
--- The room for a line is 512 bytes. Of a longer line only that it is longer is kept (the length 513), and it is read as an empty one:
--- neither is a frame.
+-- The room for a line is 512 bytes. Of a longer line only that it is longer is kept (the length 513), and it is read as
+-- an empty one: neither is a frame.
 unfoldable pub longer : ℕ → ℕ
 longer length =
     if ltb length 512 then length + 1
@@ -35,7 +35,7 @@ pub record Collected (line buffer : List ℕ) (digits : ℕ) : Type 0 where
   pub counted : digits ≡ min (length line) 513
   pub stands : length line ≤ 512 → take digits buffer ≡ line
 
--- A frame's kind, and back. Host bytes stand in the line from place 1 to before `to`; those before `from` have been taken.
+-- A frame's kind, and back. Host bytes stand in the line from place 1 to before `to`; those before `from` were taken.
 unfoldable pub kindOf : Frame → Kind
 kindOf (start rows columns) = Start rows columns
 kindOf (host bytes) = Host (length bytes + 1)
@@ -63,7 +63,8 @@ marksOf (session t) = t .page .marks
 
 unfoldable pub sessionIn : Held → List ℕ → List ℕ → Session
 sessionIn held characters marks =
-    if held .going then session (record { state = held .state; page = pageOf (take (held .cells) characters) (take (held .cells) marks) })
+    let page = pageOf (take (held .cells) characters) (take (held .cells) marks) in
+    if held .going then session (record { state = held .state; page = page })
     else noSession
 
 -- The code holds what has been read: the line so far and the session.
@@ -81,7 +82,8 @@ pub record Lent : Type 0 where
 abbrev pub lent : List ℕ → List ℕ → List ℕ → List ℕ → Lent
 lent characters marks out text = record { characters = characters; marks = marks; out = out; text = text }
 
--- Room for the largest page, 48 x 160, an output of 65,536 bytes, and its line: 7 bytes before those sent, two digits each, and 0A.
+-- Room for the largest page, 48 x 160, an output of 65,536 bytes, and its line: 7 bytes before those sent, two digits
+-- each, and 0A.
 pub record Enough (before : Lent) : Type 0 where
   pub characters : length (before .characters) ≡ 7680
   pub marks : length (before .marks) ≡ 7680
@@ -98,3 +100,8 @@ pub record CallDone (call : FrameCall) (from : ℕ) (before : Lent) (r : Printed
   pub from-on : r .from ≡ from + call .taken
   pub more : r .more ≡ call .more
   pub going : sessionIn (r .held) (after .characters) (after .marks) ≡ call .after
+
+-- The code made the call of a frame on the session that it held.
+abbrev pub CallMade : Frame → Held → ℕ → Lent → Printed → Lent → Type 0
+CallMade frame held from before r after =
+    CallDone (callOf frame (sessionIn held (before .characters) (before .marks))) from before r after

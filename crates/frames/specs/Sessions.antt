@@ -17,14 +17,16 @@ pub data Session : Type 0 where
   noSession : Session
   session : Terminal → Session
 
--- What is lent to a call: R x C cells, and an output of 65,536 bytes. What they hold does not matter (proofs/Calling.antt, Starting.antt).
+-- What is lent to a call: R x C cells, and an output of 65,536 bytes. What they hold does not matter
+-- (proofs/Calling.antt, Starting.antt).
 abbrev pub lentPage : ℕ → ℕ → Page
 lentPage rows columns = pageOf (replicate (rows * columns) 0) (replicate (rows * columns) 0)
 
 unfoldable pub output : List ℕ
 output = replicate 65536 0
 
--- One call of a frame: the session after it, the line printed, the bytes sent, the host bytes taken, and whether to carry on.
+-- One call of a frame: the session after it, the line printed, the bytes sent, the host bytes taken, and whether to
+-- carry on.
 pub record FrameCall : Type 0 where
   pub after : Session
   pub text : List ℕ
@@ -55,13 +57,21 @@ hosted outcome =
     }
 
 unfoldable pub keyed : Outcome → FrameCall
-keyed outcome = record { after = session (outcome .terminal); text = printed outcome; sent = bytesSent outcome; taken = 0; more = false }
+keyed outcome =
+    record {
+      after = session (outcome .terminal);
+      text = printed outcome;
+      sent = bytesSent outcome;
+      taken = 0;
+      more = false;
+    }
 
 unfoldable pub uncalled : Session → FrameCall
 uncalled before = record { after = before; text = refusal; sent = []; taken = 0; more = false }
 
 unfoldable pub callOf : Frame → Session → FrameCall
-callOf (start rows columns) before = started (startCall (record { rows = rows; columns = columns }) (lentPage rows columns))
+callOf (start rows columns) before =
+    started (startCall (record { rows = rows; columns = columns }) (lentPage rows columns))
 callOf (host bytes) (session t) = hosted (hostCall t bytes output)
 callOf (host bytes) noSession = uncalled noSession
 callOf (key number) (session t) = keyed (keyCall t number output)
@@ -82,6 +92,7 @@ frameDone (suc calls) frame before =
     if call .more then record { after = rest .after; text = call .text ++ rest .text }
     else record { after = call .after; text = call .text }
 
--- A frame has at most 255 host bytes, and a call given 3 takes one at least, so 256 calls are enough (proofs/Lasting.antt).
+-- A frame has at most 255 host bytes, and a call given 3 takes one at least, so 256 calls are enough
+-- (proofs/Lasting.antt).
 unfoldable pub lineDone : List ℕ → Session → Done
 lineDone line before = frameDone 256 (frameOf line) before

@@ -1,4 +1,5 @@
-// The frames of the transcript program: a line read, its frame, and what its calls print. What they mean is defined in specs/.
+// The frames of the transcript program: a line read, its frame, and what its calls print. What they mean is defined in
+// specs/.
 use page::Mark;
 use state::State;
 use terminal::Reply;
@@ -13,7 +14,8 @@ ghost use Rattle.numerals.specs.Hexadecimal.{bytesIn};
 ghost use Rattle.frames.specs.Frames.{frameIn, frameOf, start, host, key};
 ghost use Rattle.frames.specs.Printing.{lineOf, printed, refusal};
 ghost use Rattle.frames.specs.Sessions.{Session, callOf, uncalled};
-ghost use Rattle.frames.specs.Held.{longer, lineIn, kindOf, frameAt, kept, sessionIn, lent, Enough, CallDone};
+ghost use Rattle.frames.specs.Held.{longer, lineIn, kindOf, frameAt, kept, sessionIn};
+ghost use Rattle.frames.specs.Held.{lent, Enough, CallDone, CallMade};
 
 // What a line says. The host bytes stand in the line from place 1 to before the place named.
 pub enum Kind {
@@ -78,7 +80,7 @@ fn kind_of(bytes: &[u8]) -> Kind
     Kind::Other
 }
 
-// A byte of a line, which has so many already.
+// A byte of a line, which has so many already: how many it has then.
 pub fn collect(line: &mut [u8], digits: usize, byte: u8) -> usize
     requires { ⌜ length (now line) ≡ 512 ⌝ }
     ensures { λ r. ⌜ (r ≡ longer digits) × (now (line .exit) ≡ set (now (line .entry)) digits byte) ⌝ }
@@ -93,7 +95,8 @@ pub fn collect(line: &mut [u8], digits: usize, byte: u8) -> usize
 // The bytes that a finished line says, left in the place of their digits.
 pub fn bytes(line: &mut [u8], digits: usize) -> usize
     requires { ⌜ length (now line) ≡ 512 ⌝ }
-    ensures { λ r. ⌜ Wrote 0 (bytesIn (lineIn (now (line .entry)) digits)) (now (line .entry)) r (now (line .exit)) × (r ≤ 256) ⌝ }
+    ensures { λ r. ⌜ Wrote 0 (bytesIn (lineIn (now (line .entry)) digits)) (now (line .entry)) r (now (line .exit))
+        × (r ≤ 256) ⌝ }
 {
     if 512 < digits {
         return 0;
@@ -104,23 +107,25 @@ pub fn bytes(line: &mut [u8], digits: usize) -> usize
     numerals::decode(line, digits)
 }
 
-// Its frame.
+// The frame that a finished line says; its bytes are left in the place of their digits.
 pub fn frame(line: &mut [u8], digits: usize) -> Kind
     requires { ⌜ length (now line) ≡ 512 ⌝ }
-    ensures { λ r. ⌜ (r ≡ kindOf (frameOf (lineIn (now (line .entry)) digits))) × (now (line .exit) ≡ placed 0 (bytesIn (lineIn (now (line .entry)) digits)) (now (line .entry))) ⌝ }
+    ensures { λ r. ⌜ (r ≡ kindOf (frameOf (lineIn (now (line .entry)) digits)))
+        × (now (line .exit) ≡ placed 0 (bytesIn (lineIn (now (line .entry)) digits)) (now (line .entry))) ⌝ }
 {
     let count = bytes(line, digits);
     kind_of(&line[..count])
 }
 
 // A line of these bytes.
-fn put_line(text: &mut [u8], head: &[u8], message: &[u8]) -> usize
-    requires { ⌜ 2 * length (now head) + 2 * length (now transmission) < length (now text) ⌝ }
-    ensures { λ r. ⌜ Wrote 0 (lineOf (now (head .entry) ++ now (transmission .entry))) (now (text .entry)) r (now (text .exit)) ⌝ }
+fn put_line(text: &mut [u8], head: &[u8], sent: &[u8]) -> usize
+    requires { ⌜ 2 * length (now head) + 2 * length (now sent) < length (now text) ⌝ }
+    ensures { λ r. ⌜ Wrote 0 (lineOf (now (head .entry) ++ now (sent .entry)))
+        (now (text .entry)) r (now (text .exit)) ⌝ }
 {
     let middle = numerals::put_hex(text, 0, head);
-    let end = numerals::put_hex(text, middle, message);
-    output::put_byte(text, end, 0x0A)
+    let end = numerals::put_hex(text, middle, sent);
+    output::put_byte(text, end, b'\n')
 }
 
 fn low_byte(number: usize) -> u8
@@ -132,7 +137,8 @@ fn low_byte(number: usize) -> u8
 // The line of a call that was answered so.
 fn print(text: &mut [u8], reply: Reply, out: &[u8]) -> usize
     requires { ⌜ (reply .sent ≤ length (now out)) × (reply .sent ≤ 65536) × (131087 ≤ length (now text)) ⌝ }
-    ensures { λ r. ⌜ ((page : Page) → Wrote 0 (printed (given reply page (now (out .entry)))) (now (text .entry)) r (now (text .exit))) ⌝ }
+    ensures { λ r. ⌜ ((page : Page) → Wrote 0 (printed (given reply page (now (out .entry))))
+        (now (text .entry)) r (now (text .exit))) ⌝ }
 {
     let answer = reply.answer;
     let stored = reply.stored;
@@ -156,12 +162,13 @@ fn print_refusal(text: &mut [u8]) -> usize
 {
     let head = [0xFF];
     let end = numerals::put_hex(text, 0, &head);
-    output::put_byte(text, end, 0x0A)
+    output::put_byte(text, end, b'\n')
 }
 
 // The session in its own form: one that goes on has no more cells than the largest page.
 fn settled(held: Held) -> Held
-    ensures { λ r. ⌜ ((characters marks : List ℕ) → length characters ≡ 7680 → r ≡ kept (sessionIn held characters marks)) ⌝ }
+    ensures { λ r. ⌜ ((characters marks : List ℕ) → length characters ≡ 7680 →
+        r ≡ kept (sessionIn held characters marks)) ⌝ }
 {
     if !held.going {
         return Held {
@@ -182,7 +189,10 @@ fn settled(held: Held) -> Held
 // No call is made, and the session stays.
 fn no_call(held: Held, from: usize, text: &mut [u8]) -> Printed
     requires { ⌜ 131087 ≤ length (now text) ⌝ }
-    ensures { λ r. ⌜ ((characters marks out : List ℕ) → length characters ≡ 7680 → length marks ≡ 7680 → CallDone (uncalled (sessionIn held characters marks)) from (lent characters marks out (now (text .entry))) r (lent characters marks out (now (text .exit)))) ⌝ }
+    ensures { λ r. ⌜ ((characters marks out : List ℕ) → length characters ≡ 7680 → length marks ≡ 7680 →
+        CallDone (uncalled (sessionIn held characters marks)) from
+        (lent characters marks out (now (text .entry)))
+        r (lent characters marks out (now (text .exit)))) ⌝ }
 {
     let end = print_refusal(text);
     Printed {
@@ -203,7 +213,9 @@ fn start_call(
     text: &mut [u8],
 ) -> Printed
     requires { ⌜ Enough (lent (now characters) (now marks) (now out) (now text)) ⌝ }
-    ensures { λ r. ⌜ ((before : Session) → CallDone (callOf (start rows columns) before) from (lent (now (characters .entry)) (now (marks .entry)) (now (out .entry)) (now (text .entry))) r (lent (now (characters .exit)) (now (marks .exit)) (now (out .entry)) (now (text .exit)))) ⌝ }
+    ensures { λ r. ⌜ ((before : Session) → CallDone (callOf (start rows columns) before) from
+        (lent (now (characters .entry)) (now (marks .entry)) (now (out .entry)) (now (text .entry)))
+        r (lent (now (characters .exit)) (now (marks .exit)) (now (out .entry)) (now (text .exit)))) ⌝ }
 {
     let cells = least(rows as usize * columns as usize, 7680);
     let reply = terminal::start(
@@ -252,7 +264,9 @@ fn host_call(
 ) -> Printed
     requires { ⌜ Enough (lent (now characters) (now marks) (now out) (now text)) ⌝ }
     requires { ⌜ (length (now line) ≡ 512) × (from ≤ 512) ⌝ }
-    ensures { λ r. ⌜ CallDone (callOf (host (drop from (take to (now (line .entry))))) (sessionIn held (now (characters .entry)) (now (marks .entry)))) from (lent (now (characters .entry)) (now (marks .entry)) (now (out .entry)) (now (text .entry))) r (lent (now (characters .exit)) (now (marks .exit)) (now (out .exit)) (now (text .exit))) ⌝ }
+    ensures { λ r. ⌜ CallMade (host (drop from (take to (now (line .entry))))) held from
+        (lent (now (characters .entry)) (now (marks .entry)) (now (out .entry)) (now (text .entry)))
+        r (lent (now (characters .exit)) (now (marks .exit)) (now (out .exit)) (now (text .exit))) ⌝ }
 {
     if !held.going {
         return no_call(held, from, text);
@@ -293,7 +307,9 @@ fn key_call(
     text: &mut [u8],
 ) -> Printed
     requires { ⌜ Enough (lent (now characters) (now marks) (now out) (now text)) ⌝ }
-    ensures { λ r. ⌜ CallDone (callOf (key number) (sessionIn held (now (characters .entry)) (now (marks .entry)))) from (lent (now (characters .entry)) (now (marks .entry)) (now (out .entry)) (now (text .entry))) r (lent (now (characters .exit)) (now (marks .exit)) (now (out .exit)) (now (text .exit))) ⌝ }
+    ensures { λ r. ⌜ CallMade (key number) held from
+        (lent (now (characters .entry)) (now (marks .entry)) (now (out .entry)) (now (text .entry)))
+        r (lent (now (characters .exit)) (now (marks .exit)) (now (out .exit)) (now (text .exit))) ⌝ }
 {
     if !held.going {
         return no_call(held, from, text);
@@ -334,7 +350,9 @@ pub fn call(
 ) -> Printed
     requires { ⌜ Enough (lent (now characters) (now marks) (now out) (now text)) ⌝ }
     requires { ⌜ (length (now line) ≡ 512) × (from ≤ 512) ⌝ }
-    ensures { λ r. ⌜ CallDone (callOf (frameAt kind (now (line .entry)) from) (sessionIn held (now (characters .entry)) (now (marks .entry)))) from (lent (now (characters .entry)) (now (marks .entry)) (now (out .entry)) (now (text .entry))) r (lent (now (characters .exit)) (now (marks .exit)) (now (out .exit)) (now (text .exit))) ⌝ }
+    ensures { λ r. ⌜ CallMade (frameAt kind (now (line .entry)) from) held from
+        (lent (now (characters .entry)) (now (marks .entry)) (now (out .entry)) (now (text .entry)))
+        r (lent (now (characters .exit)) (now (marks .exit)) (now (out .exit)) (now (text .exit))) ⌝ }
     ensures { λ r. ⌜ r .from ≤ 512 ⌝ }
 {
     match kind {

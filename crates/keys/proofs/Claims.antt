@@ -8,7 +8,8 @@ use lib.ListN.{getD}
 use Rattle.page.specs.Marks.{isModified, unprotected}
 use Rattle.page.specs.Page.{Page}
 use Rattle.steps.specs.Steps.{Terminal, report, fullBlock, changedBlock, Stepped, cursorCell}
-use Rattle.steps.specs.Claims.{SendsBlock, Sound, ProtectedKept}
+use Rattle.steps.specs.Claims.{SendsBlock, ProtectedKept}
+use Rattle.steps.proofs.Soundness.{Sound}
 use Rattle.steps.specs.Seen.{unprotectedAt}
 use Rattle.keys.specs.Keys.{isTyping, cellsFrom}
 use Rattle.steps.specs.Seen.{startHere, endHere}

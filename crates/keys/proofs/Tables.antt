@@ -20,14 +20,14 @@ use Rattle.fields.proofs.Theorems.{next-field-lands, previous-field-lands, firs
 use Rattle.state.specs.declared.State.{State}
 use Rattle.state.proofs.Keeping.{KeepsValid, up-keeps-valid, down-keeps-valid, right-keeps-valid, left-keeps-valid, cursor-keeps-valid, unlocked-keeps-valid}
 use Rattle.steps.specs.Steps.{Terminal, blockTransmission, Stepped, goesTo, stores, cursorCell, Valid}
-use Rattle.steps.specs.Claims.{markLeft, Sound}
+use Rattle.steps.specs.Claims.{markLeft}
 use Rattle.sending.specs.Sending.{sendBlock}
 use Rattle.steps.specs.Seen.{unprotectedAt}
 use Rattle.keys.specs.Keys.{isTyping, cellsFrom, goneTo, typedStep, toNextField, toPreviousField, toFirstUnprotected, fieldBlanked, restShifted, keyStep}
 use Rattle.steps.specs.Seen.{startHere, endHere}
 use Rattle.steps.proofs.Naming.{named-between, places-rise}
 use Rattle.steps.proofs.Storing.{typed-stored, part-stored}
-use Rattle.steps.proofs.Soundness.{cursor-on-page, goes-soundly, stores-soundly, clears-soundly}
+use Rattle.steps.proofs.Soundness.{Sound, cursor-on-page, goes-soundly, stores-soundly, clears-soundly}
 use Rattle.steps.proofs.Measuring.{Measured, measured}
 use Rattle.keys.proofs.Claims.{Tags, KeySound}
 use Rattle.keys.proofs.Always.{field-free, key-always}

@@ -12,7 +12,7 @@ use Rattle.words.proofs.Choosing.{one-holds, range-holds}
 use Rattle.words.proofs.Walking.{next-element}
 use Rattle.output.proofs.Digits.{twoDigits}
 use Rattle.numerals.specs.Hexadecimal.{isDigit, digitValue, hexByte, hexOf, pairsOf}
-use Rattle.numerals.specs.Figures.{fiveDigits}
+use Rattle.numerals.specs.Text.{fiveDigits}
 use Rattle.numerals.proofs.Walks.{flat-append, flat-length}
 
 -- A digit is one of two ranges.

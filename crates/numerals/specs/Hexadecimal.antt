@@ -2,23 +2,24 @@
 use mathlib.Core.Bool.{Bool}
 use mathlib.Core.List.{List, [], _∷_, flatMap}
 use Prim.Native.Nat.{ℕ, _+_, _-_, _*_, _/_, _%_}
+use Prim.Native.Char.{code}
 use lib.Dec.{eqb, ltb, leb}
 use lib.ListN.{length}
 use Rattle.words.specs.Choice.{if_then_else_, _and_, _or_, _is_to_}
 use Rattle.words.specs.Lists.{every}
 
--- 0 to 9, and A to F: 0x37 is ten before A.
+-- 0 to 9, and A to F; 0x37 is ten before A.
 unfoldable pub isDigit : ℕ → Bool
-isDigit digit = digit is 0x30 to 0x39 or digit is 0x41 to 0x46
+isDigit digit = digit is code "0" to code "9" or digit is code "A" to code "F"
 
 unfoldable pub digitValue : ℕ → ℕ
 digitValue digit =
-    if leb digit 0x39 then digit - 0x30
+    if leb digit (code "9") then digit - code "0"
     else digit - 0x37
 
 unfoldable pub digitOf : ℕ → ℕ
 digitOf value =
-    if ltb value 10 then 0x30 + value
+    if ltb value 10 then code "0" + value
     else 0x37 + value
 
 -- Bytes as digits.

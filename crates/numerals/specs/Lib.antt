@@ -1,2 +1,2 @@
 pub mod Hexadecimal
-pub mod Figures
+pub mod Text

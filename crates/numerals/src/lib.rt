@@ -1,4 +1,5 @@
-// Figures as text: bytes in hexadecimal, read and written, and numbers of five digits. For the programs that a person runs.
+// Numbers as text: bytes in hexadecimal, read and written, and numbers of five digits.
+// For the programs that a person runs.
 // Every function that writes does so into a lent text from a place on, and gives the place after.
 ghost use mathlib.Core.Path.{_≡_};
 ghost use mathlib.Core.Bool.{true};
@@ -6,22 +7,23 @@ ghost use Prim.Native.Nat.{_+_, _*_, _<_, _≤_};
 ghost use lib.ListN.{length, take};
 ghost use Rattle.words.specs.Lists.{every};
 ghost use Rattle.words.specs.Output.{Wrote};
-ghost use Rattle.numerals.specs.Hexadecimal.{isDigit, digitValue, digitOf, hexByte, hexOf, pairsOf, isHexadecimal};
-ghost use Rattle.numerals.specs.Figures.{fiveDigits};
+ghost use Rattle.numerals.specs.Hexadecimal.{isDigit, digitValue, digitOf, isHexadecimal};
+ghost use Rattle.numerals.specs.Hexadecimal.{hexByte, hexOf, pairsOf};
+ghost use Rattle.numerals.specs.Text.{fiveDigits};
 
 fn is_digit(byte: u8) -> bool
     ensures { λ r. ⌜ r ≡ isDigit byte ⌝ }
 {
-    if byte < 0x30 {
+    if byte < b'0' {
         return false;
     }
-    if byte <= 0x39 {
+    if byte <= b'9' {
         return true;
     }
-    if byte < 0x41 {
+    if byte < b'A' {
         return false;
     }
-    if byte <= 0x46 {
+    if byte <= b'F' {
         return true;
     }
     false
@@ -31,9 +33,10 @@ fn value_of(digit: u8) -> u8
     requires { ⌜ isDigit digit ≡ true ⌝ }
     ensures { λ r. ⌜ (r ≡ digitValue digit) × (r ≤ 15) ⌝ }
 {
-    if digit <= 0x39 {
-        return digit - 0x30;
+    if digit <= b'9' {
+        return digit - b'0';
     }
+    // ten before A
     digit - 0x37
 }
 
@@ -42,11 +45,13 @@ fn digit_of(value: u8) -> u8
     ensures { λ r. ⌜ r ≡ digitOf value ⌝ }
 {
     if value < 10 {
-        return 0x30 + value;
+        return b'0' + value;
     }
+    // ten before A
     0x37 + value
 }
 
+// Whether a text is whole bytes: two digits each.
 pub fn is_hexadecimal(text: &[u8]) -> bool
     ensures { λ r. ⌜ r ≡ isHexadecimal (now (text .entry)) ⌝ }
 {
@@ -63,7 +68,7 @@ pub fn is_hexadecimal(text: &[u8]) -> bool
     true
 }
 
-// Two digits become a byte, in place: it never stands past the digits still to be read.
+// The bytes that digits say, left in their place: a byte never stands past the digits still to be read.
 pub fn decode(text: &mut [u8], digits: usize) -> usize
     requires { ⌜ digits ≤ length (now text) ⌝ }
     requires { ⌜ every isDigit (take digits (now text)) ≡ true ⌝ }
@@ -81,6 +86,7 @@ pub fn decode(text: &mut [u8], digits: usize) -> usize
     count
 }
 
+// A byte as its two digits, the high one first.
 pub fn put_hex_byte(text: &mut [u8], at: usize, byte: u8) -> usize
     requires { ⌜ at + 2 ≤ length (now text) ⌝ }
     ensures { λ r. ⌜ Wrote at (hexByte byte) (now (text .entry)) r (now (text .exit)) ⌝ }

@@ -25,11 +25,11 @@ use Rattle.commands.specs.Text.{textStep}
 use Rattle.sending.specs.Sending.{sendBlock, readyReport, cursorReport, statusReport}
 use Rattle.table.specs.Moves.{isMove, moveStep}
 use Rattle.commands.specs.Commands.{escStep, listedStep, bracketStep}
-use Rattle.commands.specs.Host.{eventStep, hostStep}
+use Rattle.commands.specs.Host.{eventStep, settledState, settled, hostStep}
 use Rattle.keys.specs.Keys.{isTyping, isEditing, isFieldMove, isKnown, isLocked, isLockedOut, lacksCell, goneTo, typedStep, fieldBlanked, keyStep}
 use Rattle.terminal.specs.Runs.{stepsOf, fitting, after, bytesSentBy, cellsStoredBy}
-use Rattle.terminal.specs.Answers.{numberOf, unchanged, afterSteps, gives}
-use Rattle.terminal.specs.Tests.{firstOf, exceedsRoom, passesLine2, startLines, hostLines, keyLines}
+use Rattle.terminal.specs.Answers.{numberOf, unchanged, afterSteps, changesNothing, gives}
+use Rattle.terminal.specs.Tests.{firstOf, exceedsRoom, passesLine2, startLines, hostRefusals, keyRefusals, hostLines, keyLines}
 use Rattle.terminal.specs.Calls.{startCall, hostCall, keyCall}
 use Rattle.promises.specs.Rules.{stepOf, steps}
 use Rattle.promises.specs.Entries.{outcomeOf, outcomes, total, inputsOf, inputsDone, joinedBytes}
@@ -59,7 +59,7 @@ finding = tt
 
 -- The steps of host bytes and of keys.
 unfoldable pub hostSteps : Unit {0}
-unfolding tests withDigit withNextArgument isControl isCancel outsideSequence afterEsc afterIntermediate afterBracket insideSequence advanceOf textStored markAfterBlock modifiedCleared eachFrom refused inputDisabled decimal placeBytes bytesOf blockTransmission allowed valueOf toNextCell textStep sendBlock escStep readyReport cursorReport statusReport isMove moveStep listedStep bracketStep eventStep hostStep
+unfolding tests withDigit withNextArgument isControl isCancel outsideSequence afterEsc afterIntermediate afterBracket insideSequence advanceOf textStored markAfterBlock modifiedCleared eachFrom refused inputDisabled decimal placeBytes bytesOf blockTransmission allowed valueOf toNextCell textStep sendBlock escStep readyReport cursorReport statusReport isMove moveStep listedStep bracketStep eventStep settledState settled hostStep
 hostSteps = tt
 
 unfoldable pub keySteps : Unit {0}
@@ -68,7 +68,7 @@ keySteps = tt
 
 -- Calls, with all but their steps; and what several of them leave.
 unfoldable pub calls : Unit {0}
-unfolding validity bytesOf placed stepsOf fitting after bytesSentBy cellsStoredBy numberOf unchanged afterSteps gives firstOf exceedsRoom passesLine2 startLines hostLines keyLines startCall hostCall keyCall
+unfolding validity bytesOf placed stepsOf fitting after bytesSentBy cellsStoredBy numberOf unchanged afterSteps changesNothing gives firstOf exceedsRoom passesLine2 startLines hostRefusals keyRefusals hostLines keyLines startCall hostCall keyCall
 calls = tt
 
 unfoldable pub streams : Unit {0}

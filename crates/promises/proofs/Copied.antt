@@ -21,7 +21,8 @@ use Rattle.promises.specs.Further.{CopyingSteps}
 use Rattle.promises.proofs.Keeping.{sendable, leaves, was-on-page, same-form, same-full-block}
 use Rattle.promises.proofs.Following.{Follow, no-more, one-more, follow}
 
--- The copy is the full block of an earlier page of the same form; a cell that is not modified still has that page's character.
+-- The copy is the full block of an earlier page of the same form; a cell that is not modified still has that page's
+-- character.
 record IsCopy (copy : List ℕ) (t : Terminal) : Type 0 where
   page : Page
   is : copy ≡ block true (t .state .size .columns) page
@@ -75,7 +76,7 @@ module _ (copy : List ℕ) (t : Terminal) (valid : Valid t) (step : Stepped) (la
     and-later bytes now = λ i. now .0 i ∷ rest (lay bytes copy) (now .1) i
 
     copied-on : (transmission : Transmission) → step .transmission ≡ transmission
-        → copies copy (blockIn message ++ blocksSent later) ≡ map (blockHere true) (map (λ (block : List ℕ). step .terminal) (blockIn message) ++ standings later)
+        → copies copy (blockIn transmission ++ blocksSent later) ≡ map (blockHere true) (map (λ (block : List ℕ). step .terminal) (blockIn transmission) ++ standings later)
     unfolding blockIn markLeft
     copied-on silent is = rest copy (stays-copy (leaves step is))
     copied-on (report bytes) is = rest copy (stays-copy (leaves step is))

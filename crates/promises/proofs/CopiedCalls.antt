@@ -1,4 +1,5 @@
--- Demand 3 carried to calls: what they sent is the messages of the steps that they did, and the host finds their blocks in it.
+-- Demand 3 carried to calls: what they sent is the transmissions of the steps that they did, and the host finds their
+-- blocks in it.
 use mathlib.Core.Path.{_≡_, refl, ap, _∙_}
 use mathlib.Core.List.{List, [], _∷_, _++_}
 use Prim.Native.Nat.{ℕ}
@@ -19,7 +20,7 @@ use Rattle.promises.proofs.Omitted.{omission-of}
 -- The first of some steps sends a block.
 block-first : (rules : Rules) (t : Terminal) (asks : Input) (later : List Input) (block : List ℕ) → stepOf rules asks t .transmission ≡ fullBlock block → blocksSent (steps rules t (asks ∷ later)) ≡ block ∷ blocksSent (steps rules (stepOf rules asks t .terminal) later)
 unfolding steps blocksSent blockIn
-block-first rules t asks later block sends = ap (λ (message : Transmission). blockIn message ++ blocksSent (steps rules (stepOf rules asks t .terminal) later)) sends
+block-first rules t asks later block sends = ap (λ (transmission : Transmission). blockIn transmission ++ blocksSent (steps rules (stepOf rules asks t .terminal) later)) sends
 
 -- Inputs that begin with some, and go on.
 first-input : (before : List Input) (asks : Input) (later : List Input) → (input : Input) × (rest : List Input) × (before ++ (asks ∷ later) ≡ input ∷ rest)
@@ -27,7 +28,7 @@ first-input [] asks later = (asks, later, refl)
 first-input (input ∷ before) asks later = (input, before ++ (asks ∷ later), refl)
 
 module _ (rules : Rules) (laws : StepLaws rules) (entries : Entries) (kept : Keeps rules entries) where
-  -- In all that calls wrote, the host finds the blocks of the steps that they did. Calls that did nothing wrote nothing.
+  -- In all that calls wrote, the host finds the blocks of the steps that they did. Calls that did none wrote nothing.
   found-by : (t : Terminal) (calls : List Call) (inputs : List Input) → inputsDone entries t calls ≡ inputs → blocksIn (bytesSentBy (steps rules t inputs)) ≡ blocksSent (steps rules t inputs)
   unfolding steps bytesSentBy blocksSent blocksFrom
   found-by t calls [] did = refl

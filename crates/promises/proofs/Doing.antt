@@ -1,4 +1,5 @@
--- A call does the steps of the bytes that it took or of its key, and a refused one does none: by demand 1 and Follows alone.
+-- A call does the steps of the bytes that it took or of its key, and a refused one does none: by demand 1 and Follows
+-- alone.
 use mathlib.Core.Path.{_≡_, refl, sym, ap, _∙_, subst}
 use mathlib.Core.List.{List, [], _∷_, _++_, map}
 use mathlib.Core.Logic.{_⊎_, inl, inr, ⊎-elim}

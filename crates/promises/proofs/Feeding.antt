@@ -1,4 +1,5 @@
--- Demand 2, feeding back: a full block, read by a receiver of equal size, fills its fields with the sender's characters and changes no protected cell.
+-- Demand 2, feeding back: a full block, read by a receiver of equal size, fills its fields with the sender's characters
+-- and changes no protected cell.
 use mathlib.Core.Path.{_≡_, sym, ap, _∙_, subst}
 use mathlib.Core.Bool.{true, false, not}
 use mathlib.Core.List.{List}
@@ -27,7 +28,8 @@ use Rattle.promises.proofs.FeedingReads.{ReadThrough, read-through}
 use Rattle.promises.proofs.FeedingCells.{Filled, Kept}
 use Rattle.promises.proofs.FeedingFields.{fields-feed}
 
--- The block leads the receiver quietly to a terminal whose unprotected cells are filled and whose protected ones are kept.
+-- The block leads the receiver quietly to a terminal whose unprotected cells are filled and whose protected ones are
+-- kept.
 record Fed (sender receiver : Terminal) (bytes : List ℕ) : Type 0 where
   end : Terminal
   leads : Leads receiver bytes end

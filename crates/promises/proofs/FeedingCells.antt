@@ -29,7 +29,8 @@ pub record Ready (sender t : Terminal) : Type 0 where
   pub nothing-half-read : t .state .half ≡ nothingRead
   pub unprotected-pen : isProtected (t .state .modes .pen) ≡ false
 
--- The bytes lead quietly to `end`: there each cell that they feed is filled, each that was filled is so still, and all others are kept.
+-- The bytes lead quietly to `end`: there each cell that they feed is filled, each that was filled is so still, and all
+-- others are kept.
 pub record Feeds (sender t : Terminal) (bytes : List ℕ) (end : Terminal) (Fed : ℕ → Type 0) : Type 0 where
   pub leads : Leads t bytes end
   pub nothing-half-read : end .state .half ≡ nothingRead

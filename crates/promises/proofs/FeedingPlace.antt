@@ -125,7 +125,7 @@ module _ (t : Terminal) (row column : ℕ) (some-row : 1 ≤ row) (row-fits : ro
 
   final-step : hostStep 0x66 (reading t (columnRead row column)) ≡ placing t row column
   unfolding eventStep
-  final-step = step-is (reading t (columnRead row column)) 0x66 (final-event row column) ∙ final-acts
+  final-step = step-is (reading t (columnRead row column)) 0x66 (final-event row column) final-acts refl
 
   pub place-leads : row < 1000 → column < 1000 → Leads t (placeBytes row column 0x66) (placedAt t row column)
   unfolding placeBytes

@@ -34,10 +34,10 @@ unfolding advanceOf outsideSequence
 text-event character printable = then-case _ _ _ refl ∙ then-case _ _ _ printable
 
 text-step : (t : Terminal) (character : ℕ) → t .state .half ≡ nothingRead → validCharacter character ≡ true → hostStep character t ≡ textStep character t
-unfolding eventStep
+unfolding eventStep textStep
 text-step t character nothing printable =
     step-is t character (ap (λ (half : HalfRead). advanceOf half character) nothing ∙ text-event character printable)
-    ∙ ap (λ (half : HalfRead). textStep character (reading t half)) (sym nothing)
+    (ap (λ (half : HalfRead). textStep character (reading t half)) (sym nothing)) refl
 
 -- After text: half-read record and modes stay, and the cursor goes on by one cell, but from the last.
 next-keeps : (s : State) → (toNextCell s .half ≡ s .half) × (toNextCell s .modes ≡ s .modes)

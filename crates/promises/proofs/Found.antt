@@ -23,7 +23,7 @@ module _ (t : Terminal) (valid : Valid t) (step : Stepped) (law : StepLaw t step
   block-in-front : (full : Bool) {bytes : List ℕ} → bytes ≡ blockHere full t → blocksIn (bytes ++ later) ≡ bytes ∷ blocksIn later
   block-in-front full is = rw is (page-block-found (t .state .size .columns) (t .page) (sendable valid) full later)
 
-  found-in-front : (message : Transmission) → step .transmission ≡ message → blocksIn (bytesOf message ++ later) ≡ blockIn message ++ blocksIn later
+  found-in-front : (transmission : Transmission) → step .transmission ≡ transmission → blocksIn (bytesOf transmission ++ later) ≡ blockIn transmission ++ blocksIn later
   unfolding bytesOf blockIn
   found-in-front silent is = refl
   found-in-front (report bytes) is = report-passed bytes later (law .reports bytes is)

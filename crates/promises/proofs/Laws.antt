@@ -1,5 +1,5 @@
--- The laws of a step, over rules alone: whatever kind of terminal keeps them, with entries that keep demand 1 and follow its rules,
--- keeps cutting, continuing, keys, what blocks keep, their bound, the copy and omission.
+-- The laws of a step, over rules alone: whatever kind of terminal keeps them, with entries that keep demand 1 and
+-- follow its rules, keeps cutting, continuing, keys, what blocks keep, their bound, the copy and omission.
 use mathlib.Core.Path.{_≡_}
 use mathlib.Core.Bool.{Bool, true, false}
 use mathlib.Core.List.{List, [], List·Memᴰ}
@@ -20,8 +20,8 @@ pub record BlockOfPage (full : Bool) (t : Terminal) (step : Stepped) (bytes : Li
   pub of-page : bytes ≡ blockHere full t
   pub no-cell : StoresNoCell step
 
--- Every step from a valid terminal: it stays valid and of its size; cells not named stay, but for modified, which a block clears;
--- what it sends is a report, or a block of the page; and no longer than the longest block.
+-- Every step from a valid terminal: it stays valid and of its size; cells not named stay, but for modified, which a
+-- block clears; what it sends is a report, or a block of the page; and no longer than the longest block.
 pub record StepLaw (t : Terminal) (step : Stepped) : Type 0 where
   pub valid : Valid (step .terminal)
   pub size : step .terminal .state .size ≡ t .state .size
@@ -51,7 +51,8 @@ pub record Keeps (rules : Rules) (entries : Entries) : Type 1 where
   pub refusals : Refusals rules entries
   pub follows : Follows rules entries
 
--- A call did these steps: it leaves what they leave, its bytes are their transmissions joined, its count the cells that they name.
+-- A call did these steps: it leaves what they leave, its bytes are their transmissions joined, its count the cells that
+-- they name.
 pub record DidSteps (t : Terminal) (done : List Stepped) (outcome : Outcome) : Type 0 where
   pub terminal : outcome .terminal ≡ after t done
   pub sent : bytesSent outcome ≡ bytesSentBy done

@@ -1,4 +1,5 @@
--- Small forms on a page of 24 by 80: all cells are protected but for some of the first five. Their blocks can be computed.
+-- Small forms on a page of 24 by 80: all cells are protected but for some of the first five. Their blocks can be
+-- computed.
 use mathlib.Core.Path.{_≡_, refl, sym, ap, _∙_}
 use mathlib.Core.Bool.{Bool, false, not}
 use mathlib.Core.List.{List, [], _∷_, _++_, map}

@@ -3,6 +3,7 @@ use mathlib.Core.Path.{_≡_, refl, ap, _∙_}
 use mathlib.Core.List.{List, [], _∷_, _++_, map}
 use mathlib.Core.Bool.{true, false}
 use Prim.Native.Nat.{ℕ}
+use Prim.Native.Char.{Char, code}
 use native.Mathlib.Omega.{arith}
 use lib.ListN.{length, replicate}
 use Rattle.blocks.specs.Blocks.{block}
@@ -12,10 +13,11 @@ use Rattle.blocks.specs.Finding.{blocksIn}
 use Rattle.page.specs.Page.{Page}
 use Rattle.steps.specs.Steps.{Terminal, silent, report, fullBlock, changedBlock, Stepped, Valid}
 use Rattle.words.specs.Output.{placed}
+use Rattle.words.specs.Text.{bytes}
 use Rattle.terminal.specs.Runs.{stepsOf, after, bytesSentBy}
 use Rattle.terminal.specs.Answers.{Outcome, bytesSent}
 use Rattle.terminal.specs.Calls.{hostCall, keyCall}
-use Rattle.terminal.proofs.Deciding.{valid-holds, key-done}
+use Rattle.terminal.proofs.Deciding.{key-done}
 use Rattle.terminal.proofs.Cases.{host-did}
 use Rattle.promises.specs.Rules.{ourRules, Input, byte, press, stepOf, steps}
 use Rattle.promises.specs.Entries.{ourEntries, Call, read, keyPress, outcomeOf, outcomes, callAll, inputsOf, inputsDone}
@@ -25,9 +27,12 @@ use Rattle.promises.proofs.Theorems.{demand-3}
 use Rattle.promises.proofs.Sheets.{sheet, at, sheet-block}
 use Rattle.promises.proofs.Computing.{validity, blockBytes, laying, finding, hostSteps, keySteps, calls, streams}
 
--- The form, by the first character of each field and the marks; in three states of the marks.
-abbrev pub form : ℕ → ℕ → List ℕ → Page
-form one other marks = sheet (one ∷ 0x42 ∷ 0x3A ∷ other ∷ 0x44 ∷ []) marks
+-- The form, by the first character of each field and the marks; and three states of its marks.
+abbrev texts : Char → Char → List ℕ
+texts one other = code one ∷ code "B" ∷ code ":" ∷ code other ∷ code "D" ∷ []
+
+abbrev pub form : Char → Char → List ℕ → Page
+form one other marks = sheet (texts one other) marks
 
 abbrev pub noTag : List ℕ
 noTag = 0 ∷ 0 ∷ 1 ∷ 0 ∷ 0 ∷ []
@@ -40,7 +45,7 @@ secondTagged = 0 ∷ 0 ∷ 1 ∷ 2 ∷ 0 ∷ []
 
 -- Where it begins: cursor 1;1, AB and CD, nothing modified.
 abbrev pub start : Terminal
-start = at 1 (form 0x41 0x43 noTag)
+start = at 1 (form "A" "C" noTag)
 
 pub start-valid : Valid start
 unfolding validity
@@ -48,50 +53,50 @@ start-valid = record { size = refl; state = refl; page = refl }
 
 -- What happens: 267; X is typed; the host sends ESC S, ESC [ 6 n, ESC S; right, right; Y is typed; 266.
 abbrev hostBytes : List ℕ
-hostBytes = 0x1B ∷ 0x53 ∷ 0x1B ∷ 0x5B ∷ 0x36 ∷ 0x6E ∷ 0x1B ∷ 0x53 ∷ []
+hostBytes = bytes "\u{1b}S\u{1b}[6n\u{1b}S"
 
 abbrev afterFirst : List Input
-afterFirst = press 0x58 ∷ (map byte hostBytes ++ (press 259 ∷ press 259 ∷ press 0x59 ∷ press 266 ∷ []))
+afterFirst = press (code "X") ∷ (map byte hostBytes ++ (press 259 ∷ press 259 ∷ press (code "Y") ∷ press 266 ∷ []))
 
 -- The blocks: ESC [ 1 ; 1 f .. B ESC [ 1 ; 4 f .. D 03, and ESC [ 1 ; 4 f Y D 03; the report: ESC [ 1 ; 2 R.
-abbrev pub fullBytes : ℕ → ℕ → List ℕ
-fullBytes one other = 0x1B ∷ 0x5B ∷ 0x31 ∷ 0x3B ∷ 0x31 ∷ 0x66 ∷ one ∷ 0x42 ∷ 0x1B ∷ 0x5B ∷ 0x31 ∷ 0x3B ∷ 0x34 ∷ 0x66 ∷ other ∷ 0x44 ∷ 0x03 ∷ []
+abbrev pub fullBytes : Char → Char → List ℕ
+fullBytes one other = bytes "\u{1b}[1;1f" ++ (code one ∷ (bytes "B\u{1b}[1;4f" ++ (code other ∷ bytes "D\u{3}")))
 
 abbrev changedBytes : List ℕ
-changedBytes = 0x1B ∷ 0x5B ∷ 0x31 ∷ 0x3B ∷ 0x34 ∷ 0x66 ∷ 0x59 ∷ 0x44 ∷ 0x03 ∷ []
+changedBytes = bytes "\u{1b}[1;4fYD\u{3}"
 
 abbrev reportBytes : List ℕ
-reportBytes = 0x1B ∷ 0x5B ∷ 0x31 ∷ 0x3B ∷ 0x32 ∷ 0x52 ∷ []
+reportBytes = bytes "\u{1b}[1;2R"
 
-pub full-noTag : (one other : ℕ) → block true 80 (form one other noTag) ≡ fullBytes one other
+pub full-noTag : (one other : Char) → block true 80 (form one other noTag) ≡ fullBytes one other
 unfolding blockBytes
-full-noTag one other = sheet-block noTag refl true (one ∷ 0x42 ∷ 0x3A ∷ other ∷ 0x44 ∷ []) ∙ refl
+full-noTag one other = sheet-block noTag refl true (texts one other) ∙ refl
 
-full-firstTagged : block true 80 (form 0x58 0x43 firstTagged) ≡ fullBytes 0x58 0x43
+full-firstTagged : block true 80 (form "X" "C" firstTagged) ≡ fullBytes "X" "C"
 unfolding blockBytes
-full-firstTagged = sheet-block firstTagged refl true (0x58 ∷ 0x42 ∷ 0x3A ∷ 0x43 ∷ 0x44 ∷ []) ∙ refl
+full-firstTagged = sheet-block firstTagged refl true (texts "X" "C") ∙ refl
 
-changed-secondTagged : block false 80 (form 0x58 0x59 secondTagged) ≡ changedBytes
+changed-secondTagged : block false 80 (form "X" "Y" secondTagged) ≡ changedBytes
 unfolding blockBytes
-changed-secondTagged = sheet-block secondTagged refl false (0x58 ∷ 0x42 ∷ 0x3A ∷ 0x59 ∷ 0x44 ∷ []) ∙ refl
+changed-secondTagged = sheet-block secondTagged refl false (texts "X" "Y") ∙ refl
 
 -- The transmissions of the steps, one for each key and each host byte.
 transmissions : map (λ (step : Stepped). step .transmission) (steps ourRules start (press 267 ∷ afterFirst))
-    ≡ fullBlock (fullBytes 0x41 0x43)  -- 267
+    ≡ fullBlock (fullBytes "A" "C")  -- 267
     ∷ silent  -- X
-    ∷ silent ∷ fullBlock (fullBytes 0x58 0x43)  -- ESC S
+    ∷ silent ∷ fullBlock (fullBytes "X" "C")  -- ESC S
     ∷ silent ∷ silent ∷ silent ∷ report reportBytes  -- ESC [ 6 n
-    ∷ silent ∷ fullBlock (fullBytes 0x58 0x43)  -- ESC S
+    ∷ silent ∷ fullBlock (fullBytes "X" "C")  -- ESC S
     ∷ silent ∷ silent ∷ silent  -- right, right, Y
     ∷ changedBlock changedBytes  -- 266
     ∷ []
 unfolding hostSteps keySteps streams
 transmissions = λ i.
-    fullBlock (full-noTag 0x41 0x43 i)
+    fullBlock (full-noTag "A" "C" i)
     ∷ silent
     ∷ silent ∷ fullBlock (full-firstTagged i)
     ∷ silent ∷ silent ∷ silent ∷ report reportBytes
-    ∷ silent ∷ fullBlock (full-noTag 0x58 0x43 i)
+    ∷ silent ∷ fullBlock (full-noTag "X" "C" i)
     ∷ silent ∷ silent ∷ silent
     ∷ changedBlock (changed-secondTagged i)
     ∷ []
@@ -102,12 +107,12 @@ unfolding hostSteps keySteps streams HostStoresNothing
 stores-nothing = (refl, (refl, (refl, (refl, (refl, (refl, (refl, (refl, tt))))))))
 
 -- The changed block has one field, the second, whose cell was stored since the block before; the first is omitted.
-one-field : decode changedBytes ≡ record { row = 1; column = 4; characters = 0x59 ∷ 0x44 ∷ [] } ∷ []
+one-field : decode changedBytes ≡ record { row = 1; column = 4; characters = bytes "YD" } ∷ []
 unfolding laying
 one-field = refl
 
 -- The host's copy: AB CD, and with each block laid over it XB CD, XB CD, XB YD.
-copies : (lay (fullBytes 0x58 0x43) (fullBytes 0x41 0x43) ≡ fullBytes 0x58 0x43) × (lay (fullBytes 0x58 0x43) (fullBytes 0x58 0x43) ≡ fullBytes 0x58 0x43) × (lay changedBytes (fullBytes 0x58 0x43) ≡ fullBytes 0x58 0x59)
+copies : (lay (fullBytes "X" "C") (fullBytes "A" "C") ≡ fullBytes "X" "C") × (lay (fullBytes "X" "C") (fullBytes "X" "C") ≡ fullBytes "X" "C") × (lay changedBytes (fullBytes "X" "C") ≡ fullBytes "X" "Y")
 unfolding laying
 copies = (refl, refl, refl)
 
@@ -115,12 +120,12 @@ copies = (refl, refl, refl)
 abbrev session : List Call
 session =
     keyPress 267 (replicate 17 0)
-    ∷ keyPress 0x58 []
+    ∷ keyPress (code "X") []
     ∷ read hostBytes (replicate 40 0)
     ∷ keyPress 259 []
-    ∷ keyPress 0x59 []
+    ∷ keyPress (code "Y") []
     ∷ keyPress 259 []
-    ∷ keyPress 0x59 []
+    ∷ keyPress (code "Y") []
     ∷ keyPress 266 (replicate 9 0)
     ∷ []
 
@@ -158,33 +163,33 @@ leaves number taken stored sent t = record { number = number; taken = taken; sen
 
 -- The terminals that the calls leave: after X, after the host's bytes with the cursor in a column, after Y, after 266.
 abbrev typedX : Terminal
-typedX = at 2 (form 0x58 0x43 firstTagged)
+typedX = at 2 (form "X" "C" firstTagged)
 
 abbrev sentTwice : ℕ → Terminal
-sentTwice column = at column (form 0x58 0x43 noTag)
+sentTwice column = at column (form "X" "C" noTag)
 
 abbrev typedY : Terminal
-typedY = at 5 (form 0x58 0x59 secondTagged)
+typedY = at 5 (form "X" "Y" secondTagged)
 
 abbrev end : Terminal
-end = at 5 (form 0x58 0x59 noTag)
+end = at 5 (form "X" "Y" noTag)
 
 -- The calls that send.
-pub call-267 : keyCall start 267 (replicate 17 0) ≡ leaves 0 0 0 (fullBytes 0x41 0x43) start
+pub call-267 : keyCall start 267 (replicate 17 0) ≡ leaves 0 0 0 (fullBytes "A" "C") start
 unfolding validity keySteps calls
 call-267 =
-    key-done start 267 (replicate 17 0) refl (valid-holds start start-valid) refl refl refl (omega (arith, ap length (full-noTag 0x41 0x43)))
-    ∙ (λ i. record { number = 0; taken = 0; sent = length (full-noTag 0x41 0x43 i); stored = 0; terminal = start; output = placed 0 (full-noTag 0x41 0x43 i) (replicate 17 0) })
+    key-done start 267 (replicate 17 0) (record { valid = start-valid; known = refl; not-locked-out = refl; has-cell = refl }) (omega (arith, ap length (full-noTag "A" "C")))
+    ∙ (λ i. record { number = 0; taken = 0; sent = length (full-noTag "A" "C" i); stored = 0; terminal = start; output = placed 0 (full-noTag "A" "C" i) (replicate 17 0) })
 
 typedX-valid : Valid typedX
 unfolding validity
 typedX-valid = record { size = refl; state = refl; page = refl }
 
-host-sends : bytesSentBy (stepsOf typedX hostBytes) ≡ fullBytes 0x58 0x43 ++ (reportBytes ++ fullBytes 0x58 0x43)
+host-sends : bytesSentBy (stepsOf typedX hostBytes) ≡ fullBytes "X" "C" ++ (reportBytes ++ fullBytes "X" "C")
 unfolding hostSteps stepsOf bytesSentBy
-host-sends = λ i. full-firstTagged i ++ (reportBytes ++ (full-noTag 0x58 0x43 i ++ []))
+host-sends = λ i. full-firstTagged i ++ (reportBytes ++ (full-noTag "X" "C" i ++ []))
 
-call-host : hostCall typedX hostBytes (replicate 40 0) ≡ leaves 0 8 0 (fullBytes 0x58 0x43 ++ (reportBytes ++ fullBytes 0x58 0x43)) (sentTwice 2)
+call-host : hostCall typedX hostBytes (replicate 40 0) ≡ leaves 0 8 0 (fullBytes "X" "C" ++ (reportBytes ++ fullBytes "X" "C")) (sentTwice 2)
 unfolding hostSteps calls
 call-host =
     host-did typedX hostBytes (replicate 40 0) typedX-valid (omega arith) (omega (arith, ap length host-sends))
@@ -197,14 +202,14 @@ typedY-valid = record { size = refl; state = refl; page = refl }
 call-266 : keyCall typedY 266 (replicate 9 0) ≡ leaves 0 0 0 changedBytes end
 unfolding validity keySteps calls
 call-266 =
-    key-done typedY 266 (replicate 9 0) refl (valid-holds typedY typedY-valid) refl refl refl (omega (arith, ap length changed-secondTagged))
+    key-done typedY 266 (replicate 9 0) (record { valid = typedY-valid; known = refl; not-locked-out = refl; has-cell = refl }) (omega (arith, ap length changed-secondTagged))
     ∙ (λ i. record { number = 0; taken = 0; sent = length (changed-secondTagged i); stored = 0; terminal = end; output = placed 0 (changed-secondTagged i) (replicate 9 0) })
 
 -- All that is seen, call by call; and the inputs that these calls did are those above.
 session-told : Told start session
-    (gives 0 0 (fullBytes 0x41 0x43)
+    (gives 0 0 (fullBytes "A" "C")
     ∷ gives 0 1 []
-    ∷ gives 0 0 (fullBytes 0x58 0x43 ++ (reportBytes ++ fullBytes 0x58 0x43))
+    ∷ gives 0 0 (fullBytes "X" "C" ++ (reportBytes ++ fullBytes "X" "C"))
     ∷ gives 0 0 []
     ∷ gives 7 0 []
     ∷ gives 0 0 []
@@ -214,9 +219,9 @@ session-told : Told start session
     (press 267 ∷ afterFirst)
 unfolding keySteps calls outcomeOf inputsOf
 session-told =
-    next-call _ (leaves 0 0 0 (fullBytes 0x41 0x43) start) call-267
+    next-call _ (leaves 0 0 0 (fullBytes "A" "C") start) call-267
     (next-call _ (leaves 0 0 1 [] typedX) refl
-    (next-call _ (leaves 0 8 0 (fullBytes 0x58 0x43 ++ (reportBytes ++ fullBytes 0x58 0x43)) (sentTwice 2)) call-host
+    (next-call _ (leaves 0 8 0 (fullBytes "X" "C" ++ (reportBytes ++ fullBytes "X" "C")) (sentTwice 2)) call-host
     (next-call _ (leaves 0 0 0 [] (sentTwice 3)) refl
     (next-call _ (leaves 7 0 0 [] (sentTwice 3)) refl
     (next-call _ (leaves 0 0 0 [] (sentTwice 4)) refl
@@ -224,13 +229,13 @@ session-told =
     (next-call _ (leaves 0 0 0 changedBytes end) call-266 no-calls)))))))
 
 -- All that the calls sent is one stream, and the host finds the four blocks in it; the report is none.
-blocks-found : blocksIn (fullBytes 0x41 0x43 ++ (fullBytes 0x58 0x43 ++ (reportBytes ++ (fullBytes 0x58 0x43 ++ changedBytes))))
-    ≡ fullBytes 0x41 0x43 ∷ fullBytes 0x58 0x43 ∷ fullBytes 0x58 0x43 ∷ changedBytes ∷ []
+blocks-found : blocksIn (fullBytes "A" "C" ++ (fullBytes "X" "C" ++ (reportBytes ++ (fullBytes "X" "C" ++ changedBytes))))
+    ≡ fullBytes "A" "C" ∷ fullBytes "X" "C" ∷ fullBytes "X" "C" ∷ changedBytes ∷ []
 unfolding finding
 blocks-found = refl
 
--- So demand 3 speaks of this session: the copy is right after each of the three blocks that follow, and the changed one omits what
--- was not stored.
-session-copied : CopyHolds blocksIn ourRules start (callAll ourEntries start session .sent) [] (fullBytes 0x41 0x43) (stepOf ourRules (press 267) start .terminal) afterFirst
+-- So demand 3 speaks of this session: the copy is right after each of the three blocks that follow, and the changed one
+-- omits what was not stored.
+session-copied : CopyHolds blocksIn ourRules start (callAll ourEntries start session .sent) [] (fullBytes "A" "C") (stepOf ourRules (press 267) start .terminal) afterFirst
 unfolding keySteps streams after
-session-copied = demand-3 .copying start session [] (press 267) afterFirst (fullBytes 0x41 0x43) (session-told .inputs-are) (ap fullBlock (full-noTag 0x41 0x43)) stores-nothing
+session-copied = demand-3 .copying start session [] (press 267) afterFirst (fullBytes "A" "C") (session-told .inputs-are) (ap fullBlock (full-noTag "A" "C")) stores-nothing

@@ -20,7 +20,7 @@ HostStoresNothing rules t (byte b ∷ later) =
     StoresNoCell (rules .onByte b t) × HostStoresNothing rules (rules .onByte b t .terminal) later
 HostStoresNothing rules t (press key ∷ later) = HostStoresNothing rules (rules .onKey key t .terminal) later
 
--- The blocks among the messages of steps, in order; a report is none.
+-- The blocks among the transmissions of steps, in order; a report is none.
 unfoldable pub blockIn : Transmission → List (List ℕ)
 blockIn silent = []
 blockIn (report bytes) = []

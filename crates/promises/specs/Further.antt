@@ -5,6 +5,7 @@ use mathlib.Core.Bool.{Bool, true, false}
 use mathlib.Core.List.{List, [], _∷_, map}
 use mathlib.Core.Logic.{_↔_}
 use Prim.Native.Nat.{ℕ, _<_, _≤_}
+use Prim.Native.Char.{code}
 use lib.ListN.{length, getD}
 use Rattle.page.specs.Page.{Page, markAfterBlock}
 use Rattle.state.specs.declared.Size.{Size}
@@ -76,8 +77,8 @@ Progress entries =
     (t : Terminal) (bytes lent : List ℕ) → 35185 ≤ length lent → entries .host t bytes lent .number ≡ 3 →
     0 < entries .host t bytes lent .sent
 
--- Calls are the steps of what they did: their bytes are those transmissions joined, their count the cells that those steps
--- name.
+-- Calls are the steps of what they did: their bytes are those transmissions joined, their count the cells that those
+-- steps name.
 abbrev pub CallsAreSteps : Rules → Entries → Type 0
 CallsAreSteps rules entries =
     (t : Terminal) (calls : List Call) →
@@ -101,12 +102,13 @@ BlocksKeep rules =
 pub data Asks (t : Terminal) : Bool → Input → Type 0 where
   changed-by-266 : Asks t false (press 266)
   full-by-267 : Asks t true (press 267)
-  full-by-esc-s : t .state .half .kind ≡ 1 → Asks t true (byte 0x53)
+  full-by-esc-s : t .state .half .kind ≡ 1 → Asks t true (byte (code "S"))
 
 abbrev pub SendsBlocks : Rules → Type 0
 SendsBlocks rules =
     (t : Terminal) → Valid t → (input : Input) (full : Bool) (bytes : List ℕ) →
-    (stepOf rules input t .transmission ≡ blockTransmission full bytes) ↔ (Asks t full input × (bytes ≡ blockHere full t))
+    (stepOf rules input t .transmission ≡ blockTransmission full bytes)
+    ↔ (Asks t full input × (bytes ≡ blockHere full t))
 
 -- No block that is sent exceeds 35,185 bytes.
 abbrev pub Bounded : Rules → Type 0

@@ -1,4 +1,4 @@
--- Demand 3: a changed block that 266 sent, laid over the full block that 267 sent before one key, is the copy of the page.
+-- Demand 3: a changed block that 266 sent, laid over the full block that 267 sent before one key, is the page's copy.
 use mathlib.Core.Path.{_≡_, refl, sym, ap, _∙_, subst}
 use mathlib.Core.Bool.{Bool, true, false}
 use mathlib.Core.List.{List, [], _∷_, _++_, map, append-nil}
@@ -32,11 +32,11 @@ use Rattle.promises.proofs.Keeping.{sendable, same-full-block}
 use Rattle.promises.proofs.OurLaws.{our-step-laws}
 use Rattle.promises.proofs.Theorems as Promised
 use Rattle.copy.specs.declared.Laid.{Laid}
-use Rattle.copy.specs.Laying.{IsBlock, laying}
+use Rattle.copy.specs.Copy.{IsBlock, laying}
 use Rattle.copy.proofs.Laws.{is-block}
 use Rattle.samples.specs.declared.KeyReplies.{KeyReplies}
 use Rattle.samples.specs.declared.Copy.the-variants.{Made, NotSent}
-use Rattle.samples.specs.Demands.{fullCall, typedCall, changedCall, ThreeKeys, allAnswered, copying, CopyKept}
+use Rattle.samples.specs.Samples.{fullCall, typedCall, changedCall, ThreeKeys, allAnswered, copying, CopyKept}
 use Rattle.samples.proofs.Laws.{sent-fits}
 
 -- Every answer but the first has another number than 0.

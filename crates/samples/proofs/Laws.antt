@@ -1,4 +1,4 @@
--- What the functions' calls give, put together.
+-- What the samples' calls give, put together.
 use mathlib.Core.Path.{_≡_, sym, ap, _∙_, subst}
 use mathlib.Core.Bool.{true}
 use mathlib.Core.List.{List, [], _∷_, _++_, append-nil}
@@ -26,7 +26,7 @@ use Rattle.promises.specs.Further.{full-by-267}
 use Rattle.promises.proofs.Asking.{block-asked}
 use Rattle.promises.proofs.Calling.{first-done}
 use Rattle.promises.proofs.Theorems.{demand-2}
-use Rattle.samples.specs.Demands.{InTwoReads, Restored, SentOn}
+use Rattle.samples.specs.Samples.{InTwoReads, Restored, SentOn}
 
 -- A cut past the end is one at the end.
 pub past-the-end : (bytes : List ℕ) (cut : ℕ) → length bytes < cut → (length bytes ≤ length bytes) × (take (length bytes) bytes ≡ take cut bytes) × (drop (length bytes) bytes ≡ drop cut bytes)
@@ -93,7 +93,7 @@ key-fits t key lent = go (key-case t key lent)
   where
     go : KeyCase t key lent → keyCall t key lent .sent ≤ length (keyCall t key lent .output)
     go (Cases.refused answer not-done is) = rw is (omega arith)
-    go (Cases.pressed valid known free has fits is) =
+    go (Cases.pressed passes fits is) =
         let bytes = bytesOf (keyStep key t .transmission) in
         let same = placed-length 0 (bytes ++ []) lent (rw (append-nil bytes) (omega arith)) in
         rw (is, same, append-nil bytes) fits

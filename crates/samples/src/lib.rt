@@ -1,6 +1,6 @@
-// Cutting and feeding back (demand 2) and the copy (demand 3), said of what runs: each function calls the entries, and its contract
-// has the promise.
-// The contracts are in specs/Demands.antt; what they rest on is proved in `promises`.
+// Samples of what is promised: cutting and feeding back (demand 2) and the copy (demand 3), said of what runs. Each
+// function calls the entries, and its contract has the promise.
+// What the contracts say is in specs/Samples.antt; what they rest on is proved in `promises`.
 use copy::Laid;
 use page::Mark;
 use state::State;
@@ -12,7 +12,7 @@ ghost use lib.Dec.{eqb};
 ghost use lib.ListN.{length, take, drop};
 ghost use Rattle.page.specs.Page.{pageOf};
 ghost use Rattle.terminal.specs.Answers.{given, numberOf};
-ghost use Rattle.samples.specs.Demands.{InTwoReads, SentOn, allAnswered, ThreeKeys, CopyKept};
+ghost use Rattle.samples.specs.Samples.{InTwoReads, SentOn, allAnswered, ThreeKeys, CopyKept};
 ghost use Rattle.steps.specs.Steps.{terminalOf};
 
 // What two calls handed back.
@@ -23,7 +23,9 @@ pub struct Replies {
 
 // A cut past the end is one at the end.
 fn place_of_cut(bytes: &[u8], cut: usize) -> usize
-    ensures { λ r. ⌜ (r ≤ length (now (bytes .entry))) × (take r (now (bytes .entry)) ≡ take cut (now (bytes .entry))) × (drop r (now (bytes .entry)) ≡ drop cut (now (bytes .entry))) ⌝ }
+    ensures { λ r. ⌜ (r ≤ length (now (bytes .entry)))
+        × (take r (now (bytes .entry)) ≡ take cut (now (bytes .entry)))
+        × (drop r (now (bytes .entry)) ≡ drop cut (now (bytes .entry))) ⌝ }
 {
     if cut <= bytes.len() {
         return cut;
@@ -41,7 +43,10 @@ pub fn host_in_two(
     out: &mut [u8],
     out_later: &mut [u8],
 ) -> Replies
-    ensures { λ r. ⌜ InTwoReads (terminalOf state (now (characters .entry)) (now (marks .entry))) (now (bytes .entry)) cut (now (out .entry)) (now («out_later» .entry)) r (pageOf (now (characters .exit)) (now (marks .exit))) (now (out .exit)) (now («out_later» .exit)) ⌝ }
+    ensures { λ r. ⌜ InTwoReads
+        (terminalOf state (now (characters .entry)) (now (marks .entry))) (now (bytes .entry)) cut
+        (now (out .entry)) (now («out_later» .entry))
+        r (pageOf (now (characters .exit)) (now (marks .exit))) (now (out .exit)) (now («out_later» .exit)) ⌝ }
 {
     let at = place_of_cut(bytes, cut);
     let first = terminal::host(state, characters, marks, &bytes[..at], out);
@@ -58,10 +63,17 @@ pub fn send_on(
     out: &mut [u8],
     state_there: State,
     characters_there: &mut [u8],
-    marks_there: &mut [u8],
+    marks_there: &mut [Mark],
     out_there: &mut [u8],
 ) -> Replies
-    ensures { λ r. ⌜ SentOn (terminalOf state (now (characters .entry)) (now (marks .entry))) (terminalOf «state_there» (now («characters_there» .entry)) (now («marks_there» .entry))) (now (out .entry)) (now («out_there» .entry)) (given (r .first) (pageOf (now (characters .exit)) (now (marks .exit))) (now (out .exit))) (given (r .second) (pageOf (now («characters_there» .exit)) (now («marks_there» .exit))) (now («out_there» .exit))) ⌝ }
+    ensures { λ r. ⌜ SentOn
+        (terminalOf state (now (characters .entry)) (now (marks .entry)))
+        (terminalOf «state_there» (now («characters_there» .entry)) (now («marks_there» .entry)))
+        (now (out .entry)) (now («out_there» .entry))
+        (given (r .first)
+        (pageOf (now (characters .exit)) (now (marks .exit))) (now (out .exit)))
+        (given (r .second)
+        (pageOf (now («characters_there» .exit)) (now («marks_there» .exit))) (now («out_there» .exit))) ⌝ }
 {
     let first = terminal::key(state, characters, marks, 267, out);
     let sent = first.sent;
@@ -128,7 +140,11 @@ fn press_three(
     typed: &mut [u8],
     changed: &mut [u8],
 ) -> KeyReplies
-    ensures { λ r. ⌜ ThreeKeys (terminalOf state (now (characters .entry)) (now (marks .entry))) key (now (full .entry)) (now (typed .entry)) (now (changed .entry)) r (pageOf (now (characters .exit)) (now (marks .exit))) (now (full .exit)) (now (typed .exit)) (now (changed .exit)) ⌝ }
+    ensures { λ r. ⌜ ThreeKeys
+        (terminalOf state (now (characters .entry)) (now (marks .entry))) key
+        (now (full .entry)) (now (typed .entry)) (now (changed .entry))
+        r (pageOf (now (characters .exit)) (now (marks .exit)))
+        (now (full .exit)) (now (typed .exit)) (now (changed .exit)) ⌝ }
 {
     let first = terminal::key(state, characters, marks, 267, full);
     let sent = first.state;
@@ -153,7 +169,11 @@ pub fn keep_copy(
     changed: &mut [u8],
     copy: &mut [u8],
 ) -> Copied
-    ensures { λ r. ⌜ CopyKept (terminalOf state (now (characters .entry)) (now (marks .entry))) key (now (full .entry)) (now (typed .entry)) (now (changed .entry)) (now (copy .entry)) r (pageOf (now (characters .exit)) (now (marks .exit))) (now (full .exit)) (now (typed .exit)) (now (changed .exit)) (now (copy .exit)) ⌝ }
+    ensures { λ r. ⌜ CopyKept
+        (terminalOf state (now (characters .entry)) (now (marks .entry))) key
+        (now (full .entry)) (now (typed .entry)) (now (changed .entry)) (now (copy .entry))
+        r (pageOf (now (characters .exit)) (now (marks .exit)))
+        (now (full .exit)) (now (typed .exit)) (now (changed .exit)) (now (copy .exit)) ⌝ }
 {
     let replies = press_three(state, characters, marks, key, full, typed, changed);
     if !all_done(replies) {

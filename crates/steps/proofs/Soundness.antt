@@ -1,26 +1,34 @@
--- Each kind of step is sound: a change of the state alone, a refusal, cells stored, a transmission sent.
+-- What holds of every step, of a host byte and of a key: each kind of step is sound, a change of the state alone, a refusal,
+-- cells stored, a transmission sent.
 use mathlib.Core.Path.{_≡_, refl, sym, _∙_}
-use mathlib.Core.Bool.{Bool, true}
+use mathlib.Core.Bool.{Bool, true, false}
 use mathlib.Core.List.{List, []}
 use Prim.Native.Nat.{ℕ, _+_, _*_, _-_, _<_, _≤_}
 use native.Mathlib.Nat.{mul-le-mul-right}
 use native.Mathlib.Omega.{arith}
 use borrow.Author.Tests.{eqb-true}
 use lib.ListN.{length, getD}
-use Rattle.words.proofs.Choosing.{true-is-not-false, both}
+use Rattle.words.proofs.Choosing.{both}
 use Rattle.words.proofs.Walking.{once-more}
 use Rattle.words.proofs.Writing.{each-at}
 use Rattle.page.specs.Page.{Page, pageOf, validPage, markAfterBlock, modifiedCleared}
 use Rattle.page.proofs.Keeping.{SameSize, cleared-same-size, cleared-keeps-valid}
 use Rattle.state.specs.declared.Size.{Size}
 use Rattle.state.specs.declared.State.{State}
-use Rattle.state.specs.State.{refused}
 use Rattle.state.specs.Tests.{listedSize, sizeFits}
-use Rattle.state.proofs.Keeping.{KeepsValid, on-page, refused-keeps-valid}
+use Rattle.state.proofs.Keeping.{KeepsValid, on-page}
 use Rattle.steps.specs.Steps.{Terminal, Transmission, silent, report, Stepped, goesTo, stores, sends, refusing, cursorCell, Valid}
-use Rattle.steps.specs.Claims.{none, markLeft, TouchesOnly, KeepsText, Sound}
+use Rattle.steps.specs.Claims.{Rising, none, markLeft, TouchesOnly, KeepsProtection, KeepsText}
 use Rattle.steps.proofs.Naming.{all-stay-protected, same-characters}
 use Rattle.steps.proofs.Storing.{Stored}
+
+-- All that is claimed of every step, from a terminal.
+pub record Sound (t : Terminal) (step : Stepped) : Type 0 where
+  pub valid : Valid (step .terminal)
+  pub size : step .terminal .state .size ≡ t .state .size
+  pub touches : TouchesOnly (step .cells) (step .transmission) (t .page) (step .terminal .page)
+  pub once : Rising (length (t .page .marks)) 0 (step .cells)
+  pub protection : step .protection ≡ false → KeepsProtection (t .page) (step .terminal .page)
 
 -- A page of the size that the state says.
 pub record Sized (size : Size) (page : Page) : Type 0 where
@@ -76,29 +84,16 @@ module _ (t : Terminal) (valid : Valid t) where
     size = keeps .size;
     touches = untouched silent (λ mark. refl);
     once = none;
-    refusal = λ e. absurd (true-is-not-false (sym e));
     protection = λ _ cell here. refl;
   }
 
   pub refuses-soundly : Sound t (refusing t)
-  unfolding refused markLeft
-  refuses-soundly = let keeps = refused-keeps-valid (t .state) (valid .state) in record {
-    valid = stays-valid (refused (t .state)) (t .page) keeps same-size (valid .page);
+  unfolding markLeft
+  refuses-soundly = record {
+    valid = valid;
     size = refl;
     touches = untouched silent (λ mark. refl);
     once = none;
-    refusal = λ _. record {
-      soft-lock = refl;
-      invalid-command = refl;
-      manual-lock = refl;
-      page = refl;
-      size = refl;
-      cursor = refl;
-      modes = refl;
-      stops = refl;
-      nothing-sent = refl;
-      no-cell = refl;
-    };
     protection = λ _ cell here. refl;
   }
 
@@ -108,7 +103,6 @@ module _ (t : Terminal) (valid : Valid t) where
     size = keeps .size;
     touches = stored .touches;
     once = stored .once;
-    refusal = λ e. absurd (true-is-not-false (sym e));
     protection = stored .protection;
   }
 
@@ -120,7 +114,6 @@ module _ (t : Terminal) (valid : Valid t) where
     size = refl;
     touches = untouched (report bytes) (λ mark. refl);
     once = none;
-    refusal = λ e. absurd (true-is-not-false (sym e));
     protection = λ _ cell here. refl;
   }
 
@@ -130,7 +123,6 @@ module _ (t : Terminal) (valid : Valid t) where
     size = refl;
     touches = touches;
     once = none;
-    refusal = λ e. absurd (true-is-not-false (sym e));
     protection = λ _. all-stay-protected transmission (t .page) cleared touches;
   }
     where

@@ -29,8 +29,8 @@ module _ (at : ℕ) (output : List ℕ) (before : Terminal) (stepped : Stepped) 
   unfolding written
   with-room enough = then-case _ _ _ (le-leb _ _ enough)
 
-  without-message : bytesOf (stepped .transmission) ≡ [] → written at output before stepped ≡ record { told = tells stepped; output = output }
-  without-message silent =
+  without-transmission : bytesOf (stepped .transmission) ≡ [] → written at output before stepped ≡ record { told = tells stepped; output = output }
+  without-transmission silent =
       let none : length (bytesOf (stepped .transmission)) ≡ 0 = ap length silent in
       with-room (omega arith) ∙ (λ i. record { told = tells stepped; output = (ap (λ (bytes : List ℕ). placed at bytes output) silent ∙ sym (wrote-none at output .left)) i })
 
@@ -40,4 +40,4 @@ Silent stepped = bytesOf (stepped .transmission) ≡ []
 
 pub told-silent : (at : ℕ) (output : List ℕ) (before : Terminal) (stepped : Stepped) (step : Step) (page : Page) → told step page ≡ tells stepped → Silent stepped → record { told = told step page; output = output } ≡ written at output before stepped
 told-silent at output before stepped step page is silent =
-    (λ i. record { told = is i; output = output }) ∙ sym (without-message at output before stepped silent)
+    (λ i. record { told = is i; output = output }) ∙ sym (without-transmission at output before stepped silent)

@@ -1,12 +1,12 @@
 -- What is claimed of every step, whatever the byte or key.
-use mathlib.Core.Bool.{Bool, true, false}
+use mathlib.Core.Bool.{Bool, true}
 use mathlib.Core.List.{List, [], _∷_, List·Memᴰ}
 use mathlib.Core.Path.{_≡_}
 use Prim.Native.Nat.{ℕ, _+_, _<_, _≤_}
 use lib.ListN.{length, getD}
 use Rattle.page.specs.Marks.{unprotected}
 use Rattle.page.specs.Page.{Page, markAfterBlock}
-use Rattle.steps.specs.Steps.{Terminal, Transmission, silent, report, fullBlock, changedBlock, Stepped, Valid}
+use Rattle.steps.specs.Steps.{Terminal, Transmission, silent, report, fullBlock, changedBlock, Stepped}
 use Rattle.steps.specs.Seen.{blockHere}
 
 -- Cells in page order, each named once: none is before `first`, none is as far as `end`.
@@ -76,12 +76,3 @@ pub record SendsBlock (full : Bool) (Asked : Type 0) (t : Terminal) (step : Step
   pub asked : Asked
   pub of-page : bytes ≡ blockHere full t
   pub no-cell : StoresNoCell step
-
--- All of it, for a step from a terminal.
-pub record Sound (t : Terminal) (step : Stepped) : Type 0 where
-  pub valid : Valid (step .terminal)
-  pub size : step .terminal .state .size ≡ t .state .size
-  pub touches : TouchesOnly (step .cells) (step .transmission) (t .page) (step .terminal .page)
-  pub once : Rising (length (t .page .marks)) 0 (step .cells)
-  pub refusal : step .wasRefused ≡ true → Refusal t step
-  pub protection : step .protection ≡ false → KeepsProtection (t .page) (step .terminal .page)

@@ -8,7 +8,6 @@ use Rattle.words.specs.Lists.{numbersFrom}
 use Rattle.page.specs.Page.{Page, pageOf, validPage}
 use Rattle.places.specs.Places.{cellAt}
 use Rattle.state.specs.declared.State.{State}
-use Rattle.state.specs.State.{refused}
 use Rattle.state.specs.Tests.{sizeFits, validState}
 
 -- All that a call is lent and given: the state, and the characters and marks.
@@ -62,10 +61,9 @@ stores cells protection s page =
 abbrev pub sends : Transmission → State → Page → Stepped
 sends transmission s page = record { terminal = record { state = s; page = page }; transmission = transmission; cells = []; wasRefused = false; protection = false }
 
--- "Reading host bytes", a refused command: it sets the soft lock and message 1 and changes nothing else.
+-- A command that is refused changes nothing: it hands back that it refuses, and the step of its byte sets lock and message.
 abbrev pub refusing : Terminal → Stepped
-refusing t =
-    record { terminal = withState t (refused (t .state)); transmission = silent; cells = []; wasRefused = true; protection = false }
+refusing t = record { terminal = t; transmission = silent; cells = []; wasRefused = true; protection = false }
 
 -- The cursor's cell, its row's first, and all cells of the page.
 abbrev pub cursorCell : State → ℕ

@@ -32,12 +32,12 @@ pub fn quiet(state: State) -> Step
     }
 }
 
-// A refused command: every refusal of a command comes through here.
+// A command that is refused changes nothing and hands back that it refuses: every refusal of a command comes through here.
 pub fn refuse(state: State) -> Step
     ensures { λ r. ⌜ ((page : Page) → told r page ≡ tells (refusing (record { state = state; page = page }))) ⌝ }
 {
     Step {
-        state: state.refuse(),
+        state,
         stored: 0,
         sent: 0,
         refused: true,

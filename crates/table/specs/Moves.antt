@@ -2,6 +2,7 @@
 use mathlib.Core.Bool.{Bool}
 use mathlib.Core.List.{List}
 use Prim.Native.Nat.{ℕ}
+use Prim.Native.Char.{code}
 use lib.Dec.{ltb, leb, eqb}
 use lib.ListN.{getD}
 use Rattle.words.specs.Choice.{if_then_else_, _and_, _or_}
@@ -37,22 +38,22 @@ keptColumn row given column present =
 
 -- Their finals: A to I, Z, d and f.
 unfoldable pub isMove : ℕ → Bool
-isMove final = (leb 0x41 final and leb final 0x49) or eqb final 0x5A or eqb final 0x64 or eqb final 0x66
+isMove final = (leb (code "A") final and leb final (code "I")) or eqb final (code "Z") or eqb final (code "d") or eqb final (code "f")
 
 -- After ESC [, the moves by final byte: the last line is Z.
 unfoldable pub moveStep : ℕ → List ℕ → Terminal → Stepped
 moveStep final arguments t =
     let first = valueOf final arguments 0 in
     let second = valueOf final arguments 1 in
-    if eqb final 0x41 then goesTo (upBy first (t .state)) t  -- A
-    else if eqb final 0x42 then goesTo (downBy first (t .state)) t  -- B
-    else if eqb final 0x43 then goesTo (rightBy first (t .state)) t  -- C
-    else if eqb final 0x44 then goesTo (leftBy first (t .state)) t  -- D
-    else if eqb final 0x45 then goesTo (toMargin (downBy first (t .state))) t  -- E
-    else if eqb final 0x46 then goesTo (toMargin (upBy first (t .state))) t  -- F
-    else if eqb final 0x47 then toColumn first t  -- G
-    else if eqb final 0x64 then toRow first t  -- d
-    else if eqb final 0x48 then toPlace first second t  -- H
-    else if eqb final 0x66 then toPlace first (keptColumn (getD arguments 0 0) (getD arguments 1 0) second (t .state .cursor .column)) t  -- f
-    else if eqb final 0x49 then goesTo (tabbedOn first (t .state)) t  -- I
+    if eqb final (code "A") then goesTo (upBy first (t .state)) t
+    else if eqb final (code "B") then goesTo (downBy first (t .state)) t
+    else if eqb final (code "C") then goesTo (rightBy first (t .state)) t
+    else if eqb final (code "D") then goesTo (leftBy first (t .state)) t
+    else if eqb final (code "E") then goesTo (toMargin (downBy first (t .state))) t
+    else if eqb final (code "F") then goesTo (toMargin (upBy first (t .state))) t
+    else if eqb final (code "G") then toColumn first t
+    else if eqb final (code "d") then toRow first t
+    else if eqb final (code "H") then toPlace first second t
+    else if eqb final (code "f") then toPlace first (keptColumn (getD arguments 0 0) (getD arguments 1 0) second (t .state .cursor .column)) t
+    else if eqb final (code "I") then goesTo (tabbedOn first (t .state)) t
     else goesTo (tabbedBack first (t .state)) t  -- Z

@@ -1,5 +1,6 @@
 -- Document 01, "Commands": the table by final byte. How many arguments a command may have, and what an argument of 0 stands for.
 use Prim.Native.Nat.{ℕ}
+use Prim.Native.Char.{code}
 use lib.Dec.{eqb}
 use lib.ListN.{getD}
 use mathlib.Core.List.{List}
@@ -15,18 +16,18 @@ takes most zeroIs = record { most = most; zeroIs = zeroIs }
 -- A command that isn't listed may have none, and each sequence has one at least: so it is refused.
 unfoldable pub allowed : ℕ → Allowed
 allowed final =
-    if final is 0x41 to 0x44 then takes 1 1  -- A B C D: CUU, CUD, CUF, CUB
-    else if final is 0x45 to 0x46 then takes 1 1  -- E F: CNL, CPL
-    else if eqb final 0x47 then takes 1 1  -- G: CHA
-    else if eqb final 0x64 then takes 1 1  -- d: VPA
-    else if eqb final 0x48 then takes 2 1  -- H: CUP
-    else if eqb final 0x66 then takes 2 1  -- f: HVP
-    else if eqb final 0x49 or eqb final 0x5A then takes 1 1  -- I Z: CHT, CBT
-    else if eqb final 0x57 then takes 1 0  -- W: CTC
-    else if eqb final 0x4A or eqb final 0x4B then takes 1 0  -- J K: ED, EL
-    else if eqb final 0x6D then takes 8 0  -- m: SGR
-    else if eqb final 0x68 or eqb final 0x6C then takes 8 0  -- h l: SM, RM
-    else if eqb final 0x6E then takes 1 0  -- n: DSR
+    if final is code "A" to code "D" then takes 1 1  -- CUU, CUD, CUF, CUB
+    else if final is code "E" to code "F" then takes 1 1  -- CNL, CPL
+    else if eqb final (code "G") then takes 1 1  -- CHA
+    else if eqb final (code "d") then takes 1 1  -- VPA
+    else if eqb final (code "H") then takes 2 1  -- CUP
+    else if eqb final (code "f") then takes 2 1  -- HVP
+    else if eqb final (code "I") or eqb final (code "Z") then takes 1 1  -- CHT, CBT
+    else if eqb final (code "W") then takes 1 0  -- CTC
+    else if eqb final (code "J") or eqb final (code "K") then takes 1 0  -- ED, EL
+    else if eqb final (code "m") then takes 8 0  -- SGR
+    else if eqb final (code "h") or eqb final (code "l") then takes 8 0  -- SM, RM
+    else if eqb final (code "n") then takes 1 0  -- DSR
     else takes 0 0
 
 -- The value of argument i, counted from 0.

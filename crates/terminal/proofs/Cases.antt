@@ -1,28 +1,60 @@
 -- Every call is one of a few cases: refused with nothing changed, stopped where room is lacking, or done.
-use mathlib.Core.Path.{_≡_, refl, ap, _∙_}
+use mathlib.Core.Path.{_≡_, refl, sym, ap, _∙_}
 use mathlib.Core.Bool.{true, false}
 use mathlib.Core.List.{List, [], _∷_}
 use Prim.Native.Nat.{ℕ, _-_, _≤_}
 use native.Mathlib.Omega.{arith}
 use borrow.Author.Tests.{ltb-false, le-ltb}
+use lib.Dec.{eqb}
 use lib.ListN.{length, length-append}
-use Rattle.words.proofs.Choosing.{either-way, less-or-not}
+use Rattle.words.specs.Choice.{if_then_else_, _and_}
+use Rattle.words.proofs.Choosing.{not-both, either-way, less-or-not}
 use Rattle.page.specs.Page.{Page}
 use Rattle.state.specs.declared.Size.{Size}
 use Rattle.state.specs.Tests.{sizeFits}
 use Rattle.steps.specs.Steps.{Terminal, Stepped, bytesOf, Valid}
-use Rattle.keys.specs.Keys.{isKnown, isLockedOut, lacksCell, keyStep}
+use Rattle.keys.specs.Keys.{keyStep}
 use Rattle.terminal.specs.declared.Answer.{Answer}
 use Rattle.terminal.specs.declared.Answer.the-variants.{Done, WrongSize, WrongState, NoRoom, UnknownKey, Locked, TooLong, NoCell}
 use Rattle.terminal.specs.Runs.{stepsOf, fitting, bytesSentBy}
-use Rattle.terminal.specs.Answers.{numberOf, unchanged, afterSteps}
-use Rattle.terminal.specs.Tests.{exceedsRoom, passesLine2}
+use Rattle.terminal.specs.Answers.{numberOf, unchanged, afterSteps, changesNothing}
+use Rattle.terminal.specs.Tests.{_answers_, exceedsRoom, hostRefusals, keyRefusals, Passes, hostLines, keyLines}
 use Rattle.terminal.specs.Calls.{unstarted, startStep, startCall, hostCall, keyCall}
 use Rattle.terminal.specs.Lines.{Line3}
 use Rattle.terminal.proofs.Deciding
-use Rattle.terminal.proofs.Deciding.{is-valid, valid-holds, fits-on, stops-there}
+use Rattle.terminal.proofs.Deciding.{fits-on, stops-there, host-passed, key-passed}
+use Rattle.terminal.proofs.Firsts.{none, this, past, through, allChangeNothing, Tested, one-holds, last-holds, none-holds, tested}
 use Rattle.terminal.proofs.Running.{steps-count}
 use Rattle.terminal.proofs.Exceeding.{line-3, line-3-done}
+
+-- No two answers have the same number.
+answerOf : ℕ → Answer
+answerOf number =
+    if eqb number 0 then Done
+    else if eqb number 1 then WrongSize
+    else if eqb number 2 then WrongState
+    else if eqb number 3 then NoRoom
+    else if eqb number 4 then UnknownKey
+    else if eqb number 5 then Locked
+    else if eqb number 6 then TooLong
+    else NoCell
+
+numbers-differ : (answer : Answer) → answerOf (numberOf answer) ≡ answer
+unfolding answerOf numberOf if_then_else_
+numbers-differ Done = refl
+numbers-differ WrongSize = refl
+numbers-differ WrongState = refl
+numbers-differ NoRoom = refl
+numbers-differ UnknownKey = refl
+numbers-differ Locked = refl
+numbers-differ TooLong = refl
+numbers-differ NoCell = refl
+
+pub same-answer : (one other : Answer) → numberOf one ≡ numberOf other → one ≡ other
+same-answer one other is = sym (numbers-differ one) ∙ ap answerOf is ∙ numbers-differ other
+
+no-steps : (answer other : Answer) → changesNothing answer ≡ true → changesNothing other ≡ false → numberOf answer ≡ numberOf other → ⊥
+no-steps answer other nothing some is = not-both nothing (ap changesNothing (same-answer answer other is) ∙ some)
 
 -- Where no step is left out, all are done, and their transmissions fit.
 all-fit : (room : ℕ) (steps : List Stepped) → length steps ≤ length (fitting room steps) → (fitting room steps ≡ steps) × (length (bytesSentBy steps) ≤ room)
@@ -53,74 +85,55 @@ module _ (t : Terminal) (bytes output : List ℕ) where
     stopped : Valid t → (line : Line3 (length output) (stepsOf t bytes)) → hostCall t bytes output ≡ afterSteps NoRoom (length (line .before)) t output (line .before) → HostCase
     done : Valid t → length (bytesSentBy (stepsOf t bytes)) ≤ length output → hostCall t bytes output ≡ afterSteps Done (length bytes) t output (stepsOf t bytes) → HostCase
 
-  ran : sizeFits (t .state .size) (t .page) ≡ true → passesLine2 t ≡ true → length bytes ≤ 65536 → HostCase
-  unfolding exceedsRoom
-  ran size valid short =
-      either-way (exceedsRoom (length output) (stepsOf t bytes))
-      (λ exceeds.
-      let line = line-3 (length output) (stepsOf t bytes) .0 exceeds in
-      stopped (is-valid t size valid) line
-      (Deciding.host-no-room t bytes output size valid short exceeds ∙ ap (λ (steps : List Stepped). afterSteps NoRoom (length steps) t output steps) (line-3-done (length output) (stepsOf t bytes) line)))
-      (λ fits.
-      let all = all-fit (length output) (stepsOf t bytes) (ltb-false _ _ fits) in
-      done (is-valid t size valid) (all .1)
-      (Deciding.host-done t bytes output size valid short fits
-      ∙ ap (λ (steps : List Stepped). afterSteps Done (length steps) t output steps) (all .0)
-      ∙ ap (λ (n : ℕ). afterSteps Done n t output (stepsOf t bytes)) (steps-count t bytes)))
-
   -- Where nothing stands in its way, all is done.
   pub host-did : Valid t → length bytes ≤ 65536 → length (bytesSentBy (stepsOf t bytes)) ≤ length output → hostCall t bytes output ≡ afterSteps Done (length bytes) t output (stepsOf t bytes)
   unfolding exceedsRoom
   host-did valid short fit =
       let all = none-left-out (length output) (stepsOf t bytes) fit in
       let fits : length (stepsOf t bytes) ≤ length (fitting (length output) (stepsOf t bytes)) = omega (arith, ap (length {A = Stepped}) all) in
-      Deciding.host-done t bytes output (valid .size) (valid-holds t valid) short (le-ltb _ _ fits)
+      Deciding.host-done t bytes output valid short (le-ltb _ _ fits)
       ∙ ap (λ (steps : List Stepped). afterSteps Done (length steps) t output steps) all
       ∙ ap (λ (n : ℕ). afterSteps Done n t output (stepsOf t bytes)) (steps-count t bytes)
 
   pub host-case : HostCase
-  unfolding numberOf
-  host-case =
-      either-way (sizeFits (t .state .size) (t .page))
-      (λ size.
-      either-way (passesLine2 t)
-      (λ valid.
-      less-or-not 65536 (length bytes)
-      (λ long. refused TooLong (λ e. omega arith) (λ e. omega arith) (Deciding.host-too-long t bytes output size valid long))
-      (λ short. ran size valid short))
-      (λ wrong. refused WrongState (λ e. omega arith) (λ e. omega arith) (Deciding.host-wrong-state t bytes output size wrong)))
-      (λ wrong. refused WrongSize (λ e. omega arith) (λ e. omega arith) (Deciding.host-wrong-size t bytes output wrong))
+  unfolding hostRefusals hostLines exceedsRoom numberOf changesNothing allChangeNothing _and_
+  host-case = go (tested (hostRefusals t bytes) (exceedsRoom (length output) (stepsOf t bytes) answers NoRoom) refl)
+    where
+      go : Tested (hostRefusals t bytes) (exceedsRoom (length output) (stepsOf t bytes) answers NoRoom) → HostCase
+      go (one-holds answer nothing first) =
+          refused answer (no-steps answer Done nothing refl) (no-steps answer NoRoom nothing refl) (Deciding.host-refused t bytes output answer nothing first)
+      go (last-holds all-fail exceeds) =
+          let line = line-3 (length output) (stepsOf t bytes) .0 exceeds in
+          stopped (host-passed t bytes all-fail) line
+          (Deciding.host-did t bytes output NoRoom refl (through all-fail (this exceeds))
+          ∙ ap (λ (steps : List Stepped). afterSteps NoRoom (length steps) t output steps) (line-3-done (length output) (stepsOf t bytes) line))
+      go (none-holds all-fail fits) =
+          let all = all-fit (length output) (stepsOf t bytes) (ltb-false _ _ fits) in
+          done (host-passed t bytes all-fail) (all .1)
+          (Deciding.host-did t bytes output Done refl (through all-fail (past fits none))
+          ∙ ap (λ (steps : List Stepped). afterSteps Done (length steps) t output steps) (all .0)
+          ∙ ap (λ (n : ℕ). afterSteps Done n t output (stepsOf t bytes)) (steps-count t bytes))
 
 module _ (t : Terminal) (key : ℕ) (output : List ℕ) where
   pub data KeyCase : Type 0 where
     refused : (answer : Answer) → (numberOf answer ≡ 0 → ⊥) → keyCall t key output ≡ unchanged answer t output → KeyCase
-    pressed : Valid t → isKnown key ≡ true → isLockedOut key (t .state) ≡ false → lacksCell key t ≡ false → length (bytesOf (keyStep key t .transmission)) ≤ length output → keyCall t key output ≡ afterSteps Done 0 t output (keyStep key t ∷ []) → KeyCase
+    pressed : Passes t key → length (bytesOf (keyStep key t .transmission)) ≤ length output → keyCall t key output ≡ afterSteps Done 0 t output (keyStep key t ∷ []) → KeyCase
 
-  let-pass : sizeFits (t .state .size) (t .page) ≡ true → passesLine2 t ≡ true → isKnown key ≡ true → isLockedOut key (t .state) ≡ false → lacksCell key t ≡ false → KeyCase
+  let-pass : Passes t key → KeyCase
   unfolding numberOf
-  let-pass size valid known free has =
+  let-pass passes =
       less-or-not (length output) (length (bytesOf (keyStep key t .transmission)))
-      (λ exceeds. refused NoRoom (λ e. omega arith) (Deciding.key-no-room t key output size valid known free has exceeds))
-      (λ fits. pressed (is-valid t size valid) known free has fits (Deciding.key-did t key output size valid known free has fits))
+      (λ exceeds. refused NoRoom (λ e. omega arith) (Deciding.key-no-room t key output passes exceeds))
+      (λ fits. pressed passes fits (Deciding.key-did t key output passes fits))
 
   pub key-case : KeyCase
-  unfolding numberOf
-  key-case =
-      either-way (sizeFits (t .state .size) (t .page))
-      (λ size.
-      either-way (passesLine2 t)
-      (λ valid.
-      either-way (isKnown key)
-      (λ known.
-      either-way (isLockedOut key (t .state))
-      (λ locked. refused Locked (λ e. omega arith) (Deciding.key-locked t key output size valid known locked))
-      (λ free.
-      either-way (lacksCell key t)
-      (λ lacks. refused NoCell (λ e. omega arith) (Deciding.key-no-cell t key output size valid known free lacks))
-      (λ has. let-pass size valid known free has)))
-      (λ unknown. refused UnknownKey (λ e. omega arith) (Deciding.key-unknown t key output size valid unknown)))
-      (λ wrong. refused WrongState (λ e. omega arith) (Deciding.key-wrong-state t key output size wrong)))
-      (λ wrong. refused WrongSize (λ e. omega arith) (Deciding.key-wrong-size t key output wrong))
+  unfolding keyRefusals keyLines numberOf changesNothing allChangeNothing _and_
+  key-case = go (tested (keyRefusals t key) (exceedsRoom (length output) (keyStep key t ∷ []) answers NoRoom) refl)
+    where
+      go : Tested (keyRefusals t key) (exceedsRoom (length output) (keyStep key t ∷ []) answers NoRoom) → KeyCase
+      go (one-holds answer nothing first) = refused answer (no-steps answer Done nothing refl) (Deciding.key-refused t key output answer nothing first)
+      go (last-holds all-fail exceeds) = let-pass (key-passed t key all-fail)
+      go (none-holds all-fail fits) = let-pass (key-passed t key all-fail)
 
 module _ (size : Size) (page : Page) where
   pub data StartCase : Type 0 where

@@ -1,9 +1,9 @@
 -- Which line decides a call, and what the call then gives.
-use mathlib.Core.Path.{_≡_, sym, ap, _∙_}
+use mathlib.Core.Path.{_≡_, refl, sym, ap, _∙_}
 use mathlib.Core.Bool.{true, false, not}
 use mathlib.Core.List.{List, [], _∷_, append-nil}
 use Prim.Native.Nat.{ℕ, _-_, _<_, _≤_}
-use borrow.Author.Tests.{lt-ltb, le-ltb, le-leb, lt-leb}
+use borrow.Author.Tests.{le-ltb, le-leb, lt-leb, not-false}
 use lib.ListN.{length}
 use Rattle.words.proofs.Choosing.{then-case, else-case, both, both-hold}
 use Rattle.words.specs.Output.{placed}
@@ -13,16 +13,17 @@ use Rattle.state.specs.declared.Size.{Size}
 use Rattle.state.specs.State.{freshState}
 use Rattle.state.specs.Tests.{sizeFits}
 use Rattle.steps.specs.Steps.{Terminal, Stepped, Valid, bytesOf, allCells}
-use Rattle.keys.specs.Keys.{isKnown, isLockedOut, lacksCell, keyStep}
+use Rattle.keys.specs.Keys.{keyStep}
 use Rattle.commands.specs.Commands.{freshStep}
 use Rattle.steps.proofs.Soundness.{sized}
 use Rattle.commands.proofs.Laws.{all-cells-count, erased-is-fresh}
 use Rattle.terminal.specs.declared.Answer.{Answer}
-use Rattle.terminal.specs.declared.Answer.the-variants.{Done, WrongSize, WrongState, NoRoom, UnknownKey, Locked, TooLong, NoCell}
+use Rattle.terminal.specs.declared.Answer.the-variants.{Done, WrongSize, NoRoom}
 use Rattle.terminal.specs.Runs.{stepsOf, fitting, after, bytesSentBy, cellsStoredBy}
-use Rattle.terminal.specs.Answers.{numberOf, unchanged, afterSteps, gives}
-use Rattle.terminal.specs.Tests.{firstOf, exceedsRoom, passesLine2, startLines, hostLines, keyLines}
+use Rattle.terminal.specs.Answers.{numberOf, unchanged, afterSteps, changesNothing, gives}
+use Rattle.terminal.specs.Tests.{exceedsRoom, passesLine2, startLines, hostRefusals, keyRefusals, Passes, hostLines, keyLines}
 use Rattle.terminal.specs.Calls.{unstarted, startStep, startCall, hostCall, keyCall}
+use Rattle.terminal.proofs.Firsts.{First, none, this, past, decided, AllFail, no-line, fails, through}
 
 -- What the tests of the first two lines tell.
 pub is-valid : (t : Terminal) → sizeFits (t .state .size) (t .page) ≡ true → passesLine2 t ≡ true → Valid t
@@ -42,115 +43,121 @@ pub stops-there : (room : ℕ) (step : Stepped) (later : List Stepped) → room 
 unfolding fitting
 stops-there room step later exceeds = else-case _ _ _ (lt-leb _ _ exceeds)
 
+-- An answer that changes nothing, and one that did steps.
+module _ (answer : Answer) (taken : ℕ) (t : Terminal) (output : List ℕ) (steps : List Stepped) where
+  gives-nothing : changesNothing answer ≡ true → gives answer taken t output steps ≡ unchanged answer t output
+  unfolding gives
+  gives-nothing nothing = then-case _ _ _ nothing
+
+  gives-steps : changesNothing answer ≡ false → gives answer taken t output steps ≡ afterSteps answer taken t output steps
+  unfolding gives
+  gives-steps some = else-case _ _ _ some
+
+-- What lets a call pass all lines but 3: every test before it fails.
+module _ (t : Terminal) (bytes : List ℕ) where
+  pub host-passes : Valid t → length bytes ≤ 65536 → AllFail (hostRefusals t bytes)
+  unfolding hostRefusals
+  host-passes valid short = fails (ap not (valid .size)) (fails (ap not (valid-holds t valid)) (fails (le-ltb _ _ short) no-line))
+
+  pub host-passed : AllFail (hostRefusals t bytes) → Valid t
+  unfolding hostRefusals
+  host-passed (fails size (fails valid _)) = is-valid t (not-false _ size) (not-false _ valid)
+
+module _ (t : Terminal) (key : ℕ) where
+  key-passes : Passes t key → AllFail (keyRefusals t key)
+  unfolding keyRefusals
+  key-passes passes =
+      fails (ap not (passes .valid .size))
+      (fails (ap not (valid-holds t (passes .valid)))
+      (fails (ap not (passes .known))
+      (fails (passes .not-locked-out)
+      (fails (passes .has-cell) no-line))))
+
+  pub key-passed : AllFail (keyRefusals t key) → Passes t key
+  unfolding keyRefusals
+  key-passed (fails size (fails valid (fails known (fails free (fails has no-line))))) =
+      record {
+        valid = is-valid t (not-false _ size) (not-false _ valid);
+        known = not-false _ known;
+        not-locked-out = free;
+        has-cell = has;
+      }
+
 module _ (t : Terminal) (bytes output : List ℕ) where
-  host-gives : (answer : Answer) → firstOf (hostLines t bytes output) ≡ answer → hostCall t bytes output ≡ gives answer (length (fitting (length output) (stepsOf t bytes))) t output (fitting (length output) (stepsOf t bytes))
+  abbrev done : List Stepped
+  done = fitting (length output) (stepsOf t bytes)
+
+  -- The line that decides gives the number; it changes nothing, or the steps done are those that fit.
+  host-gives : (answer : Answer) → First (hostLines t bytes output) answer → hostCall t bytes output ≡ gives answer (length done) t output done
   unfolding hostCall
-  host-gives answer is = ap (λ (a : Answer). gives a (length (fitting (length output) (stepsOf t bytes))) t output (fitting (length output) (stepsOf t bytes))) is
+  host-gives answer first = ap (λ (a : Answer). gives a (length done) t output done) (decided first)
 
-  pub host-wrong-size : sizeFits (t .state .size) (t .page) ≡ false → hostCall t bytes output ≡ unchanged WrongSize t output
-  unfolding gives hostLines firstOf
-  host-wrong-size wrong = host-gives WrongSize (rw (then-case _ _ _ (ap not wrong)))
+  pub host-refused : (answer : Answer) → changesNothing answer ≡ true → First (hostLines t bytes output) answer → hostCall t bytes output ≡ unchanged answer t output
+  host-refused answer nothing first = host-gives answer first ∙ gives-nothing answer _ t output _ nothing
 
-  module _ (size : sizeFits (t .state .size) (t .page) ≡ true) where
-    pub host-wrong-state : passesLine2 t ≡ false → hostCall t bytes output ≡ unchanged WrongState t output
-    unfolding gives hostLines firstOf
-    host-wrong-state wrong = host-gives WrongState (rw (else-case _ _ _ (ap not size), then-case _ _ _ (ap not wrong)))
+  pub host-did : (answer : Answer) → changesNothing answer ≡ false → First (hostLines t bytes output) answer → hostCall t bytes output ≡ afterSteps answer (length done) t output done
+  host-did answer some first = host-gives answer first ∙ gives-steps answer _ t output _ some
 
-    module _ (valid : passesLine2 t ≡ true) where
-      pub host-too-long : 65536 < length bytes → hostCall t bytes output ≡ unchanged TooLong t output
-      unfolding gives hostLines firstOf
-      host-too-long long = host-gives TooLong (rw (else-case _ _ _ (ap not size), else-case _ _ _ (ap not valid), then-case _ _ _ (lt-ltb _ _ long)))
+  pub host-no-room : Valid t → length bytes ≤ 65536 → exceedsRoom (length output) (stepsOf t bytes) ≡ true → hostCall t bytes output ≡ afterSteps NoRoom (length done) t output done
+  unfolding hostLines changesNothing
+  host-no-room valid short exceeds = host-did NoRoom refl (through (host-passes t bytes valid short) (this exceeds))
 
-      module _ (short : length bytes ≤ 65536) where
-        pub host-no-room : exceedsRoom (length output) (stepsOf t bytes) ≡ true → hostCall t bytes output ≡ afterSteps NoRoom (length (fitting (length output) (stepsOf t bytes))) t output (fitting (length output) (stepsOf t bytes))
-        unfolding gives hostLines firstOf
-        host-no-room exceeds =
-            host-gives NoRoom (rw (else-case _ _ _ (ap not size), else-case _ _ _ (ap not valid), else-case _ _ _ (le-ltb _ _ short), then-case _ _ _ exceeds))
-
-        pub host-done : exceedsRoom (length output) (stepsOf t bytes) ≡ false → hostCall t bytes output ≡ afterSteps Done (length (fitting (length output) (stepsOf t bytes))) t output (fitting (length output) (stepsOf t bytes))
-        unfolding gives hostLines firstOf
-        host-done fit =
-            host-gives Done (rw (else-case _ _ _ (ap not size), else-case _ _ _ (ap not valid), else-case _ _ _ (le-ltb _ _ short), else-case _ _ _ fit))
+  pub host-done : Valid t → length bytes ≤ 65536 → exceedsRoom (length output) (stepsOf t bytes) ≡ false → hostCall t bytes output ≡ afterSteps Done (length done) t output done
+  unfolding hostLines changesNothing
+  host-done valid short fit = host-did Done refl (through (host-passes t bytes valid short) (past fit none))
 
 module _ (t : Terminal) (key : ℕ) (output : List ℕ) where
-  key-gives : (answer : Answer) → firstOf (keyLines t key output) ≡ answer → keyCall t key output ≡ gives answer 0 t output (fitting (length output) (keyStep key t ∷ []))
+  abbrev pressed : List Stepped
+  pressed = fitting (length output) (keyStep key t ∷ [])
+
+  key-gives : (answer : Answer) → First (keyLines t key output) answer → keyCall t key output ≡ gives answer 0 t output pressed
   unfolding keyCall
-  key-gives answer is = ap (λ (a : Answer). gives a 0 t output (fitting (length output) (keyStep key t ∷ []))) is
+  key-gives answer first = ap (λ (a : Answer). gives a 0 t output pressed) (decided first)
 
-  pub key-wrong-size : sizeFits (t .state .size) (t .page) ≡ false → keyCall t key output ≡ unchanged WrongSize t output
-  unfolding gives keyLines firstOf
-  key-wrong-size wrong = key-gives WrongSize (rw (then-case _ _ _ (ap not wrong)))
+  pub key-refused : (answer : Answer) → changesNothing answer ≡ true → First (keyLines t key output) answer → keyCall t key output ≡ unchanged answer t output
+  key-refused answer nothing first = key-gives answer first ∙ gives-nothing answer _ t output _ nothing
 
-  module _ (size : sizeFits (t .state .size) (t .page) ≡ true) where
-    pub key-wrong-state : passesLine2 t ≡ false → keyCall t key output ≡ unchanged WrongState t output
-    unfolding gives keyLines firstOf
-    key-wrong-state wrong = key-gives WrongState (rw (else-case _ _ _ (ap not size), then-case _ _ _ (ap not wrong)))
+  -- Line 3: a key's step is done whole or not at all.
+  pub key-no-room : Passes t key → length output < length (bytesOf (keyStep key t .transmission)) → keyCall t key output ≡ unchanged NoRoom t output
+  unfolding keyLines changesNothing afterSteps unchanged after bytesSentBy cellsStoredBy exceedsRoom
+  key-no-room passes exceeds =
+      let left-out = stops-there (length output) (keyStep key t) [] exceeds in
+      key-gives NoRoom (through (key-passes t key passes) (this (rw left-out)))
+      ∙ gives-steps NoRoom 0 t output _ refl
+      ∙ ap (afterSteps NoRoom 0 t output) left-out
+      ∙ (λ i. record { number = numberOf NoRoom; taken = 0; sent = 0; stored = 0; terminal = t; output = sym (wrote-none 0 output .left) i })
 
-    module _ (valid : passesLine2 t ≡ true) where
-      pub key-unknown : isKnown key ≡ false → keyCall t key output ≡ unchanged UnknownKey t output
-      unfolding gives keyLines firstOf
-      key-unknown unknown = key-gives UnknownKey (rw (else-case _ _ _ (ap not size), else-case _ _ _ (ap not valid), then-case _ _ _ (ap not unknown)))
+  pub key-did : Passes t key → length (bytesOf (keyStep key t .transmission)) ≤ length output → keyCall t key output ≡ afterSteps Done 0 t output (keyStep key t ∷ [])
+  unfolding keyLines changesNothing exceedsRoom fitting
+  key-did passes fits =
+      let all = fits-on (length output) (keyStep key t) [] fits in
+      key-gives Done (through (key-passes t key passes) (past (rw all) none)) ∙ gives-steps Done 0 t output _ refl ∙ ap (afterSteps Done 0 t output) all
 
-      module _ (known : isKnown key ≡ true) where
-        pub key-locked : isLockedOut key (t .state) ≡ true → keyCall t key output ≡ unchanged Locked t output
-        unfolding gives keyLines firstOf
-        key-locked locked =
-            key-gives Locked (rw (else-case _ _ _ (ap not size), else-case _ _ _ (ap not valid), else-case _ _ _ (ap not known), then-case _ _ _ locked))
-
-        module _ (free : isLockedOut key (t .state) ≡ false) where
-          pub key-no-cell : lacksCell key t ≡ true → keyCall t key output ≡ unchanged NoCell t output
-          unfolding gives keyLines firstOf
-          key-no-cell lacks =
-              key-gives NoCell (rw (else-case _ _ _ (ap not size), else-case _ _ _ (ap not valid), else-case _ _ _ (ap not known), else-case _ _ _ free, then-case _ _ _ lacks))
-
-          module _ (has : lacksCell key t ≡ false) where
-            key-exceeds : exceedsRoom (length output) (keyStep key t ∷ []) ≡ true → keyCall t key output ≡ afterSteps NoRoom 0 t output (fitting (length output) (keyStep key t ∷ []))
-            unfolding gives keyLines firstOf
-            key-exceeds exceeds =
-                key-gives NoRoom (rw (else-case _ _ _ (ap not size), else-case _ _ _ (ap not valid), else-case _ _ _ (ap not known), else-case _ _ _ free, else-case _ _ _ has, then-case _ _ _ exceeds))
-
-            key-fits : exceedsRoom (length output) (keyStep key t ∷ []) ≡ false → keyCall t key output ≡ afterSteps Done 0 t output (fitting (length output) (keyStep key t ∷ []))
-            unfolding gives keyLines firstOf
-            key-fits fits =
-                key-gives Done (rw (else-case _ _ _ (ap not size), else-case _ _ _ (ap not valid), else-case _ _ _ (ap not known), else-case _ _ _ free, else-case _ _ _ has, else-case _ _ _ fits))
-
-            pub key-no-room : length output < length (bytesOf (keyStep key t .transmission)) → keyCall t key output ≡ unchanged NoRoom t output
-            unfolding afterSteps unchanged after bytesSentBy cellsStoredBy exceedsRoom
-            key-no-room exceeds =
-                let none = stops-there (length output) (keyStep key t) [] exceeds in
-                key-exceeds (rw none)
-                ∙ ap (afterSteps NoRoom 0 t output) none
-                ∙ (λ i. record { number = numberOf NoRoom; taken = 0; sent = 0; stored = 0; terminal = t; output = sym (wrote-none 0 output .left) i })
-
-            pub key-did : length (bytesOf (keyStep key t .transmission)) ≤ length output → keyCall t key output ≡ afterSteps Done 0 t output (keyStep key t ∷ [])
-            unfolding exceedsRoom fitting
-            key-did fits = let all = fits-on (length output) (keyStep key t) [] fits in key-fits (rw all) ∙ ap (afterSteps Done 0 t output) all
-
-            pub key-done : length (bytesOf (keyStep key t .transmission)) ≤ length output → keyCall t key output ≡ record { number = numberOf Done; taken = 0; sent = length (bytesOf (keyStep key t .transmission)); stored = length (keyStep key t .cells); terminal = keyStep key t .terminal; output = placed 0 (bytesOf (keyStep key t .transmission)) output }
-            unfolding afterSteps after bytesSentBy cellsStoredBy
-            key-done fits =
-                key-did fits
-                ∙ (λ i. record {
-                  number = numberOf Done;
-                  taken = 0;
-                  sent = length (append-nil (bytesOf (keyStep key t .transmission)) i);
-                  stored = length (append-nil (keyStep key t .cells) i);
-                  terminal = keyStep key t .terminal;
-                  output = placed 0 (append-nil (bytesOf (keyStep key t .transmission)) i) output;
-                })
+  pub key-done : Passes t key → length (bytesOf (keyStep key t .transmission)) ≤ length output → keyCall t key output ≡ record { number = numberOf Done; taken = 0; sent = length (bytesOf (keyStep key t .transmission)); stored = length (keyStep key t .cells); terminal = keyStep key t .terminal; output = placed 0 (bytesOf (keyStep key t .transmission)) output }
+  unfolding afterSteps after bytesSentBy cellsStoredBy
+  key-done passes fits =
+      key-did passes fits
+      ∙ (λ i. record {
+        number = numberOf Done;
+        taken = 0;
+        sent = length (append-nil (bytesOf (keyStep key t .transmission)) i);
+        stored = length (append-nil (keyStep key t .cells) i);
+        terminal = keyStep key t .terminal;
+        output = placed 0 (append-nil (bytesOf (keyStep key t .transmission)) i) output;
+      })
 
 module _ (size : Size) (page : Page) where
-  start-gives : (answer : Answer) → firstOf (startLines size page) ≡ answer → startCall size page ≡ gives answer 0 (unstarted page) [] (startStep size page ∷ [])
+  start-gives : (answer : Answer) → First (startLines size page) answer → startCall size page ≡ gives answer 0 (unstarted page) [] (startStep size page ∷ [])
   unfolding startCall
-  start-gives answer is = ap (λ (a : Answer). gives a 0 (unstarted page) [] (startStep size page ∷ [])) is
+  start-gives answer first = ap (λ (a : Answer). gives a 0 (unstarted page) [] (startStep size page ∷ [])) (decided first)
 
   pub start-wrong-size : sizeFits size page ≡ false → startCall size page ≡ unchanged WrongSize (unstarted page) []
-  unfolding gives startLines firstOf
-  start-wrong-size wrong = start-gives WrongSize (rw (then-case _ _ _ (ap not wrong)))
+  unfolding startLines changesNothing
+  start-wrong-size wrong = start-gives WrongSize (this (ap not wrong)) ∙ gives-nothing WrongSize 0 (unstarted page) [] _ refl
 
   pub start-done : sizeFits size page ≡ true → startCall size page ≡ afterSteps Done 0 (unstarted page) [] (startStep size page ∷ [])
-  unfolding gives startLines firstOf
-  start-done fits = start-gives Done (rw (else-case _ _ _ (ap not fits)))
+  unfolding startLines changesNothing
+  start-done fits = start-gives Done (past (ap not fits) none) ∙ gives-steps Done 0 (unstarted page) [] _ refl
 
   -- A fresh page is one erased whole.
   pub start-leaves : sizeFits size page ≡ true → startCall size page ≡ record { number = numberOf Done; taken = 0; sent = 0; stored = length (page .marks); terminal = record { state = freshState size; page = erased true 0 (length (page .marks)) page }; output = [] }

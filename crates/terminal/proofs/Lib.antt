@@ -1,3 +1,4 @@
+pub mod Firsts
 pub mod Deciding
 pub mod Running
 pub mod Matching

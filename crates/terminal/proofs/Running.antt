@@ -27,7 +27,7 @@ use Rattle.terminal.specs.Runs.{stepsOf, fitting, after, bytesSentBy, ce
 use Rattle.terminal.specs.Answers.{numberOf, afterSteps}
 use Rattle.terminal.specs.Tests.{exceedsRoom}
 use Rattle.terminal.specs.Calls.{hostCall}
-use Rattle.terminal.proofs.Deciding.{valid-holds, fits-on, stops-there, host-no-room, host-done}
+use Rattle.terminal.proofs.Deciding.{fits-on, stops-there, host-no-room, host-done}
 
 -- What steps leave, send and name, one step more.
 pub after-more : (t : Terminal) (done : List Stepped) (step : Stepped) → after t (done ++ (step ∷ [])) ≡ step .terminal
@@ -200,7 +200,7 @@ module _ {start : Terminal} {bytes before : List ℕ} {here : Terminal} {taken s
         ∙ ap (λ (steps : List Stepped). going .done ++ steps) (stops-there (length before - sent) (onward) _ room)
         ∙ append-nil (going .done) in
         let fewer : length (fitting (length before) (stepsOf start bytes)) < length (stepsOf start bytes) = omega (arith, ap length all, going .as-many, steps-count start bytes) in
-        host-no-room start bytes before (valid .size) (valid-holds start valid) short (lt-ltb _ _ fewer) ∙ ends NoRoom all
+        host-no-room start bytes before valid short (lt-ltb _ _ fewer) ∙ ends NoRoom all
 
     pub ends-done : length bytes ≤ taken → hostCall start bytes before ≡ record { number = numberOf Done; taken = taken; sent = sent; stored = stored; terminal = here; output = output }
     unfolding exceedsRoom stepsOf fitting
@@ -210,4 +210,4 @@ module _ {start : Terminal} {bytes before : List ℕ} {here : Terminal} {taken s
         ∙ ap (λ (rest : List ℕ). going .done ++ fitting (length before - sent) (stepsOf here rest)) (drop-of-length-le bytes no-more)
         ∙ append-nil (going .done) in
         let as-many : length (stepsOf start bytes) ≤ length (fitting (length before) (stepsOf start bytes)) = omega (arith, ap length all, going .as-many, steps-count start bytes) in
-        host-done start bytes before (valid .size) (valid-holds start valid) short (le-ltb _ _ as-many) ∙ ends Done all
+        host-done start bytes before valid short (le-ltb _ _ as-many) ∙ ends Done all

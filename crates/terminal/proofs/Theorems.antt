@@ -6,9 +6,8 @@ use mathlib.Core.Logic.{_↔_}
 use Prim.Native.Nat.{ℕ}
 use native.Mathlib.Omega.{arith}
 use borrow.Author.Tests.{lt-ltb, ltb-true, not-true}
-use lib.Dec.{eqb}
 use lib.ListN.{length, take, drop, replicate}
-use Rattle.words.specs.Choice.{if_then_else_}
+use Rattle.words.proofs.Choosing.{either-line}
 use Rattle.words.specs.Output.{placed}
 use Rattle.words.proofs.Output.{placed-before, placed-past}
 use Rattle.words.proofs.Elements.{run-length}
@@ -20,31 +19,23 @@ use Rattle.commands.specs.Commands.{freshStep}
 use Rattle.keys.specs.Keys.{keyStep}
 use Rattle.steps.proofs.Soundness.{sized}
 use Rattle.terminal.specs.declared.Answer.{Answer}
-use Rattle.terminal.specs.declared.Answer.the-variants.{Done, WrongSize, WrongState, NoRoom, UnknownKey, Locked, TooLong, NoCell}
 use Rattle.terminal.specs.declared.Reply.{Reply}
 use Rattle.terminal.specs.Runs.{stepsOf, after, bytesSentBy, cellsStoredBy}
-use Rattle.terminal.specs.Answers.{numberOf, Outcome, given, unchanged, afterSteps, gives}
-use Rattle.terminal.specs.Tests.{passesLine2, firstOf, startLines, hostLines, keyLines}
+use Rattle.terminal.specs.Answers.{numberOf, Outcome, given, unchanged, afterSteps, changesNothing, gives}
+use Rattle.terminal.specs.Tests.{passesLine2, firstOf, startLines, hostRefusals, keyRefusals, hostLines, keyLines}
 use Rattle.terminal.specs.Calls.{unstarted, startStep, startCall, hostCall, keyCall}
 use Rattle.terminal.specs.Claims.{NumberedBy, Leaves, Did, Started, SameResult}
 use Rattle.terminal.specs.Lines.{Line3, Decides, startTable, hostTable, keyTable}
 use Rattle.terminal.proofs.Matching.{ends, next, first-decides-row, decides-one}
 use Rattle.terminal.proofs.Exceeding.{line-3}
 use Rattle.terminal.proofs.Lines.{line-4, line-5, line-7}
-use Rattle.terminal.proofs.Cases.{HostCase, KeyCase, StartCase, host-case, key-case, start-case}
+use Rattle.terminal.proofs.Cases.{same-answer, HostCase, KeyCase, StartCase, host-case, key-case, start-case}
 use Rattle.terminal.proofs.Cases
 
 -- The number of an outcome is its answer's.
 number-is : (answer : Answer) (taken : ℕ) (t : Terminal) (output : List ℕ) (steps : List Stepped) → numberOf answer ≡ gives answer taken t output steps .number
 unfolding gives afterSteps unchanged
-number-is Done taken t output steps = refl
-number-is WrongSize taken t output steps = refl
-number-is WrongState taken t output steps = refl
-number-is NoRoom taken t output steps = refl
-number-is UnknownKey taken t output steps = refl
-number-is Locked taken t output steps = refl
-number-is TooLong taken t output steps = refl
-number-is NoCell taken t output steps = refl
+number-is answer taken t output steps = either-line (λ (o : Outcome). numberOf answer ≡ o .number) (changesNothing answer) _ _ (λ _. refl) (λ _. refl)
 
 -- A test that is turned round.
 turned : {test : Bool} {Holds : Type 0} → (test ≡ false) ↔ Holds → (not test ≡ true) ↔ Holds
@@ -63,7 +54,7 @@ module _ (size : Size) (page : Page) where
 
 module _ (t : Terminal) (bytes output : List ℕ) where
   host-decides : Decides (hostTable t bytes (length output) (stepsOf t bytes)) (hostCall t bytes output .number)
-  unfolding hostCall hostLines passesLine2 numberOf
+  unfolding hostCall hostLines hostRefusals passesLine2 numberOf
   host-decides =
       subst (Decides (hostTable t bytes (length output) (stepsOf t bytes))) (number-is (firstOf (hostLines t bytes output)) _ _ _ _)
       (first-decides-row
@@ -77,7 +68,7 @@ module _ (t : Terminal) (bytes output : List ℕ) where
 
 module _ (t : Terminal) (key : ℕ) (output : List ℕ) where
   key-decides : Decides (keyTable t key (length output) (keyStep key t)) (keyCall t key output .number)
-  unfolding keyCall keyLines passesLine2 numberOf
+  unfolding keyCall keyLines keyRefusals passesLine2 numberOf
   key-decides =
       subst (Decides (keyTable t key (length output) (keyStep key t))) (number-is (firstOf (keyLines t key output)) _ _ _ _)
       (first-decides-row
@@ -189,7 +180,7 @@ module _ (t : Terminal) (key : ℕ) (output : List ℕ) where
     where
       go : KeyCase t key output → Leaves t output (keyCall t key output)
       go (Cases.refused answer a is) = leaves _ _ _ is
-      go (Cases.pressed valid known free has fits is) = absurd (not-done (did-number _ _ _ _ _ is))
+      go (Cases.pressed passes fits is) = absurd (not-done (did-number _ _ _ _ _ is))
 
   -- Key, 0: its step.
   pub key-done : keyCall t key output .number ≡ 0 → Did 0 t output (keyStep key t ∷ []) (keyCall t key output)
@@ -197,7 +188,7 @@ module _ (t : Terminal) (key : ℕ) (output : List ℕ) where
     where
       go : KeyCase t key output → Did 0 t output (keyStep key t ∷ []) (keyCall t key output)
       go (Cases.refused answer a is) = absurd (a (sym (numbered _ _ _ is) ∙ is-done))
-      go (Cases.pressed valid known free has fits is) = did-so _ _ _ _ _ is
+      go (Cases.pressed passes fits is) = did-so _ _ _ _ _ is
 
   -- Only a valid terminal is given 0.
   pub key-found-valid : keyCall t key output .number ≡ 0 → Valid t
@@ -205,35 +196,13 @@ module _ (t : Terminal) (key : ℕ) (output : List ℕ) where
     where
       go : KeyCase t key output → Valid t
       go (Cases.refused answer a is) = absurd (a (sym (numbered _ _ _ is) ∙ is-done))
-      go (Cases.pressed valid known free has fits is) = valid
+      go (Cases.pressed passes fits is) = passes .valid
 
 -- Any two results that a contract allows are equal.
-answerOf : ℕ → Answer
-answerOf number =
-    if eqb number 0 then Done
-    else if eqb number 1 then WrongSize
-    else if eqb number 2 then WrongState
-    else if eqb number 3 then NoRoom
-    else if eqb number 4 then UnknownKey
-    else if eqb number 5 then Locked
-    else if eqb number 6 then TooLong
-    else NoCell
-
-numbers-differ : (answer : Answer) → answerOf (numberOf answer) ≡ answer
-unfolding answerOf numberOf if_then_else_
-numbers-differ Done = refl
-numbers-differ WrongSize = refl
-numbers-differ WrongState = refl
-numbers-differ NoRoom = refl
-numbers-differ UnknownKey = refl
-numbers-differ Locked = refl
-numbers-differ TooLong = refl
-numbers-differ NoCell = refl
-
 pub one-result : {one other : Reply} {page there : Page} {output lent : List ℕ} {outcome : Outcome} → given one page output ≡ outcome → given other there lent ≡ outcome → SameResult one other page there output lent
 one-result {one} {other} a b =
     let same = a ∙ sym b in
-    let answers = sym (numbers-differ (one .answer)) ∙ ap (λ (o : Outcome). answerOf (o .number)) same ∙ numbers-differ (other .answer) in
+    let answers = same-answer (one .answer) (other .answer) (ap (λ (o : Outcome). o .number) same) in
     record {
       replies = λ i. record { answer = answers i; state = same i .terminal .state; taken = same i .taken; sent = same i .sent; stored = same i .stored };
       pages = ap (λ (o : Outcome). o .terminal .page) same;

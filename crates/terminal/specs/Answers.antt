@@ -1,7 +1,9 @@
 -- Document 01, "Numbers a call gives back": for each answer its number, and what its line gives and leaves.
+use mathlib.Core.Bool.{Bool, true, false}
 use mathlib.Core.List.{List}
 use Prim.Native.Nat.{ℕ}
 use lib.ListN.{length, take}
+use Rattle.words.specs.Choice.{if_then_else_}
 use Rattle.words.specs.Output.{placed}
 use Rattle.page.specs.Page.{Page}
 use Rattle.steps.specs.Steps.{Terminal, Stepped}
@@ -60,13 +62,19 @@ afterSteps answer taken t output steps =
       output = placed 0 (bytesSentBy steps) output;
     }
 
--- The table's last column, for a call that may do these steps: those before the one that lacks room, or all.
+-- The table's last column: 0 and 3 did steps, any other answer changes nothing.
+unfoldable pub changesNothing : Answer → Bool
+changesNothing Done = false
+changesNothing WrongSize = true
+changesNothing WrongState = true
+changesNothing NoRoom = false
+changesNothing UnknownKey = true
+changesNothing Locked = true
+changesNothing TooLong = true
+changesNothing NoCell = true
+
+-- A call that may do these steps: those before the one that lacks room, or all.
 unfoldable pub gives : Answer → ℕ → Terminal → List ℕ → List Stepped → Outcome
-gives Done taken t output steps = afterSteps Done taken t output steps
-gives WrongSize taken t output steps = unchanged WrongSize t output
-gives WrongState taken t output steps = unchanged WrongState t output
-gives NoRoom taken t output steps = afterSteps NoRoom taken t output steps
-gives UnknownKey taken t output steps = unchanged UnknownKey t output
-gives Locked taken t output steps = unchanged Locked t output
-gives TooLong taken t output steps = unchanged TooLong t output
-gives NoCell taken t output steps = unchanged NoCell t output
+gives answer taken t output steps =
+    if changesNothing answer then unchanged answer t output
+    else afterSteps answer taken t output steps

@@ -1,6 +1,7 @@
 -- The refusals of each call, as one ordered list of tests: the first that holds decides.
-use mathlib.Core.Bool.{Bool, not}
-use mathlib.Core.List.{List, [], _∷_}
+use mathlib.Core.Path.{_≡_}
+use mathlib.Core.Bool.{Bool, true, false, not}
+use mathlib.Core.List.{List, [], _∷_, _++_}
 use Prim.Native.Nat.{ℕ}
 use lib.Dec.{ltb}
 use lib.ListN.{length}
@@ -8,7 +9,7 @@ use Rattle.words.specs.Choice.{if_then_else_, _and_}
 use Rattle.page.specs.Page.{Page, validPage}
 use Rattle.state.specs.declared.Size.{Size}
 use Rattle.state.specs.Tests.{sizeFits, validState}
-use Rattle.steps.specs.Steps.{Terminal, Stepped}
+use Rattle.steps.specs.Steps.{Terminal, Stepped, Valid}
 use Rattle.keys.specs.Keys.{isKnown, isLockedOut, lacksCell, keyStep}
 use Rattle.terminal.specs.declared.Answer.{Answer}
 use Rattle.terminal.specs.declared.Answer.the-variants.{Done, WrongSize, WrongState, NoRoom, UnknownKey, Locked, TooLong, NoCell}
@@ -41,20 +42,35 @@ passesLine2 t = validState (t .state) and validPage (t .page)
 unfoldable pub startLines : Size → Page → List LineTest
 startLines size page = not (sizeFits size page) answers WrongSize ∷ []
 
-unfoldable pub hostLines : Terminal → List ℕ → List ℕ → List LineTest
-hostLines t bytes output =
+-- The lines that are tested before the steps are looked at; each leaves all unchanged.
+unfoldable pub hostRefusals : Terminal → List ℕ → List LineTest
+hostRefusals t bytes =
     not (sizeFits (t .state .size) (t .page)) answers WrongSize
     ∷ not (passesLine2 t) answers WrongState
     ∷ ltb 65536 (length bytes) answers TooLong
-    ∷ exceedsRoom (length output) (stepsOf t bytes) answers NoRoom
     ∷ []
 
-unfoldable pub keyLines : Terminal → ℕ → List ℕ → List LineTest
-keyLines t key output =
+unfoldable pub keyRefusals : Terminal → ℕ → List LineTest
+keyRefusals t key =
     not (sizeFits (t .state .size) (t .page)) answers WrongSize
     ∷ not (passesLine2 t) answers WrongState
     ∷ not (isKnown key) answers UnknownKey
     ∷ isLockedOut key (t .state) answers Locked
     ∷ lacksCell key t answers NoCell
-    ∷ exceedsRoom (length output) (keyStep key t ∷ []) answers NoRoom
     ∷ []
+
+-- What lets a key pass them.
+pub record Passes (t : Terminal) (key : ℕ) : Type 0 where
+  pub valid : Valid t
+  pub known : isKnown key ≡ true
+  pub not-locked-out : isLockedOut key (t .state) ≡ false
+  pub has-cell : lacksCell key t ≡ false
+
+-- Line 3 is the last.
+unfoldable pub hostLines : Terminal → List ℕ → List ℕ → List LineTest
+hostLines t bytes output =
+    hostRefusals t bytes ++ (exceedsRoom (length output) (stepsOf t bytes) answers NoRoom ∷ [])
+
+unfoldable pub keyLines : Terminal → ℕ → List ℕ → List LineTest
+keyLines t key output =
+    keyRefusals t key ++ (exceedsRoom (length output) (keyStep key t ∷ []) answers NoRoom ∷ [])

@@ -4,15 +4,13 @@ use page::Mark;
 use state::Size;
 use state::State;
 ghost use mathlib.Core.Path.{_≡_};
-ghost use mathlib.Core.Bool.{true, false};
 ghost use mathlib.Core.List.{List, []};
 ghost use Prim.Native.Nat.{ℕ, _≤_};
 ghost use lib.ListN.{length};
 ghost use Rattle.page.specs.Page.{Page, pageOf};
 ghost use Rattle.steps.specs.Steps.{Valid, terminalOf};
-ghost use Rattle.keys.specs.Keys.{isKnown, isLockedOut, lacksCell};
 ghost use Rattle.terminal.specs.Answers.{numberOf, given, unchanged};
-ghost use Rattle.terminal.specs.Tests.{passesLine2};
+ghost use Rattle.terminal.specs.Tests.{passesLine2, Passes};
 ghost use Rattle.terminal.specs.Calls.{StartAllows, HostAllows, KeyAllows};
 
 // Each has a number, and a line of document 01's table: `numberOf` and `gives` of specs/Answers.antt.
@@ -54,7 +52,8 @@ pub fn number_of(answer: Answer) -> u8
 
 // A call that changes nothing.
 fn refuse_call(answer: Answer, state: State) -> Reply
-    ensures { λ r. ⌜ ((page : Page) (output : List ℕ) → given r page output ≡ unchanged answer (record { state = state; page = page }) output) ⌝ }
+    ensures { λ r. ⌜ ((page : Page) (output : List ℕ) →
+        given r page output ≡ unchanged answer (record { state = state; page = page }) output) ⌝ }
 {
     Reply {
         answer,
@@ -75,7 +74,13 @@ fn is_valid(state: State, characters: &[u8], marks: &[Mark]) -> bool
 }
 
 // The steps of host bytes, stopping where a transmission exceeds the room left.
-fn run(state: State, characters: &mut [u8], marks: &mut [Mark], bytes: &[u8], out: &mut [u8]) -> Reply
+fn run(
+    state: State,
+    characters: &mut [u8],
+    marks: &mut [Mark],
+    bytes: &[u8],
+    out: &mut [u8],
+) -> Reply
     requires { ⌜ Valid (terminalOf state (now characters) (now marks)) ⌝ }
     requires { ⌜ length (now bytes) ≤ 65536 ⌝ }
     ensures { λ r. ⌜ HostAllows
@@ -112,9 +117,14 @@ fn run(state: State, characters: &mut [u8], marks: &mut [Mark], bytes: &[u8], ou
 }
 
 // The step of a key that lines 1, 2, 4, 5 and 7 let pass.
-fn press(state: State, characters: &mut [u8], marks: &mut [Mark], key: usize, out: &mut [u8]) -> Reply
-    requires { ⌜ Valid (terminalOf state (now characters) (now marks)) ⌝ }
-    requires { ⌜ (isKnown key ≡ true) × (isLockedOut key state ≡ false) × (lacksCell key (terminalOf state (now characters) (now marks)) ≡ false) ⌝ }
+fn press(
+    state: State,
+    characters: &mut [u8],
+    marks: &mut [Mark],
+    key: usize,
+    out: &mut [u8],
+) -> Reply
+    requires { ⌜ Passes (terminalOf state (now characters) (now marks)) key ⌝ }
     ensures { λ r. ⌜ KeyAllows
         (terminalOf state (now (characters .entry)) (now (marks .entry))) key (now (out .entry))
         r (pageOf (now (characters .exit)) (now (marks .exit))) (now (out .exit)) ⌝ }

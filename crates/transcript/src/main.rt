@@ -1,6 +1,6 @@
-// The transcript program of document 01: frames in, one a line; a line out for each call. With an argument, whatever it is,
-// the terminal is drawn after each line (a dump). What a line means and prints is defined and proved in crates/frames;
-// here bytes are read, and the text of each call is written.
+// The transcript program of document 01: frames in, one a line; a line out for each call. With an argument, whatever it
+// is, the terminal is drawn after each line (a dump). What a line means and prints is defined and proved in
+// crates/frames; here bytes are read, and the text of each call is written.
 use frames::Held;
 use libc::STDOUT_FILENO;
 use page::Mark;
@@ -14,7 +14,7 @@ ghost use Rattle.frames.specs.Held.{lineIn, sessionIn, lent, Enough, Holds};
 
 const STDIN: i32 = 0;
 
-const NEW_LINE: u8 = 0x0A;
+const NEW_LINE: u8 = b'\n';
 
 // A frame makes no more calls than this (`lineDone`, crates/frames/specs/Sessions.antt).
 const MOST_CALLS: usize = 256;
@@ -28,8 +28,8 @@ struct Reading {
     digits: usize,
 }
 
-// The session's terminal, drawn as text; nothing without a session. The two tests give what `draw` asks for, and the state of
-// every session passes them.
+// The session's terminal, drawn as text; nothing without a session. The two tests give what `draw` asks for, and the
+// state of every session passes them.
 fn show(held: Held, characters: &[u8], marks: &[Mark], text: &mut [u8])
     requires { ⌜ (length (now characters) ≡ 7680) × (length (now marks) ≡ 7680) × (131087 ≤ length (now text)) ⌝ }
 {
@@ -59,7 +59,9 @@ fn do_calls(
     text: &mut [u8],
 ) -> Held
     requires { ⌜ (length (now line) ≡ 512) × Enough (lent (now characters) (now marks) (now out) (now text)) ⌝ }
-    ensures { λ r. ⌜ sessionIn r (now (characters .exit)) (now (marks .exit)) ≡ lineDone (lineIn (now (line .entry)) digits) (sessionIn held (now (characters .entry)) (now (marks .entry))) .after ⌝ }
+    ensures { λ r. ⌜ sessionIn r (now (characters .exit)) (now (marks .exit))
+        ≡ lineDone (lineIn (now (line .entry)) digits)
+        (sessionIn held (now (characters .entry)) (now (marks .entry))) .after ⌝ }
 {
     let kind = frames::frame(line, digits);
     let mut here = held;
@@ -91,7 +93,9 @@ fn do_line(
     dumping: bool,
 ) -> Held
     requires { ⌜ (length (now line) ≡ 512) × Enough (lent (now characters) (now marks) (now out) (now text)) ⌝ }
-    ensures { λ r. ⌜ sessionIn r (now (characters .exit)) (now (marks .exit)) ≡ lineDone (lineIn (now (line .entry)) digits) (sessionIn held (now (characters .entry)) (now (marks .entry))) .after ⌝ }
+    ensures { λ r. ⌜ sessionIn r (now (characters .exit)) (now (marks .exit))
+        ≡ lineDone (lineIn (now (line .entry)) digits)
+        (sessionIn held (now (characters .entry)) (now (marks .entry))) .after ⌝ }
 {
     let after = do_calls(held, line, digits, characters, marks, out, text);
     if dumping {
@@ -112,7 +116,11 @@ fn take_byte(
     dumping: bool,
 ) -> Reading
     requires { ⌜ (length (now line) ≡ 512) × Enough (lent (now characters) (now marks) (now out) (now text)) ⌝ }
-    ensures { λ r. ⌜ ((read : SoFar) → Holds read (reading .held) (reading .digits) (now (line .entry)) (now (characters .entry)) (now (marks .entry)) → Holds (afterByte byte read) (r .held) (r .digits) (now (line .exit)) (now (characters .exit)) (now (marks .exit))) ⌝ }
+    ensures { λ r. ⌜ ((read : SoFar) →
+        Holds read (reading .held) (reading .digits)
+        (now (line .entry)) (now (characters .entry)) (now (marks .entry)) →
+        Holds (afterByte byte read) (r .held) (r .digits)
+        (now (line .exit)) (now (characters .exit)) (now (marks .exit))) ⌝ }
 {
     let held = reading.held;
     let digits = reading.digits;
@@ -139,7 +147,11 @@ fn take_bytes(
     dumping: bool,
 ) -> Reading
     requires { ⌜ (length (now line) ≡ 512) × Enough (lent (now characters) (now marks) (now out) (now text)) ⌝ }
-    ensures { λ r. ⌜ ((read : SoFar) → Holds read (reading .held) (reading .digits) (now (line .entry)) (now (characters .entry)) (now (marks .entry)) → Holds (afterBytes (now (bytes .entry)) read) (r .held) (r .digits) (now (line .exit)) (now (characters .exit)) (now (marks .exit))) ⌝ }
+    ensures { λ r. ⌜ ((read : SoFar) →
+        Holds read (reading .held) (reading .digits)
+        (now (line .entry)) (now (characters .entry)) (now (marks .entry)) →
+        Holds (afterBytes (now (bytes .entry)) read) (r .held) (r .digits)
+        (now (line .exit)) (now (characters .exit)) (now (marks .exit))) ⌝ }
 {
     let mut here = reading;
     let mut i = 0;
@@ -213,7 +225,7 @@ fn main() {
     let mut input = [0u8; 4096];
     let mut line = [0u8; 512];
     let mut characters = [0u8; 7680];
-    let mut marks = [0u8; 7680];
+    let mut marks: [Mark; 7680] = [0; 7680];
     let mut out = [0u8; 65536];
     let mut text = [0u8; 131087];
     let mut word = io::buffer();

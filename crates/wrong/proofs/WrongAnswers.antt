@@ -3,6 +3,7 @@ use mathlib.Core.Path.{_≡_, refl, sym, ap, _∙_}
 use mathlib.Core.Bool.{true, false}
 use mathlib.Core.List.{List, [], _∷_}
 use Prim.Native.Nat.{ℕ}
+use Prim.Native.Char.{code}
 use native.Mathlib.Omega.{arith}
 use borrow.Author.Tests.{eqb-false}
 use lib.ListN.{length, getD}
@@ -17,8 +18,9 @@ use Rattle.terminal.specs.Runs.{after}
 use Rattle.terminal.specs.Calls.{hostCall, keyCall}
 use Rattle.terminal.specs.declared.Answer.the-variants.{NoRoom}
 use Rattle.terminal.specs.Answers.{numberOf, unchanged}
-use Rattle.terminal.proofs.Deciding.{valid-holds, key-no-room}
+use Rattle.terminal.proofs.Deciding.{key-no-room}
 use Rattle.terminal.proofs.Exceeding.{line-3-done}
+use Rattle.words.specs.Text.{bytes}
 use Rattle.promises.specs.Rules.{ourRules, byteSteps}
 use Rattle.promises.specs.Entries.{Entries, read, keyPress}
 use Rattle.promises.specs.Demands.{Numbers, Refusals}
@@ -38,7 +40,7 @@ module _ (entries : Entries) (kept : Numbers ourRules entries) where
 
 -- A field of one cell, modified, with the cursor on it; and the same terminal under the soft lock.
 abbrev pub oneField : Terminal
-oneField = at 1 (sheet (0x41 ∷ 0x20 ∷ 0x20 ∷ 0x20 ∷ 0x20 ∷ []) (2 ∷ 1 ∷ 1 ∷ 1 ∷ 1 ∷ []))
+oneField = at 1 (sheet (bytes "A    ") (2 ∷ 1 ∷ 1 ∷ 1 ∷ 1 ∷ []))
 
 abbrev locked : Terminal
 locked = withState oneField (withLocks (oneField .state) (record { manual = false; soft = true; message = 1 }))
@@ -47,9 +49,9 @@ one-field-valid : Valid oneField
 unfolding validity
 one-field-valid = record { size = refl; state = refl; page = refl }
 
-one-field-changed : block false 80 (oneField .page) ≡ 0x1B ∷ 0x5B ∷ 0x31 ∷ 0x3B ∷ 0x31 ∷ 0x66 ∷ 0x41 ∷ 0x03 ∷ []
+one-field-changed : block false 80 (oneField .page) ≡ bytes "\u{1b}[1;1fA\u{3}"
 unfolding blockBytes
-one-field-changed = sheet-block (2 ∷ 1 ∷ 1 ∷ 1 ∷ 1 ∷ []) refl false (0x41 ∷ 0x20 ∷ 0x20 ∷ 0x20 ∷ 0x20 ∷ []) ∙ refl
+one-field-changed = sheet-block (2 ∷ 1 ∷ 1 ∷ 1 ∷ 1 ∷ []) refl false (bytes "A    ") ∙ refl
 
 -- An empty host call is given 0, and not 6.
 empty-done : hostCall oneField [] [] .number ≡ 0
@@ -71,7 +73,7 @@ lockedBeforeUnknown-breaks-numbers kept = eqb-false 5 4 refl (key-number lockedB
 
 -- A page of one cell is of no listed size: a start is given 1, and hands the page back as it was.
 abbrev pub tiny : Page
-tiny = pageOf (0x41 ∷ []) (0 ∷ [])
+tiny = pageOf (code "A" ∷ []) (0 ∷ [])
 
 abbrev pub oneByOne : Size
 oneByOne = record { rows = 1; columns = 1 }
@@ -80,12 +82,15 @@ pub blanksRefusedStart-breaks-refusals : Refusals ourRules blanksRefusedStart �
 unfolding calls
 blanksRefusedStart-breaks-refusals kept =
     let left = kept .of-start oneByOne tiny (eqb-false 1 0 refl) .terminal in
-    eqb-false 0x20 0x41 refl (ap (λ (t : Terminal). getD (t .page .characters) 0 0) left)
+    eqb-false (code " ") (code "A") refl (ap (λ (t : Terminal). getD (t .page .characters) 0 0) left)
 
 -- 266 with no room at all is given 3, since the block has a byte at least; and the cell is modified still.
 block-refused : keyCall oneField 266 [] ≡ unchanged NoRoom oneField []
 unfolding validity keySteps
-block-refused = key-no-room oneField 266 [] refl (valid-holds oneField one-field-valid) refl refl refl (omega (arith, ap length one-field-changed))
+block-refused =
+    key-no-room oneField 266 []
+    (record { valid = one-field-valid; known = refl; not-locked-out = refl; has-cell = refl })
+    (omega (arith, ap length one-field-changed))
 
 pub clearsTagsRefused-breaks-refusals : Refusals ourRules clearsTagsRefused → ⊥
 unfolding tests numberOf unchanged modifiedCleared eachFrom markAfterBlock
@@ -95,7 +100,7 @@ clearsTagsRefused-breaks-refusals kept =
 
 -- ESC [ 5 n with no room is given 3: its n isn't taken, and ESC [ 5 stays half read.
 abbrev askReady : List ℕ
-askReady = 0x1B ∷ 0x5B ∷ 0x35 ∷ 0x6E ∷ []
+askReady = bytes "\u{1b}[5n"
 
 pub losesSequenceOn3-breaks-refusals : Refusals ourRules losesSequenceOn3 → ⊥
 unfolding calls hostSteps streams

@@ -1,8 +1,10 @@
--- On the page that reaches the bound: blocks that are too long, a block withheld, and calls that stop and have sent nothing.
+-- On the page that reaches the bound: blocks that are too long, a block withheld, and calls that stop and have sent
+-- nothing.
 use mathlib.Core.Path.{_≡_, refl, sym, ap, _∙_}
 use mathlib.Core.Bool.{true, false}
 use mathlib.Core.List.{List, [], _∷_, _++_, append-nil}
 use Prim.Native.Nat.{ℕ, _*_, _<_, _≤_}
+use Prim.Native.Char.{code}
 use native.Mathlib.Omega.{arith}
 use borrow.Author.Tests.{eq-eqb}
 use lib.Dec.{eqb}
@@ -20,6 +22,7 @@ use Rattle.terminal.specs.Runs.{bytesSentBy}
 use Rattle.terminal.specs.Answers.{Outcome}
 use Rattle.terminal.specs.Calls.{hostCall}
 use Rattle.terminal.specs.Lines.{Line3, this-holds, not-this}
+use Rattle.words.specs.Text.{bytes}
 use Rattle.promises.specs.Rules.{ourRules, press, byteSteps}
 use Rattle.promises.specs.Further.{changed-by-266, Progress, SendsBlocks, Bounded}
 use Rattle.wrong.specs.Entries.{stopsAtOnce, hidesSentOn3}
@@ -62,7 +65,8 @@ withholdsChanged-breaks-sends-blocks kept =
     let sent = kept manyFields many-valid (press 266) false (block false 160 (manyFields .page)) .1 (changed-by-266, refl) in
     true-is-not-false (sym (ap isBlock sent))
 
--- With room for the longest block, a call that is given 3 has sent something: of two blocks, asked for in one call, the first.
+-- With room for the longest block, a call that is given 3 has sent something: of two blocks, asked for in one call, the
+-- first.
 abbrev longestRoom : List ℕ
 longestRoom = replicate 35185 0
 
@@ -74,13 +78,13 @@ unfolding calls
 stopsAtOnce-breaks-progress kept = absurd (omega (arith, kept manyFields [] longestRoom (omega (arith, room-long)) refl))
 
 abbrev twice : List ℕ
-twice = 0x1B ∷ 0x53 ∷ 0x1B ∷ 0x53 ∷ []
+twice = bytes "\u{1b}S\u{1b}S"
 
 abbrev firstThree : List Stepped
 firstThree = take 3 (byteSteps ourRules manyFields twice)
 
 abbrev afterThree : Terminal
-afterThree = hostStep 0x1B (hostStep 0x53 (hostStep 0x1B manyFields .terminal) .terminal) .terminal
+afterThree = hostStep 0x1B (hostStep (code "S") (hostStep 0x1B manyFields .terminal) .terminal) .terminal
 
 first-sent : length (bytesSentBy firstThree) ≡ 35185
 unfolding hostSteps streams bytesSentBy
@@ -92,7 +96,7 @@ unfolding encode
 some-bytes [] = omega arith
 some-bytes (entry ∷ later) = omega (arith, some-bytes later, length-append (entryBytes entry) (encode later))
 
-next-sends : 0 < length (bytesOf (hostStep 0x53 afterThree .transmission))
+next-sends : 0 < length (bytesOf (hostStep (code "S") afterThree .transmission))
 unfolding hostSteps block
 next-sends = some-bytes _
 
@@ -100,7 +104,7 @@ no-room : Line3 (length longestRoom) (byteSteps ourRules manyFields twice)
 unfolding streams
 no-room = record {
   before = firstThree;
-  next = hostStep 0x53 afterThree;
+  next = hostStep (code "S") afterThree;
   later = [];
   are = refl;
   fit = omega (arith, first-sent, room-long);

@@ -1,8 +1,9 @@
--- Demand 3 catches tags that are not set, messages in another order, and a host that finds blocks another way.
+-- Demand 3 catches tags that are not set, transmissions in another order, and a host that finds blocks another way.
 use mathlib.Core.Path.{_≡_, refl, sym, ap, _∙_}
 use mathlib.Core.Bool.{true, false}
 use mathlib.Core.List.{List, [], _∷_, _++_, map, reverse}
 use Prim.Native.Nat.{ℕ}
+use Prim.Native.Char.{Char, code}
 use native.Mathlib.Omega.{arith}
 use borrow.Author.Tests.{eqb-false, eq-eqb}
 use lib.ListN.{length, take, getD, replicate}
@@ -15,6 +16,7 @@ use Rattle.terminal.specs.Runs.{stepsOf, bytesSentBy}
 use Rattle.terminal.specs.Answers.{Outcome, bytesSent}
 use Rattle.terminal.specs.Calls.{hostCall}
 use Rattle.terminal.proofs.Cases.{host-did}
+use Rattle.words.specs.Text.{bytes}
 use Rattle.promises.specs.Rules.{ourRules, Input, byte, press}
 use Rattle.promises.specs.Entries.{Entries, ourEntries, Call, read, keyPress, outcomeOf, inputsOf, inputsDone}
 use Rattle.promises.specs.Copying.{HostStoresNothing, blockIn, blocksSent, standings, copies, OmitsExactly, storedSince, OmissionHolds}
@@ -32,7 +34,7 @@ abbrev room : List ℕ
 room = replicate 10 0
 
 abbrev start : Terminal
-start = before 0x42 clear
+start = before "B" clear
 
 abbrev keyCalls : ℕ → List Call
 keyCalls character = keyPress 267 room ∷ keyPress character [] ∷ keyPress 266 room ∷ []
@@ -41,10 +43,10 @@ keyCalls character = keyPress 267 room ∷ keyPress character [] ∷ keyPress 26
 abbrev sending : Transmission → Terminal → ℕ → Outcome
 sending transmission t key = keyCallBy (λ _ _. sends transmission (t .state) (t .page)) t key room
 
-full-sent : sending (fullBlock firstBlock) start 267 ≡ sending (fullBlock (fieldBlock 0x42)) start 267
-full-sent = ap (λ (bytes : List ℕ). sending (fullBlock bytes) start 267) (full-block-is 0x42)
+full-sent : sending (fullBlock firstBlock) start 267 ≡ sending (fullBlock (fieldBlock "B")) start 267
+full-sent = ap (λ (bytes : List ℕ). sending (fullBlock bytes) start 267) (full-block-is "B")
 
-changed-sent : (second : ℕ) → sending (changedBlock (block false 80 (sheet (texts second) clear))) (after second clear) 266 ≡ sending (changedBlock emptyBlock) (after second clear) 266
+changed-sent : (second : Char) → sending (changedBlock (block false 80 (sheet (texts second) clear))) (after second clear) 266 ≡ sending (changedBlock emptyBlock) (after second clear) 266
 changed-sent second = ap (λ (bytes : List ℕ). sending (changedBlock bytes) (after second clear) 266) (untagged-block second)
 
 -- A key call given 0 did its key.
@@ -68,16 +70,16 @@ keys-done entries character {full} {typed} {changed} sends types sends-again don
 pub neverTags-breaks-copying : Copying blocksIn neverTags (keysBy neverTags) → ⊥
 unfolding keySteps calls streams HostStoresNothing blockIn blocksSent standings copies
 neverTags-breaks-copying kept =
-    let did = keys-done (keysBy neverTags) 0x58 full-sent refl (changed-sent 0x58) refl refl refl in
-    copy-is-stale (untagged-block 0x58) (second-copy (kept start (keyCalls 0x58) [] (press 267) typeX firstBlock did refl tt .copy))
+    let did = keys-done (keysBy neverTags) (code "X") full-sent refl (changed-sent "X") refl refl refl in
+    copy-is-stale (untagged-block "X") (second-copy (kept start (keyCalls (code "X")) [] (press 267) typeX firstBlock did refl tt .copy))
 
 -- B is typed where B stands, and not tagged: the copy is right, and the changed block omits what was stored.
 pub tagsOnlyChanges-breaks-copying : Copying blocksIn tagsOnlyChanges (keysBy tagsOnlyChanges) → ⊥
 unfolding blockBytes keySteps calls streams HostStoresNothing OmissionHolds OmitsExactly storedSince
 tagsOnlyChanges-breaks-copying kept =
-    let did = keys-done (keysBy tagsOnlyChanges) 0x42 full-sent refl (changed-sent 0x42) refl refl refl in
-    wrongly-omitted clear (block false 80 (sheet (texts 0x42) clear)) (field-listed clear refl refl) (untagged-block 0x42)
-    (kept start (keyCalls 0x42) [] (press 267) typeB firstBlock did refl tt .omission .1 .0)
+    let did = keys-done (keysBy tagsOnlyChanges) (code "B") full-sent refl (changed-sent "B") refl refl refl in
+    wrongly-omitted clear (block false 80 (sheet (texts "B") clear)) (field-listed clear refl refl) (untagged-block "B")
+    (kept start (keyCalls (code "B")) [] (press 267) typeB firstBlock did refl tt .omission .1 .0)
 
 -- The first of some blocks.
 firstOf : List (List ℕ) → List ℕ
@@ -86,65 +88,65 @@ firstOf (first ∷ later) = first
 
 -- ESC S, X, ESC S: two blocks, the first with B, the second with X.
 abbrev sendTwice : List ℕ
-sendTwice = 0x1B ∷ 0x53 ∷ 0x58 ∷ 0x1B ∷ 0x53 ∷ []
+sendTwice = bytes "\u{1b}SX\u{1b}S"
 
 abbrev twoRooms : List ℕ
 twoRooms = replicate 20 0
 
-steps-send : bytesSentBy (stepsOf start sendTwice) ≡ fieldBlock 0x42 ++ fieldBlock 0x58
+steps-send : bytesSentBy (stepsOf start sendTwice) ≡ fieldBlock "B" ++ fieldBlock "X"
 unfolding hostSteps stepsOf bytesSentBy
-steps-send = λ i. full-block-is 0x42 i ++ (full-block-is 0x58 i ++ [])
+steps-send = λ i. full-block-is "B" i ++ (full-block-is "X" i ++ [])
 
 -- Sent backwards, the one with X comes first.
-sent-backwards : sendsBackwards .host start sendTwice twoRooms ≡ record { number = 0; taken = 5; sent = 20; stored = 1; terminal = after 0x58 clear; output = fieldBlock 0x58 ++ fieldBlock 0x42 }
+sent-backwards : sendsBackwards .host start sendTwice twoRooms ≡ record { number = 0; taken = 5; sent = 20; stored = 1; terminal = after "X" clear; output = fieldBlock "X" ++ fieldBlock "B" }
 unfolding hostSteps calls
 sent-backwards =
     ap (λ (o : Outcome). showing (placed 0 (bytesSentBy (reverse (stepsOf start (take (o .taken) sendTwice)))) twoRooms) o) (host-did start sendTwice twoRooms B-valid (omega arith) (omega (arith, ap length steps-send)))
-    ∙ (λ i. record { number = 0; taken = 5; sent = length (steps-send i); stored = 1; terminal = after 0x58 clear; output = placed 0 (full-block-is 0x58 i ++ (full-block-is 0x42 i ++ [])) twoRooms })
+    ∙ (λ i. record { number = 0; taken = 5; sent = length (steps-send i); stored = 1; terminal = after "X" clear; output = placed 0 (full-block-is "X" i ++ (full-block-is "B" i ++ [])) twoRooms })
 
 pub sendsBackwards-breaks-copying : Copying blocksIn ourRules sendsBackwards → ⊥
 unfolding hostSteps calls streams finding HostStoresNothing blockIn blocksSent firstOf
 sendsBackwards-breaks-copying kept =
     let did = inputs-in-front sendsBackwards start (read sendTwice twoRooms) [] sent-backwards in
-    let holds = kept start (read sendTwice twoRooms ∷ []) (map byte (0x1B ∷ 0x53 ∷ 0x58 ∷ 0x1B ∷ [])) (byte 0x53) [] (block true 80 (sheet (texts 0x58) clear)) did refl tt in
-    eqb-false 0x58 0x42 refl
+    let holds = kept start (read sendTwice twoRooms ∷ []) (map byte (bytes "\u{1b}SX\u{1b}")) (byte (code "S")) [] (block true 80 (sheet (texts "X") clear)) did refl tt in
+    eqb-false (code "X") (code "B") refl
     (sym (ap (λ (o : Outcome). getD (firstOf (blocksIn (bytesSent o ++ []))) 7 0) sent-backwards)
     ∙ ap (λ (blocks : List (List ℕ)). getD (firstOf blocks) 7 0) (holds .found)
-    ∙ ap (λ (bytes : List ℕ). getD bytes 7 0) (full-block-is 0x42))
+    ∙ ap (λ (bytes : List ℕ). getD bytes 7 0) (full-block-is "B"))
 
 -- ESC [ 6 n, ESC S: a report, ESC [ 1 ; 2 R, and a block. The sixth byte of the report is R, that of the block f.
 abbrev askAndSend : List ℕ
-askAndSend = 0x1B ∷ 0x5B ∷ 0x36 ∷ 0x6E ∷ 0x1B ∷ 0x53 ∷ []
+askAndSend = bytes "\u{1b}[6n\u{1b}S"
 
 abbrev bothRooms : List ℕ
 bothRooms = replicate 16 0
 
 abbrev reportBytes : List ℕ
-reportBytes = 0x1B ∷ 0x5B ∷ 0x31 ∷ 0x3B ∷ 0x32 ∷ 0x52 ∷ []
+reportBytes = bytes "\u{1b}[1;2R"
 
-both-send : bytesSentBy (stepsOf start askAndSend) ≡ reportBytes ++ fieldBlock 0x42
+both-send : bytesSentBy (stepsOf start askAndSend) ≡ reportBytes ++ fieldBlock "B"
 unfolding hostSteps stepsOf bytesSentBy
-both-send = λ i. reportBytes ++ (full-block-is 0x42 i ++ [])
+both-send = λ i. reportBytes ++ (full-block-is "B" i ++ [])
 
-both-sent : hostCall start askAndSend bothRooms ≡ record { number = 0; taken = 6; sent = 16; stored = 0; terminal = start; output = reportBytes ++ fieldBlock 0x42 }
+both-sent : hostCall start askAndSend bothRooms ≡ record { number = 0; taken = 6; sent = 16; stored = 0; terminal = start; output = reportBytes ++ fieldBlock "B" }
 unfolding hostSteps calls
 both-sent =
     host-did start askAndSend bothRooms B-valid (omega arith) (omega (arith, ap length both-send))
     ∙ (λ i. record { number = 0; taken = 6; sent = length (both-send i); stored = 0; terminal = start; output = placed 0 (both-send i) bothRooms })
 
 -- So a host that finds blocks another way finds, or does not find, this block alone.
-found-alone : (finds : List ℕ → List (List ℕ)) → Copying finds ourRules ourEntries → (later : List (List ℕ)) × (finds (reportBytes ++ fieldBlock 0x42) ≡ firstBlock ∷ later)
+found-alone : (finds : List ℕ → List (List ℕ)) → Copying finds ourRules ourEntries → (later : List (List ℕ)) × (finds (reportBytes ++ fieldBlock "B") ≡ firstBlock ∷ later)
 unfolding hostSteps calls streams HostStoresNothing blockIn blocksSent
 found-alone finds kept =
     let did = inputs-in-front ourEntries start (read askAndSend bothRooms) [] both-sent in
-    let holds = kept start (read askAndSend bothRooms ∷ []) (map byte (0x1B ∷ 0x5B ∷ 0x36 ∷ 0x6E ∷ 0x1B ∷ [])) (byte 0x53) [] firstBlock did refl tt in
+    let holds = kept start (read askAndSend bothRooms ∷ []) (map byte (bytes "\u{1b}[6n\u{1b}")) (byte (code "S")) [] firstBlock did refl tt in
     ([], sym (ap (λ (o : Outcome). finds (bytesSent o ++ [])) both-sent) ∙ holds .found)
 
 pub by03Alone-breaks-copying : Copying by03Alone ourRules ourEntries → ⊥
 unfolding tests upTo03 firstOf
 by03Alone-breaks-copying kept =
     let found = found-alone by03Alone kept in
-    eqb-false 0x52 0x66 refl (ap (λ (blocks : List (List ℕ)). getD (firstOf blocks) 5 0) (found .1) ∙ ap (λ (bytes : List ℕ). getD bytes 5 0) (full-block-is 0x42))
+    eqb-false (code "R") (code "f") refl (ap (λ (blocks : List (List ℕ)). getD (firstOf blocks) 5 0) (found .1) ∙ ap (λ (bytes : List ℕ). getD bytes 5 0) (full-block-is "B"))
 
 pub findsNone-breaks-copying : Copying findsNone ourRules ourEntries → ⊥
 findsNone-breaks-copying kept = let found = found-alone findsNone kept in absurd (omega (arith, ap (length {A = List ℕ}) (found .1)))

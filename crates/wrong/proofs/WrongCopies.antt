@@ -3,6 +3,7 @@ use mathlib.Core.Path.{_≡_, refl, sym, ap, _∙_, subst}
 use mathlib.Core.Bool.{true, false}
 use mathlib.Core.List.{List, [], _∷_, _++_, map, List·Memᴰ, List·Memᴰ·head, List·Memᴰ·not-nil}
 use Prim.Native.Nat.{ℕ}
+use Prim.Native.Char.{Char, code}
 use native.Mathlib.Omega.{arith}
 use borrow.Author.Tests.{eqb-false}
 use lib.ListN.{length, getD, replicate}
@@ -14,6 +15,7 @@ use Rattle.blocks.specs.Decode.{decode}
 use Rattle.blocks.specs.Lay.{lay}
 use Rattle.steps.specs.Steps.{Terminal, changedBlock, Valid}
 use Rattle.steps.specs.Seen.{fieldsHere}
+use Rattle.words.specs.Text.{bytes}
 use Rattle.promises.specs.Rules.{Input, press}
 use Rattle.promises.specs.Copying.{HostStoresNothing, blockIn, blocksSent, standings, copies, OmitsExactly, storedSince, OmissionHolds}
 use Rattle.promises.specs.Further.{CopyingSteps, OmissionSteps}
@@ -22,8 +24,8 @@ use Rattle.promises.proofs.Sheets.{sheet, at, sheet-fields, sheet-block}
 use Rattle.promises.proofs.Computing.{validity, blockBytes, laying, keySteps, streams}
 
 -- A field of three cells: A, some second character, C. Its marks: no tag, a tag on the first cell, one on the second.
-abbrev pub texts : ℕ → List ℕ
-texts second = 0x41 ∷ second ∷ 0x43 ∷ 0x20 ∷ 0x20 ∷ []
+abbrev pub texts : Char → List ℕ
+texts second = code "A" ∷ code second ∷ bytes "C  "
 
 abbrev pub clear : List ℕ
 clear = 0 ∷ 0 ∷ 0 ∷ 1 ∷ 1 ∷ []
@@ -35,47 +37,47 @@ abbrev secondTagged : List ℕ
 secondTagged = 0 ∷ 2 ∷ 0 ∷ 1 ∷ 1 ∷ []
 
 -- The cursor is on the second cell, and after a typed character on the third.
-abbrev pub before : ℕ → List ℕ → Terminal
+abbrev pub before : Char → List ℕ → Terminal
 before second marks = at 2 (sheet (texts second) marks)
 
-abbrev pub after : ℕ → List ℕ → Terminal
+abbrev pub after : Char → List ℕ → Terminal
 after second marks = at 3 (sheet (texts second) marks)
 
-pub B-valid : Valid (before 0x42 clear)
+pub B-valid : Valid (before "B" clear)
 unfolding validity
 B-valid = record { size = refl; state = refl; page = refl }
 
 -- ESC [ 1 ; 1 f, the three characters, 03; and 03 alone.
-abbrev pub fieldBlock : ℕ → List ℕ
-fieldBlock second = 0x1B ∷ 0x5B ∷ 0x31 ∷ 0x3B ∷ 0x31 ∷ 0x66 ∷ 0x41 ∷ second ∷ 0x43 ∷ 0x03 ∷ []
+abbrev pub fieldBlock : Char → List ℕ
+fieldBlock second = bytes "\u{1b}[1;1fA" ++ (code second ∷ bytes "C\u{3}")
 
 abbrev pub emptyBlock : List ℕ
-emptyBlock = 0x03 ∷ []
+emptyBlock = bytes "\u{3}"
 
 abbrev pub firstBlock : List ℕ
-firstBlock = block true 80 (sheet (texts 0x42) clear)
+firstBlock = block true 80 (sheet (texts "B") clear)
 
-pub full-block-is : (second : ℕ) → block true 80 (sheet (texts second) clear) ≡ fieldBlock second
+pub full-block-is : (second : Char) → block true 80 (sheet (texts second) clear) ≡ fieldBlock second
 unfolding blockBytes
 full-block-is second = sheet-block clear refl true (texts second) ∙ refl
 
 -- With a tag on the second cell only, the block by first cells is empty; and with none so is a changed block.
-by-first-cells : (second : ℕ) → firstCellBlock (after second secondTagged) ≡ emptyBlock
+by-first-cells : (second : Char) → firstCellBlock (after second secondTagged) ≡ emptyBlock
 unfolding firstCellBlock blockBytes
 by-first-cells second =
     ap (λ (fields : List Field). encode (map (entryOf 80 (after second secondTagged .page .characters)) (selected (λ (field : Field). isModified (getD (after second secondTagged .page .marks) (field .start) 0)) fields)))
     (sheet-fields secondTagged refl)
     ∙ refl
 
-pub untagged-block : (second : ℕ) → block false 80 (sheet (texts second) clear) ≡ emptyBlock
+pub untagged-block : (second : Char) → block false 80 (sheet (texts second) clear) ≡ emptyBlock
 unfolding blockBytes
 untagged-block second = sheet-block clear refl false (texts second) ∙ refl
 
 -- The copy. After a full block with B, X is typed and a changed block sent. If that has no field, the copy has B still.
-pub copy-is-stale : {changed : List ℕ} → changed ≡ emptyBlock → lay changed firstBlock ≡ block true 80 (sheet (texts 0x58) clear) → ⊥
+pub copy-is-stale : {changed : List ℕ} → changed ≡ emptyBlock → lay changed firstBlock ≡ block true 80 (sheet (texts "X") clear) → ⊥
 unfolding laying
 copy-is-stale empty right =
-    eqb-false 0x42 0x58 refl (ap (λ (bytes : List ℕ). getD bytes 7 0) (sym (λ i. lay (empty i) (full-block-is 0x42 i)) ∙ right ∙ full-block-is 0x58))
+    eqb-false (code "B") (code "X") refl (ap (λ (bytes : List ℕ). getD bytes 7 0) (sym (λ i. lay (empty i) (full-block-is "B" i)) ∙ right ∙ full-block-is "X"))
 
 -- Of two lists of copies that are the same, the second ones.
 pub second-copy : {a b c d : List ℕ} → a ∷ b ∷ [] ≡ c ∷ d ∷ [] → b ≡ d
@@ -87,22 +89,22 @@ second-copy same = ap copyAfter same
     copyAfter (first ∷ second ∷ later) = second
 
 abbrev pub typeX : List Input
-typeX = press 0x58 ∷ press 266 ∷ []
+typeX = press (code "X") ∷ press 266 ∷ []
 
 pub looksAtFirstCells-breaks-copying-steps : CopyingSteps looksAtFirstCells → ⊥
 unfolding keySteps streams HostStoresNothing blockIn blocksSent standings copies
 looksAtFirstCells-breaks-copying-steps kept =
-    copy-is-stale (by-first-cells 0x58) (second-copy (kept (before 0x42 clear) B-valid (press 267) firstBlock refl typeX tt))
+    copy-is-stale (by-first-cells "X") (second-copy (kept (before "B" clear) B-valid (press 267) firstBlock refl typeX tt))
 
 pub feignsChangedBlocks-breaks-copying-steps : CopyingSteps feignsChangedBlocks → ⊥
 unfolding keySteps streams HostStoresNothing blockIn blocksSent standings copies
 feignsChangedBlocks-breaks-copying-steps kept =
-    copy-is-stale refl (second-copy (kept (before 0x42 clear) B-valid (press 267) firstBlock refl typeX tt))
+    copy-is-stale refl (second-copy (kept (before "B" clear) B-valid (press 267) firstBlock refl typeX tt))
 
 pub neverTags-breaks-copying-steps : CopyingSteps neverTags → ⊥
 unfolding keySteps streams HostStoresNothing blockIn blocksSent standings copies
 neverTags-breaks-copying-steps kept =
-    copy-is-stale (untagged-block 0x58) (second-copy (kept (before 0x42 clear) B-valid (press 267) firstBlock refl typeX tt))
+    copy-is-stale (untagged-block "X") (second-copy (kept (before "B" clear) B-valid (press 267) firstBlock refl typeX tt))
 
 -- Omission. The field; and a changed block that omits it, though its second cell was stored.
 abbrev threeCells : Field
@@ -111,7 +113,7 @@ threeCells = record { start = 0; length = 3 }
 pub field-listed : (marks : List ℕ) → length marks ≡ 5 → fieldsFrom (unprotected (marks ++ replicate 1915 1)) 80 1920 0 5 ≡ threeCells ∷ [] → List·Memᴰ threeCells (fieldsOf (unprotected (marks ++ replicate 1915 1)) 80 (length (marks ++ replicate 1915 1)))
 field-listed marks five is = subst (List·Memᴰ threeCells) (sym (sheet-fields marks five ∙ is)) (List·Memᴰ·head refl)
 
-pub wrongly-omitted : (marks changed : List ℕ) → List·Memᴰ threeCells (fieldsHere (after 0x42 marks)) → changed ≡ emptyBlock → OmitsExactly (changedBlock changed) (after 0x42 marks) (1 ∷ []) → ⊥
+pub wrongly-omitted : (marks changed : List ℕ) → List·Memᴰ threeCells (fieldsHere (after "B" marks)) → changed ≡ emptyBlock → OmitsExactly (changedBlock changed) (after "B" marks) (1 ∷ []) → ⊥
 unfolding laying OmitsExactly
 wrongly-omitted marks changed listed empty exactly =
     let none : decode changed ≡ [] = ap decode empty in
@@ -120,37 +122,37 @@ wrongly-omitted marks changed listed empty exactly =
 
 -- B is typed where B stands.
 abbrev pub typeB : List Input
-typeB = press 0x42 ∷ press 266 ∷ []
+typeB = press (code "B") ∷ press 266 ∷ []
 
 pub looksAtFirstCells-breaks-omission-steps : OmissionSteps looksAtFirstCells → ⊥
 unfolding blockBytes keySteps streams HostStoresNothing OmissionHolds OmitsExactly storedSince
 looksAtFirstCells-breaks-omission-steps kept =
-    wrongly-omitted secondTagged (firstCellBlock (after 0x42 secondTagged)) (field-listed secondTagged refl refl) (by-first-cells 0x42)
-    (kept (before 0x42 clear) B-valid (press 267) firstBlock refl typeB tt .1 .0)
+    wrongly-omitted secondTagged (firstCellBlock (after "B" secondTagged)) (field-listed secondTagged refl refl) (by-first-cells "B")
+    (kept (before "B" clear) B-valid (press 267) firstBlock refl typeB tt .1 .0)
 
 pub tagsOnlyChanges-breaks-omission-steps : OmissionSteps tagsOnlyChanges → ⊥
 unfolding blockBytes keySteps streams HostStoresNothing OmissionHolds OmitsExactly storedSince
 tagsOnlyChanges-breaks-omission-steps kept =
-    wrongly-omitted clear (block false 80 (sheet (texts 0x42) clear)) (field-listed clear refl refl) (untagged-block 0x42)
-    (kept (before 0x42 clear) B-valid (press 267) firstBlock refl typeB tt .1 .0)
+    wrongly-omitted clear (block false 80 (sheet (texts "B") clear)) (field-listed clear refl refl) (untagged-block "B")
+    (kept (before "B" clear) B-valid (press 267) firstBlock refl typeB tt .1 .0)
 
 -- Where the first cell is modified before the full block, a changed block right after it is to have no field.
-first-tagged-block : block false 80 (sheet (texts 0x42) firstTagged) ≡ fieldBlock 0x42
+first-tagged-block : block false 80 (sheet (texts "B") firstTagged) ≡ fieldBlock "B"
 unfolding blockBytes
-first-tagged-block = sheet-block firstTagged refl false (texts 0x42) ∙ refl
+first-tagged-block = sheet-block firstTagged refl false (texts "B") ∙ refl
 
-first-tagged-valid : Valid (before 0x42 firstTagged)
+first-tagged-valid : Valid (before "B" firstTagged)
 unfolding validity
 first-tagged-valid = record { size = refl; state = refl; page = refl }
 
-wrongly-sent : OmitsExactly (changedBlock (block false 80 (sheet (texts 0x42) firstTagged))) (before 0x42 firstTagged) [] → ⊥
+wrongly-sent : OmitsExactly (changedBlock (block false 80 (sheet (texts "B") firstTagged))) (before "B" firstTagged) [] → ⊥
 unfolding blockBytes laying OmitsExactly
 wrongly-sent exactly =
     let omitted = exactly threeCells (field-listed firstTagged refl refl) .1 (record { no-cell = λ cell low high among. List·Memᴰ·not-nil among }) in
-    let entry : Entry = record { row = 1; column = 1; characters = 0x41 ∷ 0x42 ∷ 0x43 ∷ [] } in
+    let entry : Entry = record { row = 1; column = 1; characters = bytes "ABC" } in
     omitted .no-entry entry (subst (λ (bytes : List ℕ). List·Memᴰ entry (decode bytes)) (sym first-tagged-block) (List·Memᴰ·head refl)) refl refl
 
 pub keepsTags-breaks-omission-steps : OmissionSteps keepsTags → ⊥
 unfolding keySteps streams isBlock HostStoresNothing OmissionHolds OmitsExactly storedSince
 keepsTags-breaks-omission-steps kept =
-    wrongly-sent (kept (before 0x42 firstTagged) first-tagged-valid (press 267) (block true 80 (sheet (texts 0x42) firstTagged)) refl (press 266 ∷ []) tt .0)
+    wrongly-sent (kept (before "B" firstTagged) first-tagged-valid (press 267) (block true 80 (sheet (texts "B") firstTagged)) refl (press 266 ∷ []) tt .0)

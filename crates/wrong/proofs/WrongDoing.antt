@@ -2,6 +2,7 @@
 use mathlib.Core.Path.{refl, ap}
 use mathlib.Core.List.{List, []}
 use Prim.Native.Nat.{ℕ}
+use Prim.Native.Char.{code}
 use borrow.Author.Tests.{eqb-false}
 use lib.ListN.{getD, replicate}
 use Rattle.page.specs.Page.{Page, pageOf}
@@ -36,15 +37,15 @@ startsOtherSize-breaks-follows kept =
 
 -- B typed where B stands is one cell stored, and so is an X there.
 abbrev onB : Terminal
-onB = before 0x42 clear
+onB = before "B" clear
 
 pub skipsSameCharacter-breaks-follows : Follows ourRules skipsSameCharacter → ⊥
 unfolding calls keySteps
-skipsSameCharacter-breaks-follows kept = eqb-false 0 1 refl (kept .of-key onB 0x42 [] refl .stored)
+skipsSameCharacter-breaks-follows kept = eqb-false 0 1 refl (kept .of-key onB (code "B") [] refl .stored)
 
 pub deadKeys-breaks-follows : Follows ourRules deadKeys → ⊥
 unfolding calls keySteps
-deadKeys-breaks-follows kept = eqb-false 0 1 refl (kept .of-key onB 0x58 [] refl .stored)
+deadKeys-breaks-follows kept = eqb-false 0 1 refl (kept .of-key onB (code "X") [] refl .stored)
 
 -- Of no host bytes none is taken, and an output to which nothing is sent stays as it was.
 pub takesMore-breaks-follows : Follows ourRules takesMore → ⊥

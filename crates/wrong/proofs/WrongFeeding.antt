@@ -2,6 +2,7 @@
 use mathlib.Core.Path.{refl, ap}
 use mathlib.Core.List.{List, [], _∷_}
 use Prim.Native.Nat.{ℕ}
+use Prim.Native.Char.{code}
 use borrow.Author.Tests.{eqb-false}
 use lib.ListN.{replicate}
 use Rattle.steps.specs.Steps.{Terminal, fullBlock}
@@ -25,25 +26,25 @@ receives = record { valid = record { size = refl; state = refl; page = refl }; s
 
 -- What 267 sends at the sender is fed in one read with no room.
 abbrev sent : List ℕ
-sent = fullBytes 0x41 0x43
+sent = fullBytes "A" "C"
 
 abbrev oneRead : List Read
 oneRead = record { bytes = sent; output = [] } ∷ []
 
 fed : (entries : Entries) → FeedingBack ourRules entries → FedBack ourRules entries start receiver sent oneRead
 unfolding streams keySteps
-fed entries kept = kept start receiver (press 267) sent oneRead start-valid (ap fullBlock (full-noTag 0x41 0x43)) receives refl
+fed entries kept = kept start receiver (press 267) sent oneRead start-valid (ap fullBlock (full-noTag "A" "C")) receives refl
 
 -- Then the first cell has the sender's A, and not the receiver's 20.
 pub storesNoText-breaks-feeding-back : FeedingBack ourRules storesNoText → ⊥
 unfolding streams keySteps
 storesNoText-breaks-feeding-back kept =
-    eqb-false 0x20 0x41 refl (fed storesNoText kept .characters 0 refl)
+    eqb-false (code " ") (code "A") refl (fed storesNoText kept .characters 0 refl)
 
 pub fixedAnswer-breaks-feeding-back : FeedingBack ourRules fixedAnswer → ⊥
 unfolding streams calls keySteps
 fixedAnswer-breaks-feeding-back kept =
-    eqb-false 0x20 0x41 refl (fed fixedAnswer kept .characters 0 refl)
+    eqb-false (code " ") (code "A") refl (fed fixedAnswer kept .characters 0 refl)
 
 -- And the read is given 0, and not 6.
 pub refusesLongReads-breaks-feeding-back : FeedingBack ourRules refusesLongReads → ⊥

@@ -1,8 +1,10 @@
--- Keys that change protected cells are caught by demand 2; blocks that clear too much or too little, by what a block leaves.
+-- Keys that change protected cells are caught by demand 2; blocks that clear too much or too little, by what a block
+-- leaves.
 use mathlib.Core.Path.{refl}
 use mathlib.Core.Bool.{true}
 use mathlib.Core.List.{[], _∷_}
 use Prim.Native.Nat.{ℕ}
+use Prim.Native.Char.{code}
 use borrow.Author.Tests.{eqb-false}
 use lib.ListN.{replicate}
 use Rattle.words.proofs.Choosing.{true-is-not-false}
@@ -10,6 +12,7 @@ use Rattle.sequence.specs.Record.{escRead}
 use Rattle.blocks.specs.Blocks.{block}
 use Rattle.state.specs.State.{withHalf}
 use Rattle.steps.specs.Steps.{Terminal, withState, Valid}
+use Rattle.words.specs.Text.{bytes}
 use Rattle.promises.specs.Rules.{byte, press}
 use Rattle.promises.specs.Demands.{KeysKeep}
 use Rattle.promises.specs.Further.{BlocksKeep}
@@ -20,19 +23,19 @@ use Rattle.promises.proofs.Computing.{validity, hostSteps, keySteps, calls, str
 
 -- A field of one cell, and after it a protected B.
 abbrev fieldAndLabel : ℕ → Terminal
-fieldAndLabel column = at column (sheet (0x41 ∷ 0x42 ∷ 0x20 ∷ 0x20 ∷ 0x20 ∷ []) (0 ∷ 1 ∷ 1 ∷ 1 ∷ 1 ∷ []))
+fieldAndLabel column = at column (sheet (bytes "AB   ") (0 ∷ 1 ∷ 1 ∷ 1 ∷ 1 ∷ []))
 
 -- 263 in the field blanks the B.
 pub blanksRow-breaks-keys-keep : KeysKeep blanksRow → ⊥
 unfolding calls keySteps
 blanksRow-breaks-keys-keep kept =
-    eqb-false 0x20 0x42 refl (kept .protected-cells (fieldAndLabel 1) 263 [] 1 refl .character)
+    eqb-false (code " ") (code "B") refl (kept .protected-cells (fieldAndLabel 1) 263 [] 1 refl .character)
 
 -- X typed with the cursor on the B.
 pub typesOnProtected-breaks-keys-keep : KeysKeep typesOnProtected → ⊥
 unfolding calls keySteps
 typesOnProtected-breaks-keys-keep kept =
-    eqb-false 0x58 0x42 refl (kept .protected-cells (fieldAndLabel 2) 0x58 [] 1 refl .character)
+    eqb-false (code "X") (code "B") refl (kept .protected-cells (fieldAndLabel 2) (code "X") [] 1 refl .character)
 
 -- The first cell is protected and modified.
 abbrev taggedLabel : Terminal
@@ -52,7 +55,7 @@ pub unprotectsFirst-breaks-blocks-keep : BlocksKeep unprotectsFirst → ⊥
 unfolding validity hostSteps keySteps streams isBlock
 unprotectsFirst-breaks-blocks-keep kept =
     let valid : Valid afterEscape = record { size = refl; state = refl; page = refl } in
-    eqb-false 0 3 refl (kept afterEscape valid (byte 0x53) true (block true 80 (afterEscape .page)) refl .protected-cells 0 refl .mark)
+    eqb-false 0 3 refl (kept afterEscape valid (byte (code "S")) true (block true 80 (afterEscape .page)) refl .protected-cells 0 refl .mark)
 
 -- A field of one cell that is modified, and is so still after 267.
 abbrev taggedField : Terminal

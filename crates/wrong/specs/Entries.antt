@@ -2,12 +2,14 @@
 use mathlib.Core.Bool.{Bool, false}
 use mathlib.Core.List.{List, [], _∷_, reverse}
 use Prim.Native.Nat.{ℕ, _+_}
+use Prim.Native.Char.{code}
 use lib.Dec.{ltb, eqb}
 use lib.ListN.{length, take, getD, set, replicate}
 use Rattle.words.specs.Choice.{if_then_else_, _and_, _or_}
 use Rattle.words.specs.Output.{placed}
 use Rattle.sequence.specs.Record.{nothingRead}
 use Rattle.page.specs.Page.{Page, pageOf, typed, blanked, partStored, modifiedCleared}
+use Rattle.state.specs.declared.Locks.{Locks}
 use Rattle.state.specs.declared.Size.{Size}
 use Rattle.state.specs.State.{withCursor, cursorAt, withLocks, withHalf}
 use Rattle.steps.specs.Steps.{Terminal, Stepped, withState, stores, cursorCell, rowStart}
@@ -99,7 +101,7 @@ losesSequenceOn3 = changingHost (on3 withoutHalfRead)
 
 -- Demand 2, what a call given 0 did. A start leaves an X on the page, a locked keyboard (ESC `) and invented counts.
 abbrev paintedOver : Terminal → Terminal
-paintedOver t = hostStep 0x60 (hostStep 0x1B (hostStep 0x58 t .terminal) .terminal) .terminal
+paintedOver t = hostStep (code "`") (hostStep 0x1B (hostStep (code "X") t .terminal) .terminal) .terminal
 
 abbrev inventing : Outcome → Outcome
 inventing o = outcomeWith (o .number) 9 9 0 (paintedOver (o .terminal)) (o .output)
@@ -198,7 +200,8 @@ abbrev pub setsMessage2 : Entries
 setsMessage2 = withKey (λ t key output.
     let outcome = keyCall t key output in
     let s = outcome .terminal .state in
-    leaving (withState (outcome .terminal) (withLocks s (record { manual = s .locks .manual; soft = s .locks .soft; message = 2 }))) outcome)
+    let locks : Locks = record { manual = s .locks .manual; soft = s .locks .soft; message = 2 } in
+    leaving (withState (outcome .terminal) (withLocks s locks)) outcome)
 
 -- Continuing. A call given 3 tells of no cells stored, though commands before it were done.
 abbrev pub forgetsCountOn3 : Entries

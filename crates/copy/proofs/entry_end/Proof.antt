@@ -2,7 +2,7 @@ use mathlib.Core.Path.{_≡_, refl}
 use Prim.Native.Nat.{_+_, _-_, _≤_}
 use borrow.Author.Needs.{needs}
 use lib.ListN.{length, drop}
-use Rattle.copy.specs.Laying.{plainLength, entryEnd}
+use Rattle.copy.specs.Copy.{plainLength, entryEnd}
 use Rattle.copy.proofs.Finding.{ends-here, goes-on, ends-with-bytes}
 use Rattle.copy.proofs.entry_end.Statement.{statement}
 use Rattle.copy.proofs.entry_end.Tie as tie

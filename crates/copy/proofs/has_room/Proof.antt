@@ -3,7 +3,7 @@ use Prim.Native.Nat.{_+_, _-_}
 use native.Mathlib.Omega.{arith}
 use lib.ListN.{length, drop}
 use Rattle.blocks.specs.Lay.{lay}
-use Rattle.copy.specs.Laying.{IsBlock}
+use Rattle.copy.specs.Copy.{IsBlock}
 use Rattle.copy.proofs.Laws.{inside, nearer}
 use Rattle.copy.proofs.Passes.{part-exceeds, part-counted, all-counted}
 use Rattle.copy.proofs.has_room.Statement.{statement}

@@ -2,7 +2,7 @@ use mathlib.Core.Path.{sym, _∙_}
 use borrow.Author.Needs.{needs}
 use borrow.Author.Tests.{not-true, not-false, leb-true}
 use Rattle.words.proofs.Choosing.{then-case, else-case}
-use Rattle.copy.specs.Laying.{laying}
+use Rattle.copy.specs.Copy.{laying}
 use Rattle.copy.specs.declared.Laid.the-variants.{Bytes}
 use Rattle.copy.proofs.Passes.{from-start}
 use Rattle.copy.proofs.lay.Statement.{statement}

@@ -2,7 +2,7 @@ use mathlib.Core.Path.{_≡_, refl, sym, _∙_}
 use Prim.Native.Nat.{_-_}
 use borrow.Author.Needs.{needs}
 use lib.ListN.{length, drop}
-use Rattle.copy.specs.Laying.{sameHead}
+use Rattle.copy.specs.Copy.{sameHead}
 use Rattle.copy.proofs.Finding.{differ-here, same-to-f, same-so-far, one-ended, other-ended}
 use Rattle.copy.proofs.same_head.Statement.{statement}
 use Rattle.copy.proofs.same_head.Tie as tie

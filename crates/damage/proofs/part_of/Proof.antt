@@ -12,7 +12,7 @@ part-of-spec =
     (λ c κs. search needs)
     (λ c. search needs)
     (λ c. search needs)
-    (λ c. rw (c .figures-of .ensures) (search tests))
+    (λ c. rw (c .first-parts .ensures) (search tests))
     (λ c. search needs)
     (λ c. search needs)
     (λ c. search needs)

@@ -3,7 +3,7 @@ use native.Mathlib.Omega.{arith}
 use borrow.Author.Needs.{needs}
 use lib.ListN.{length, length-append}
 use Rattle.words.proofs.Output.{wrote-then}
-use Rattle.numerals.specs.Figures.{fiveDigits}
+use Rattle.numerals.specs.Text.{fiveDigits}
 use Rattle.drawing.proofs.put_pair.Statement.{statement}
 use Rattle.drawing.proofs.put_pair.Tie as tie
 

@@ -16,14 +16,14 @@ put-hex-requires-2 c κs =
 put-byte-requires : tie.Need-put-byte-requires
 put-byte-requires c κs =
     let start = c .before .before .before .before .before .before .before .before .before .before .before .before in
-    omega (arith, c .before .before .before .before .before .before .before .put-hex .ensures .next-is, c .before .before .before .put-hex2 .ensures .next-is, hex-length (start .args .head .now), hex-length (start .args .transmission .now), start .pre)
+    omega (arith, c .before .before .before .before .before .before .before .put-hex .ensures .next-is, c .before .before .before .put-hex2 .ensures .next-is, hex-length (start .args .head .now), hex-length (start .args .sent .now), start .pre)
 
 returns : tie.Need-returns
 unfolding lineOf
 returns c =
     let start = c .before .before .before .before .before .before .before .before .before .before .before .before .before .before .before in
     let room : 0 ≤ length (start .args .text .now) = omega arith in
-    rw (hex-append (start .args .head .now) (start .args .transmission .now))
+    rw (hex-append (start .args .head .now) (start .args .sent .now))
     (wrote-then room (wrote-then room (c .before .before .before .before .before .before .before .before .before .before .put-hex .ensures) (c .before .before .before .before .before .before .put-hex2 .ensures)) (c .before .before .put-byte .ensures))
 
 pub put-line-spec : {M : Type 1} → statement M

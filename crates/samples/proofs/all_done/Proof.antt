@@ -2,7 +2,7 @@ use mathlib.Core.Path.{sym, _∙_}
 use borrow.Author.Needs.{needs}
 use borrow.Author.Tests.{not-true, not-false}
 use Rattle.words.proofs.Choosing.{first-decides, first-fails}
-use Rattle.samples.specs.Demands.{allAnswered}
+use Rattle.samples.specs.Samples.{allAnswered}
 use Rattle.samples.proofs.all_done.Statement.{statement}
 use Rattle.samples.proofs.all_done.Tie as tie
 

@@ -1,67 +1,131 @@
-use mathlib.Core.Path.{sym, _∙_}
+use mathlib.Core.Path.{_≡_, refl, sym, ap, _∙_}
+use mathlib.Core.Bool.{true, false, not}
+use mathlib.Core.List.{List}
 use borrow.Author.Needs.{needs}
 use borrow.Author.Tests.{not-true, not-false}
-use Rattle.terminal.proofs.Deciding.{is-valid, key-wrong-size, key-wrong-state, key-unknown, key-locked, key-no-cell}
+use lib.ListN.{drop}
+use Rattle.state.specs.Tests.{sizeFits}
+use Rattle.steps.specs.Steps.{Terminal, Valid, terminalOf}
+use Rattle.keys.specs.Keys.{isKnown, isLockedOut}
+use Rattle.terminal.specs.declared.Answer.{Answer}
+use Rattle.terminal.specs.declared.Answer.the-variants.{WrongSize, WrongState, UnknownKey, Locked, NoCell}
+use Rattle.terminal.specs.Answers.{changesNothing}
+use Rattle.terminal.specs.Tests.{LineTest, passesLine2, keyRefusals, keyLines}
+use Rattle.terminal.proofs.Firsts.{First, this, past}
+use Rattle.terminal.proofs.Deciding.{is-valid, key-refused}
 use Rattle.terminal.proofs.key.Statement.{statement}
 use Rattle.terminal.proofs.key.Tie as tie
 
+abbrev lent : tie.Start → Terminal
+lent start = terminalOf (start .args .state) (start .args .characters .now) (start .args .marks .now)
+
+abbrev lines : tie.Start → List LineTest
+lines start = keyLines (lent start) (start .args .key) (start .args .out .now)
+
+-- The tests that let the key pass, each with the start of the call and what it leaves to decide.
+abbrev start-1 : tie.Else1 → tie.Start
+start-1 c = c .before .before .before .before .before .before .before
+
+size-fits : (c : tie.Else1) → sizeFits (lent (start-1 c) .state .size) (lent (start-1 c) .page) ≡ true
+size-fits c = sym (c .before .fits2 .ensures) ∙ not-false _ (c .if1 .left)
+
+past-1 : (c : tie.Else1) {answer : Answer} → First (drop 1 (lines (start-1 c))) answer → First (lines (start-1 c)) answer
+unfolding keyLines keyRefusals
+past-1 c later = past (ap not (size-fits c)) later
+
+abbrev else-1 : tie.Else2 → tie.Else1
+else-1 c = c .before .before .before .before
+
+abbrev start-2 : tie.Else2 → tie.Start
+start-2 c = start-1 (else-1 c)
+
+valid : (c : tie.Else2) → passesLine2 (lent (start-2 c)) ≡ true
+valid c = sym (c .before .is-valid .ensures) ∙ not-false _ (c .if2 .left)
+
+past-2 : (c : tie.Else2) {answer : Answer} → First (drop 2 (lines (start-2 c))) answer → First (lines (start-2 c)) answer
+unfolding keyLines keyRefusals
+past-2 c later = past-1 (else-1 c) (past (ap not (valid c)) later)
+
+abbrev else-2 : tie.Else3 → tie.Else2
+else-2 c = c .before .before
+
+abbrev start-3 : tie.Else3 → tie.Start
+start-3 c = start-2 (else-2 c)
+
+known : (c : tie.Else3) → isKnown (start-3 c .args .key) ≡ true
+known c = sym (c .before .is-known .ensures) ∙ not-false _ (c .if3 .left)
+
+past-3 : (c : tie.Else3) {answer : Answer} → First (drop 3 (lines (start-3 c))) answer → First (lines (start-3 c)) answer
+unfolding keyLines keyRefusals
+past-3 c later = past-2 (else-2 c) (past (ap not (known c)) later)
+
+abbrev else-3 : tie.Else4 → tie.Else3
+else-3 c = c .before .before
+
+abbrev start-4 : tie.Else4 → tie.Start
+start-4 c = start-3 (else-3 c)
+
+not-locked-out : (c : tie.Else4) → isLockedOut (start-4 c .args .key) (start-4 c .args .state) ≡ false
+not-locked-out c = sym (c .before .is-locked-out .ensures) ∙ c .if4 .left
+
+past-4 : (c : tie.Else4) {answer : Answer} → First (drop 4 (lines (start-4 c))) answer → First (lines (start-4 c)) answer
+unfolding keyLines keyRefusals
+past-4 c later = past-3 (else-3 c) (past (not-locked-out c) later)
+
+abbrev else-4 : tie.Else5 → tie.Else4
+else-4 c = c .before .before .before .before
+
+-- So the first test that holds decides.
 returns : tie.Need-returns
-returns c = c .refuse-call .ensures _ _ ∙ sym (key-wrong-size _ _ _ (sym (c .before .before .fits2 .ensures) ∙ not-true _ (c .before .if1 .taken)))
+unfolding keyLines keyRefusals changesNothing
+returns c =
+    let wrong = sym (c .before .before .fits2 .ensures) ∙ not-true _ (c .before .if1 .taken) in
+    c .refuse-call .ensures _ _ ∙ sym (key-refused _ _ _ WrongSize refl (this (ap not wrong)))
 
 returns-2 : tie.Need-returns-2
+unfolding keyLines keyRefusals changesNothing
 returns-2 c =
-    let valid = c .before .before in
-    let size = sym (valid .before .before .before .before .fits2 .ensures) ∙ not-false _ (valid .before .before .before .if1 .left) in
-    c .refuse-call2 .ensures _ _ ∙ sym (key-wrong-state _ _ _ size (sym (valid .is-valid .ensures) ∙ not-true _ (c .before .if2 .taken)))
+    let test = c .before .before in
+    let wrong = sym (test .is-valid .ensures) ∙ not-true _ (c .before .if2 .taken) in
+    c .refuse-call2 .ensures _ _ ∙ sym (key-refused _ _ _ WrongState refl (past-1 (test .before .before .before) (this (ap not wrong))))
 
 returns-3 : tie.Need-returns-3
+unfolding keyLines keyRefusals changesNothing
 returns-3 c =
-    let known = c .before .before in
-    let valid = known .before .before in
-    let size = sym (valid .before .before .before .before .fits2 .ensures) ∙ not-false _ (valid .before .before .before .if1 .left) in
-    let is = sym (valid .is-valid .ensures) ∙ not-false _ (known .before .if2 .left) in
-    c .refuse-call3 .ensures _ _ ∙ sym (key-unknown _ _ _ size is (sym (known .is-known .ensures) ∙ not-true _ (c .before .if3 .taken)))
+    let test = c .before .before in
+    let unknown = sym (test .is-known .ensures) ∙ not-true _ (c .before .if3 .taken) in
+    c .refuse-call3 .ensures _ _ ∙ sym (key-refused _ _ _ UnknownKey refl (past-2 (test .before) (this (ap not unknown))))
 
 returns-4 : tie.Need-returns-4
+unfolding keyLines keyRefusals changesNothing
 returns-4 c =
-    let locked = c .before .before in
-    let known = locked .before .before in
-    let valid = known .before .before in
-    let size = sym (valid .before .before .before .before .fits2 .ensures) ∙ not-false _ (valid .before .before .before .if1 .left) in
-    let is = sym (valid .is-valid .ensures) ∙ not-false _ (known .before .if2 .left) in
-    let listed = sym (known .is-known .ensures) ∙ not-false _ (locked .before .if3 .left) in
-    c .refuse-call4 .ensures _ _ ∙ sym (key-locked _ _ _ size is listed (sym (locked .is-locked-out .ensures) ∙ c .before .if4 .taken))
-
-lacks-cell-requires : tie.Need-lacks-cell-requires
-lacks-cell-requires c κs =
-    let known = c .before .before .before .before .before in
-    let valid = known .before .before in
-    let size = sym (valid .before .before .before .before .fits2 .ensures) ∙ not-false _ (valid .before .before .before .if1 .left) in
-    is-valid _ size (sym (valid .is-valid .ensures) ∙ not-false _ (known .before .if2 .left))
+    let test = c .before .before in
+    let locked = sym (test .is-locked-out .ensures) ∙ c .before .if4 .taken in
+    c .refuse-call4 .ensures _ _ ∙ sym (key-refused _ _ _ Locked refl (past-3 (test .before) (this locked)))
 
 returns-5 : tie.Need-returns-5
+unfolding keyLines keyRefusals changesNothing
 returns-5 c =
-    let lacks = c .before .before in
-    let locked = lacks .before .before .before .before in
-    let known = locked .before .before in
-    let valid = known .before .before in
-    let size = sym (valid .before .before .before .before .fits2 .ensures) ∙ not-false _ (valid .before .before .before .if1 .left) in
-    let is = sym (valid .is-valid .ensures) ∙ not-false _ (known .before .if2 .left) in
-    let listed = sym (known .is-known .ensures) ∙ not-false _ (locked .before .if3 .left) in
-    let free = sym (locked .is-locked-out .ensures) ∙ lacks .before .before .before .if4 .left in
-    c .refuse-call5 .ensures _ _ ∙ sym (key-no-cell _ _ _ size is listed free (sym (lacks .lacks-cell .ensures) ∙ c .before .if5 .taken))
+    let test = c .before .before in
+    let lacks = sym (test .lacks-cell .ensures) ∙ c .before .if5 .taken in
+    c .refuse-call5 .ensures _ _ ∙ sym (key-refused _ _ _ NoCell refl (past-4 (test .before .before .before) (this lacks)))
+
+terminal-valid : (c : tie.Else2) → Valid (lent (start-2 c))
+terminal-valid c = is-valid _ (size-fits (else-1 c)) (valid c)
+
+lacks-cell-requires : tie.Need-lacks-cell-requires
+lacks-cell-requires c κs = terminal-valid (else-2 (else-3 (c .before .before)))
 
 press-requires : tie.Need-press-requires
 press-requires c κs =
-    let lacks = c .before .before .before .before in
-    let locked = lacks .before .before .before .before in
-    let known = locked .before .before in
-    let valid = known .before .before in
-    let size = sym (valid .before .before .before .before .fits2 .ensures) ∙ not-false _ (valid .before .before .before .if1 .left) in
-    let is = sym (valid .is-valid .ensures) ∙ not-false _ (known .before .if2 .left) in
-    let listed = sym (known .is-known .ensures) ∙ not-false _ (locked .before .if3 .left) in
-    let free = sym (locked .is-locked-out .ensures) ∙ lacks .before .before .before .if4 .left in
-    (is-valid _ size is, (listed, free, sym (lacks .lacks-cell .ensures) ∙ c .before .before .before .if5 .left))
+    let at-5 = c .before .before .before in
+    let at-4 = else-4 at-5 in
+    record {
+      valid = terminal-valid (else-2 (else-3 at-4));
+      known = known (else-3 at-4);
+      not-locked-out = not-locked-out at-4;
+      has-cell = sym (at-5 .before .lacks-cell .ensures) ∙ at-5 .if5 .left;
+    }
 
 pub key-spec : {M : Type 1} → statement M
 key-spec =

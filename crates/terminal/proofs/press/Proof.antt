@@ -8,7 +8,7 @@ use Rattle.steps.specs.Steps.{Terminal, bytesOf}
 use Rattle.keys.specs.Keys.{keyStep}
 use Rattle.terminal.specs.declared.Answer.the-variants.{Done, NoRoom}
 use Rattle.terminal.specs.Answers.{numberOf, unchanged}
-use Rattle.terminal.proofs.Deciding.{valid-holds, key-no-room, key-done}
+use Rattle.terminal.proofs.Deciding.{key-no-room, key-done}
 use Rattle.terminal.proofs.Running.{was-done, exceeded}
 use Rattle.terminal.proofs.press.Statement.{statement}
 use Rattle.terminal.proofs.press.Tie as tie
@@ -18,19 +18,17 @@ returns c =
     let did = c .before .before .before .before .before .before .before .before in
     let start = did .before .before .before .before .before .before .before in
     let t : Terminal = record { state = start .args .state; page = pageOf (start .args .characters .now) (start .args .marks .now) } in
-    let passed = start .pre .1 in
     let full = exceeded 0 (start .args .out .now) t _ (did .step .result) _ _ (did .step .ensures) (c .before .if1 .taken) in
     let exceeds : length (start .args .out .now) < length (bytesOf (keyStep (start .args .key) t .transmission)) = omega (arith, full .exceeds) in
     c .refuse-call .ensures _ _
     ∙ (λ i. unchanged NoRoom (record { state = start .args .state; page = full .same-page i }) (full .same-output i))
-    ∙ sym (key-no-room t (start .args .key) (start .args .out .now) (start .pre .0 .size) (valid-holds t (start .pre .0)) (passed .0) (passed .1) (passed .2) exceeds)
+    ∙ sym (key-no-room t (start .args .key) (start .args .out .now) (start .pre) exceeds)
 
 returns-2 : tie.Need-returns-2
 returns-2 c =
     let did = c .before .before .before .before .before .before .before .before in
     let start = did .before .before .before .before .before .before .before in
     let t : Terminal = record { state = start .args .state; page = pageOf (start .args .characters .now) (start .args .marks .now) } in
-    let passed = start .pre .1 in
     let was = was-done 0 (start .args .out .now) t (keyStep (start .args .key) t) (did .step .result) _ _ (did .step .ensures) (c .before .if1 .left) in
     let fits : length (bytesOf (keyStep (start .args .key) t .transmission)) ≤ length (start .args .out .now) = omega (arith, was .fits) in
     (λ i. record {
@@ -41,7 +39,7 @@ returns-2 c =
       terminal = was .terminal i;
       output = was .writes i;
     })
-    ∙ sym (key-done t (start .args .key) (start .args .out .now) (start .pre .0 .size) (valid-holds t (start .pre .0)) (passed .0) (passed .1) (passed .2) fits)
+    ∙ sym (key-done t (start .args .key) (start .args .out .now) (start .pre) fits)
 
 pub press-spec : {M : Type 1} → statement M
 press-spec =

@@ -11,7 +11,8 @@ use Rattle.frames.proofs.Running.{toCome, after-same, all-to-come, carries-on, 
 use Rattle.transcript.proofs.do_calls.Statement.{statement}
 use Rattle.transcript.proofs.do_calls.Tie as tie
 
--- the lent slices stay as long as they were, the place to carry on from is in the line, and what the calls still to come leave is what all leave
+-- the lent slices stay as long as they were, the place to carry on from is in the line, and what the calls still to
+-- come leave is what all leave
 abbrev Inv-loop : tie.InvT-loop
 Inv-loop line digits characters₀ marks₀ out₀ text₀ kind here₀ from₀ calls₀ characters marks out text here from calls =
     (length line ≡ 512) ×

@@ -1,0 +1,118 @@
+// Document 01, "Commands": the commands of ESC [ that set tab stops, the pen and the mode.
+use page::Mark;
+use state::State;
+use steps::Step;
+ghost use mathlib.Core.Path.{_≡_};
+ghost use Prim.Native.Nat.{_≤_};
+ghost use lib.Dec.{eqb};
+ghost use lib.ListN.{take};
+ghost use Rattle.words.specs.Lists.{every};
+ghost use Rattle.page.specs.Page.{Page};
+ghost use Rattle.state.specs.State.{OnPage};
+ghost use Rattle.steps.specs.Told.{told, tells};
+ghost use Rattle.table.specs.Settings.{tabControl, isVisual, penAfter, penAfterAll, rendition, setMode};
+
+// CTC.
+pub fn tab_control(state: State, what: usize) -> Step
+    requires { ⌜ OnPage state ⌝ }
+    ensures { λ r. ⌜ ((page : Page) → told r page ≡ tells (tabControl what (record { state = state; page = page }))) ⌝ }
+{
+    match what {
+        0 => steps::quiet(state.set_stop()),
+        2 => steps::quiet(state.clear_stop()),
+        5 => steps::quiet(state.clear_stops()),
+        _ => steps::refuse(state),
+    }
+}
+
+fn is_visual(value: u16) -> bool
+    ensures { λ r. ⌜ r ≡ isVisual value ⌝ }
+{
+    match value {
+        0 => true,
+        1 => true,
+        4 => true,
+        5 => true,
+        7 => true,
+        8 => true,
+        _ => false,
+    }
+}
+
+fn all_visual(values: [u16; 8], count: usize) -> bool
+    requires { ⌜ count ≤ 8 ⌝ }
+    ensures { λ r. ⌜ r ≡ every isVisual (take count values) ⌝ }
+{
+    let mut i = 0;
+    while i < count {
+        if !is_visual(values[i]) {
+            return false;
+        }
+        i += 1;
+    }
+    true
+}
+
+fn all_six(values: [u16; 8], count: usize) -> bool
+    requires { ⌜ count ≤ 8 ⌝ }
+    ensures { λ r. ⌜ r ≡ every (λ value. eqb value 6) (take count values) ⌝ }
+{
+    let mut i = 0;
+    while i < count {
+        if values[i] != 6 {
+            return false;
+        }
+        i += 1;
+    }
+    true
+}
+
+// What one value of SGR does to the pen.
+fn pen_after(value: u16, pen: Mark) -> Mark
+    ensures { λ r. ⌜ r ≡ penAfter value pen ⌝ }
+{
+    match value {
+        0 => state::pen_plain(pen),
+        1 => state::pen_bold(pen),
+        4 => state::pen_underlined(pen),
+        5 => state::pen_blinking(pen),
+        7 => state::pen_reversed(pen),
+        _ => state::pen_concealed(pen),
+    }
+}
+
+fn pen_after_all(values: [u16; 8], count: usize, pen: Mark) -> Mark
+    requires { ⌜ count ≤ 8 ⌝ }
+    ensures { λ r. ⌜ r ≡ penAfterAll (take count values) pen ⌝ }
+{
+    let mut here = pen;
+    let mut i = 0;
+    while i < count {
+        here = pen_after(values[i], here);
+        i += 1;
+    }
+    here
+}
+
+// SGR: all values are tested before any acts.
+pub fn rendition(state: State, values: [u16; 8], count: usize) -> Step
+    requires { ⌜ count ≤ 8 ⌝ }
+    ensures { λ r. ⌜ ((page : Page) → told r page ≡ tells (rendition (take count values) (record { state = state; page = page }))) ⌝ }
+{
+    if all_visual(values, count) {
+        let pen = pen_after_all(values, count, state.modes.pen);
+        return steps::quiet(state.with_pen(pen));
+    }
+    steps::refuse(state)
+}
+
+// SM and RM.
+pub fn set_mode(state: State, on: bool, values: [u16; 8], count: usize) -> Step
+    requires { ⌜ count ≤ 8 ⌝ }
+    ensures { λ r. ⌜ ((page : Page) → told r page ≡ tells (setMode on (take count values) (record { state = state; page = page }))) ⌝ }
+{
+    if all_six(values, count) {
+        return steps::quiet(state.with_erasure(on));
+    }
+    steps::refuse(state)
+}
