@@ -22,7 +22,8 @@ use Rattle.blocks.proofs.Claims.{Whole, blankForm, firstAndEven}
 use Rattle.blocks.proofs.Listing.{joined-cell-free, joined-starts-not, protected-starts-not}
 use Rattle.blocks.proofs.Weighing.{total, total-append, total-same, opening, weight, block-length, no-longer}
 
--- A cell by the rows above it and the columns to its left: whether a stretch begins there, and what a field's start needs.
+-- A cell by the rows above it and the columns to its left:
+-- whether a stretch begins there, and what a field's start needs.
 opensAt : ℕ → ℕ → Bool
 opensAt above left = eqb left 0
 
@@ -68,7 +69,8 @@ one-more true true false added later start bound none one most h = omega (arith,
 one-more true false opens added later start bound none one most h = omega arith
 
 module _ (free : ℕ → Bool) (columns : ℕ) where
-  -- What a cell adds: nothing if it is protected, one byte if it is joined to the one before it, and in any case no more than a start and a byte.
+  -- What a cell adds: nothing if it is protected, one byte if it is joined to the one before it,
+  -- and in any case no more than a start and a byte.
   protected-weight : (cell : ℕ) → free cell ≡ false → weight free columns cell ≡ 0
   unfolding weight if_then_else_
   protected-weight cell f = rw (protected-starts-not free columns cell f, f)

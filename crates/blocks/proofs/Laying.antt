@@ -47,7 +47,8 @@ module _ (free : ℕ → Bool) (columns cells : ℕ) (old new : List ℕ) where
   unfolding samePlace entryOf placeOf
   same-start a b h = let p = both h in cell-told columns (a .start) (b .start) (eqb-true _ _ (p .0)) (eqb-true _ _ (p .1))
 
-  -- A field of the old page has become that of the new one. One that is sent is found; one that is not sent is the same on both.
+  -- A field of the old page has become that of the new one.
+  -- One that is sent is found; one that is not sent is the same on both.
   abbrev Renewed : (Field → Bool) → List Field → Field → Type 0
   Renewed sent fields field = laidOn (map (entryOf columns new) (selected sent fields)) (entryOf columns old field) ≡ entryOf columns new field
 

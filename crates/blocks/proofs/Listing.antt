@@ -77,7 +77,8 @@ module _ (free : ℕ → Bool) (columns cells : ℕ) where
   end-of-protected cell f =
       less-or-not (cell + 1) cells (λ h. end-stops free columns cells cell h (not-joined free columns cell f)) (λ h. end-at-last free columns cells cell h)
 
-  -- The unprotected cells after a cell: the rest of the field that has it, and then those of the fields that start after it.
+  -- The unprotected cells after a cell:
+  -- the rest of the field that has it, and then those of the fields that start after it.
   rest : ℕ → ℕ → List ℕ
   rest n cell = numbersFrom (λ _. true) (cell + 1) (fieldEnd free columns cells cell - (cell + 1)) ++ flatMap cellsOf (fieldsFrom free columns cells (cell + 1) n)
 

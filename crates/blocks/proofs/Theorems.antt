@@ -34,7 +34,8 @@ page-block-found = Finding.page-block-found
 pub report-passed : (bytes later : List ℕ) → IsReport bytes → blocksIn (bytes ++ later) ≡ blocksIn later
 report-passed = Finding.report-passed
 
--- Two pages of one size with equal full blocks have the same fields, the same unprotected cells, and in these the same characters.
+-- Two pages of one size with equal full blocks have the same fields, the same unprotected cells,
+-- and in these the same characters.
 pub equal-blocks : (columns : ℕ) (p q : Page) → SameSize p q → Whole p → Sendable columns p → Sendable columns q → block true columns p ≡ block true columns q → FilledAlike columns p q
 equal-blocks = Recovering.equal-blocks
 

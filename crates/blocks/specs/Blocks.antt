@@ -1,6 +1,7 @@
 -- Document 01, "Fields, keys and blocks": the block that is sent to the host.
 use mathlib.Core.Bool.{Bool, false}
 use mathlib.Core.List.{List, [], _∷_, _++_, map}
+use Prim.Native.Char.{code}
 use Prim.Native.Nat.{ℕ, zero, suc, _+_, _-_}
 use lib.Dec.{leb}
 use lib.ListN.{length, take, drop, getD}
@@ -23,7 +24,7 @@ pub record Entry : Type 0 where
 
 -- ESC [ row ; column f
 abbrev pub headBytes : ℕ → ℕ → List ℕ
-headBytes row column = placeBytes row column 0x66
+headBytes row column = placeBytes row column (code "f")
 
 -- and the field's characters.
 unfoldable pub entryBytes : Entry → List ℕ
@@ -60,7 +61,8 @@ entriesSent full columns page =
 unfoldable pub block : Bool → ℕ → Page → List ℕ
 block full columns page = encode (entriesSent full columns page)
 
--- What the block has for a cell: the entry of the field that starts there, if it is sent. (The code goes by this; no rule does.)
+-- What the block has for a cell: the entry of the field that starts there, if it is sent.
+-- (The code goes by this; no rule does.)
 unfoldable pub bytesAt : Bool → ℕ → Page → ℕ → List ℕ
 bytesAt full columns page cell =
     let field = fieldFrom (unprotected (page .marks)) columns (length (page .marks)) cell in

@@ -1,6 +1,7 @@
 -- A block read back from its bytes: what a host does that was written for these blocks. Any bytes can be read.
 use mathlib.Core.Bool.{Bool}
 use mathlib.Core.List.{List, [], _∷_, map}
+use Prim.Native.Char.{code}
 use Prim.Native.Nat.{ℕ, _+_, _-_, _*_}
 use lib.Dec.{eqb, ltb}
 use lib.ListN.{drop}
@@ -33,8 +34,8 @@ pub record Number : Type 0 where
 unfoldable pub readNumber : ℕ → List ℕ → Number
 readNumber value [] = record { value = value; after = [] }
 readNumber value (byte ∷ later) =
-    let further = readNumber (value * 10 + (byte - 0x30)) later in
-    if byte is 0x30 to 0x39 then further
+    let further = readNumber (value * 10 + (byte - code "0")) later in
+    if byte is code "0" to code "9" then further
     else record { value = value; after = later }
 
 -- What follows an ESC: [ is passed by, then the row and ;, the column and f, and the characters.
@@ -47,6 +48,7 @@ readEntry run =
 unfoldable pub decode : List ℕ → List Entry
 decode bytes = map readEntry (split bytes .runs)
 
--- An entry that can be written and read back: a row and a column below 1,000, and characters 20 to 7E. Every entry that a page sends is one.
+-- An entry that can be written and read back: a row and a column below 1,000, and characters 20 to 7E.
+-- Every entry that a page sends is one.
 unfoldable pub validEntry : Entry → Bool
 validEntry entry = ltb (entry .row) 1000 and ltb (entry .column) 1000 and every validCharacter (entry .characters)

@@ -1,16 +1,17 @@
 -- The blocks in a stream of blocks and reports, found from its bytes alone, one by one. Any bytes can be read.
 use mathlib.Core.Bool.{Bool}
 use mathlib.Core.List.{List, [], _∷_, _++_}
+use Prim.Native.Char.{code}
 use Prim.Native.Nat.{ℕ}
 use lib.Dec.{eqb}
 use Rattle.words.specs.Choice.{if_then_else_, _or_}
 
 -- n or R ends a report, f a field's head. A sequence is read on to the first of these.
 unfoldable pub endsReport : ℕ → Bool
-endsReport byte = eqb byte 0x6E or eqb byte 0x52
+endsReport byte = eqb byte (code "n") or eqb byte (code "R")
 
 unfoldable pub endsHead : ℕ → Bool
-endsHead byte = eqb byte 0x66
+endsHead byte = eqb byte (code "f")
 
 -- What the host holds after a byte: the block that is going on; the sequence being read, from its ESC on, and []
 -- outside one; the block that the byte ended, if it ended one.

@@ -20,7 +20,8 @@ pub enum BlockResult {
 // A part of a slice, written.
 pub fn put_characters(out: &mut [u8], at: usize, characters: &[u8], from: usize, to: usize) -> usize
     requires { ⌜ (from ≤ to) × (to ≤ length (now characters)) × (at + (to - from) ≤ length (now out)) ⌝ }
-    ensures { λ r. ⌜ Wrote at (take (to - from) (drop from (now (characters .entry)))) (now (out .entry)) r (now (out .exit)) ⌝ }
+    ensures { λ r. ⌜ Wrote at (take (to - from) (drop from (now (characters .entry))))
+        (now (out .entry)) r (now (out .exit)) ⌝ }
 {
     let mut next = at;
     let mut cell = from;
@@ -31,6 +32,7 @@ pub fn put_characters(out: &mut [u8], at: usize, characters: &[u8], from: usize,
     next
 }
 
+// Whether one of the cells is modified.
 fn has_modified(marks: &[Mark], from: usize, to: usize) -> bool
     requires { ⌜ (from ≤ to) × (to ≤ length (now marks)) ⌝ }
     ensures { λ r. ⌜ r ≡ someModified (now (marks .entry)) from (to - from) ⌝ }
@@ -45,6 +47,7 @@ fn has_modified(marks: &[Mark], from: usize, to: usize) -> bool
     false
 }
 
+// Whether a field is sent: every one in a full block, else one in which something is modified.
 fn is_in_block(marks: &[Mark], full: bool, from: usize, to: usize) -> bool
     requires { ⌜ (from ≤ to) × (to ≤ length (now marks)) ⌝ }
     ensures { λ r. ⌜ r ≡ isInBlock full (now (marks .entry)) (record { start = from; length = to - from }) ⌝ }
@@ -55,11 +58,13 @@ fn is_in_block(marks: &[Mark], full: bool, from: usize, to: usize) -> bool
     has_modified(marks, from, to)
 }
 
-// How many bytes the block has for a cell: no more than a page's 7,680 cells and the 10 bytes of a place, so that the sum fits.
+// How many bytes the block has for a cell:
+// no more than a page's 7,680 cells and the 10 bytes of a place, so that the sum fits.
 fn length_at(marks: &[Mark], place: Place, columns: usize, full: bool) -> usize
     requires { ⌜ Counted columns place ⌝ }
     requires { ⌜ (place .cell < length (now marks)) × (length (now marks) ≤ 7680) ⌝ }
-    ensures { λ r. ⌜ ((characters : List ℕ) → length characters ≡ length (now (marks .entry)) → r ≡ length (bytesAt full columns (pageOf characters (now (marks .entry))) (place .cell))) ⌝ }
+    ensures { λ r. ⌜ ((characters : List ℕ) → length characters ≡ length (now (marks .entry)) →
+        r ≡ length (bytesAt full columns (pageOf characters (now (marks .entry))) (place .cell))) ⌝ }
     ensures { λ r. ⌜ r ≤ 7690 ⌝ }
 {
     if !fields::starts_field(marks, place) {
@@ -75,7 +80,8 @@ fn length_at(marks: &[Mark], place: Place, columns: usize, full: bool) -> usize
 // How many bytes the block has.
 pub fn block_length(marks: &[Mark], columns: usize, full: bool) -> usize
     requires { ⌜ (0 < columns) × (length (now marks) ≤ 7680) ⌝ }
-    ensures { λ r. ⌜ ((characters : List ℕ) → length characters ≡ length (now (marks .entry)) → r ≡ length (block full columns (pageOf characters (now (marks .entry))))) ⌝ }
+    ensures { λ r. ⌜ ((characters : List ℕ) → length characters ≡ length (now (marks .entry)) →
+        r ≡ length (block full columns (pageOf characters (now (marks .entry))))) ⌝ }
 {
     let mut total = 1;
     let mut place = Place::first(columns);
@@ -97,9 +103,13 @@ fn put_at(
     full: bool,
 ) -> usize
     requires { ⌜ Counted columns place ⌝ }
-    requires { ⌜ (columns ≤ 160) × (place .cell < length (now marks)) × (length (now marks) ≤ 48 * columns) × (length (now characters) ≡ length (now marks)) ⌝ }
-    requires { ⌜ at + length (bytesAt full columns (pageOf (now characters) (now marks)) (place .cell)) ≤ length (now out) ⌝ }
-    ensures { λ r. ⌜ Wrote at (bytesAt full columns (pageOf (now (characters .entry)) (now (marks .entry))) (place .cell)) (now (out .entry)) r (now (out .exit)) ⌝ }
+    requires { ⌜ (columns ≤ 160) × (place .cell < length (now marks)) × (length (now marks) ≤ 48 * columns) ×
+        (length (now characters) ≡ length (now marks)) ⌝ }
+    requires { ⌜ at + length (bytesAt full columns (pageOf (now characters) (now marks)) (place .cell))
+        ≤ length (now out) ⌝ }
+    ensures { λ r. ⌜ Wrote at
+        (bytesAt full columns (pageOf (now (characters .entry)) (now (marks .entry))) (place .cell))
+        (now (out .entry)) r (now (out .exit)) ⌝ }
 {
     if !fields::starts_field(marks, place) {
         return at;
@@ -109,7 +119,7 @@ fn put_at(
     if !is_in_block(marks, full, cell, end) {
         return at;
     }
-    let next = output::put_place(out, at, place.row, place.column, 0x66);
+    let next = output::put_place(out, at, place.row, place.column, b'f');
     put_characters(out, next, characters, cell, end)
 }
 
@@ -122,9 +132,11 @@ fn put_block(
     columns: usize,
     full: bool,
 ) -> usize
-    requires { ⌜ (0 < columns) × (columns ≤ 160) × (length (now marks) ≤ 48 * columns) × (length (now characters) ≡ length (now marks)) ⌝ }
+    requires { ⌜ (0 < columns) × (columns ≤ 160) × (length (now marks) ≤ 48 * columns) ×
+        (length (now characters) ≡ length (now marks)) ⌝ }
     requires { ⌜ at + length (block full columns (pageOf (now characters) (now marks))) ≤ length (now out) ⌝ }
-    ensures { λ r. ⌜ Wrote at (block full columns (pageOf (now (characters .entry)) (now (marks .entry)))) (now (out .entry)) r (now (out .exit)) ⌝ }
+    ensures { λ r. ⌜ Wrote at (block full columns (pageOf (now (characters .entry)) (now (marks .entry))))
+        (now (out .entry)) r (now (out .exit)) ⌝ }
 {
     let mut next = at;
     let mut place = Place::first(columns);
@@ -144,9 +156,11 @@ pub fn write_block(
     columns: usize,
     full: bool,
 ) -> BlockResult
-    requires { ⌜ (0 < columns) × (columns ≤ 160) × (length (now marks) ≤ 48 * columns) × (length (now characters) ≡ length (now marks)) ⌝ }
+    requires { ⌜ (0 < columns) × (columns ≤ 160) × (length (now marks) ≤ 48 * columns) ×
+        (length (now characters) ≡ length (now marks)) ⌝ }
     requires { ⌜ at ≤ length (now out) ⌝ }
-    ensures { λ r. ⌜ record { answer = r; marks = now (marks .exit); output = now (out .exit) } ≡ writingBlock full columns (pageOf (now (characters .entry)) (now (marks .entry))) at (now (out .entry)) ⌝ }
+    ensures { λ r. ⌜ record { answer = r; marks = now (marks .exit); output = now (out .exit) }
+        ≡ writingBlock full columns (pageOf (now (characters .entry)) (now (marks .entry))) at (now (out .entry)) ⌝ }
 {
     let length = block_length(marks, columns, full);
     if out.len() - at < length {

@@ -1,4 +1,5 @@
--- What the theorems claim: the words of document 01, "Fields, keys and blocks", as types. `free` and `cells` are as in specs/Fields.antt.
+-- What the theorems claim: the words of document 01, "Fields, keys and blocks", as types.
+-- `free` and `cells` are as in specs/Fields.antt.
 use mathlib.Core.Path.{_≡_}
 use mathlib.Core.Bool.{Bool, true, false}
 use mathlib.Core.List.{List, [], _∷_, List·Memᴰ}
@@ -19,7 +20,8 @@ abbrev pub _has_ : Field → ℕ → Type 0
 field has cell = (field .start ≤ cell) × (cell < endOf field)
 
 -- A field can't be made longer: no cell can be added before it, nor after it.
--- Cell / columns is the row, counted from 0. A stretch opens at the left margin, so a cell there does not follow on the one before.
+-- Cell / columns is the row, counted from 0.
+-- A stretch opens at the left margin, so a cell there does not follow on the one before.
 pub record IsField (free : ℕ → Bool) (columns cells : ℕ) (field : Field) : Type 0 where
   pub some-cells : 1 ≤ field .length
   pub on-page : endOf field ≤ cells
@@ -41,13 +43,15 @@ pub record IsAround (free : ℕ → Bool) (columns cells cell : ℕ) : Type 0 wh
   pub has-cell : (fieldStart free columns cell ≤ cell) × (cell < fieldEnd free columns cells cell)
   pub one-end : fieldEnd free columns cells (fieldStart free columns cell) ≡ fieldEnd free columns cells cell
 
--- From the one bound to the other all cells are unprotected. This asks nothing of the numbers: the cell may be past the page.
+-- From the one bound to the other all cells are unprotected.
+-- This asks nothing of the numbers: the cell may be past the page.
 pub record FreeAround (free : ℕ → Bool) (columns cells cell : ℕ) : Type 0 where
   pub low : fieldStart free columns cell ≤ cell
   pub high : cell < fieldEnd free columns cells cell
   pub all-unprotected : (k : ℕ) → fieldStart free columns cell ≤ k → k < fieldEnd free columns cells cell → free k ≡ true
 
--- Page order: each field ends at or before the start of every later one. (By membership: no claim needs a field's index in the list.)
+-- Page order: each field ends at or before the start of every later one.
+-- (By membership: no claim needs a field's index in the list.)
 pub data InOrder : List Field → Type 0 where
   none : InOrder []
   one-more : {field : Field} {later : List Field} → ((other : Field) → List·Memᴰ other later → endOf field ≤ other .start) → InOrder later → InOrder (field ∷ later)
@@ -81,7 +85,8 @@ pub data Finds (columns : ℕ) (Prefers : ℕ → ℕ → Type 0) (Wanted : ℕ 
   found : (cell : ℕ) → Wanted cell → ((other : ℕ) → Wanted other → Prefers cell other) → Finds columns Prefers Wanted (At (placeOf columns cell))
   nothing : ((cell : ℕ) → Wanted cell → ⊥) → Finds columns Prefers Wanted Nowhere
 
--- A search that goes round the page: where cells ahead are wanted it finds one of these, else one of all that are wanted.
+-- A search that goes round the page:
+-- where cells ahead are wanted it finds one of these, else one of all that are wanted.
 pub record GoesRound (columns : ℕ) (Prefers : ℕ → ℕ → Type 0) (Wanted Ahead : ℕ → Type 0) (sought : Sought) : Type 0 where
   pub ahead : (cell : ℕ) → Wanted cell → Ahead cell → Finds columns Prefers (λ k. Wanted k × Ahead k) sought
   pub round : ((cell : ℕ) → Wanted cell → Ahead cell → ⊥) → Finds columns Prefers Wanted sought

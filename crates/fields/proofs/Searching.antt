@@ -153,7 +153,8 @@ module _ (columns : ℕ) where
     pub last-start : to ≤ cells → Finds columns Last (Passes (startsAt free columns) from to) (lastField columns (fieldsFrom free columns cells from n))
     last-start fits = in-other-words by-cell by-field (last-of (in-order free columns cells n from (omega arith)))
 
-  -- The first field that starts after a cell is the first that starts from the next one on; and so for the last before a cell.
+  -- The first field that starts after a cell is the first that starts from the next one on;
+  -- and so for the last before a cell.
   module _ (free : ℕ → Bool) (cells cell : ℕ) where
     pub after-is : (next : ℕ) → next ≡ cell + 1 → next ≤ cells → firstField columns (fieldsFrom free columns cells next (cells - next)) ≡ firstAfter columns cell (fieldsOf free columns cells)
     unfolding fieldsOf

@@ -1,5 +1,7 @@
--- What document 01, "Fields, keys and blocks", says of fields and of the cells that keys look for; Claims.antt has its words.
--- Each holds for any test `free` of which cells are unprotected. The contracts in src/lib.rt say that the code gives what is spoken of here.
+-- What document 01, "Fields, keys and blocks", says of fields and of the cells that keys look for;
+-- Claims.antt has its words.
+-- Each holds for any test `free` of which cells are unprotected.
+-- The contracts in src/lib.rt say that the code gives what is spoken of here.
 use mathlib.Core.Path.{_≡_}
 use mathlib.Core.Bool.{Bool, true}
 use mathlib.Core.List.{List}

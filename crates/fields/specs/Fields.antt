@@ -45,7 +45,8 @@ pub record Field : Type 0 where
   pub length : ℕ
 
 abbrev pub fieldFrom : (ℕ → Bool) → ℕ → ℕ → ℕ → Field
-fieldFrom unprotected columns cells cell = record { start = cell; length = fieldEnd unprotected columns cells cell - cell }
+fieldFrom unprotected columns cells cell =
+    record { start = cell; length = fieldEnd unprotected columns cells cell - cell }
 
 -- The fields that start at one of the n cells from `cell` on, in page order.
 unfoldable pub fieldsFrom : (ℕ → Bool) → ℕ → ℕ → ℕ → ℕ → List Field

@@ -63,4 +63,5 @@ firstUnprotected unprotected columns cells = firstUnprotectedFrom unprotected co
 
 unfoldable pub nextUnprotected : (ℕ → Bool) → ℕ → ℕ → ℕ → Sought
 nextUnprotected unprotected columns cells cell =
-    orElse (firstUnprotectedFrom unprotected columns (cell + 1) (cells - (cell + 1))) (firstUnprotected unprotected columns cells)
+    orElse (firstUnprotectedFrom unprotected columns (cell + 1) (cells - (cell + 1)))
+    (firstUnprotected unprotected columns cells)

@@ -8,8 +8,10 @@ ghost use Prim.Native.Nat.{_-_, _*_, _<_, _≤_};
 ghost use lib.ListN.{length};
 ghost use Rattle.places.specs.Places.{placeOf, Counted};
 ghost use Rattle.page.specs.Marks.{unprotected};
-ghost use Rattle.fields.specs.Fields.{opensStretch, joined, startsField, fieldStart, fieldEnd, fieldsOf, fieldsFrom};
-ghost use Rattle.fields.specs.Searches.{firstField, lastField, nextField, previousField, firstUnprotectedFrom, firstUnprotected, nextUnprotected};
+ghost use Rattle.fields.specs.Fields.{opensStretch, joined, startsField, fieldStart, fieldEnd};
+ghost use Rattle.fields.specs.Fields.{fieldsOf, fieldsFrom};
+ghost use Rattle.fields.specs.Searches.{firstField, lastField, nextField, previousField};
+ghost use Rattle.fields.specs.Searches.{firstUnprotectedFrom, firstUnprotected, nextUnprotected};
 
 // A place that was looked for.
 pub enum Sought {
@@ -39,6 +41,7 @@ fn is_joined(marks: &[Mark], place: Place) -> bool
     false
 }
 
+// Whether a field starts at the place.
 pub fn starts_field(marks: &[Mark], place: Place) -> bool
     requires { ⌜ place .cell < length (now marks) ⌝ }
     requires { ⌜ (place .cell ≡ 0 → opensStretch place ≡ true) ⌝ }
@@ -68,7 +71,8 @@ pub fn field_end(marks: &[Mark], place: Place, columns: usize) -> usize
     requires { ⌜ Counted columns place ⌝ }
     requires { ⌜ place .cell < length (now marks) ⌝ }
     requires { ⌜ length (now marks) ≤ 7680 ⌝ }
-    ensures { λ r. ⌜ r ≡ fieldEnd (unprotected (now (marks .entry))) columns (length (now (marks .entry))) (place .cell) ⌝ }
+    ensures { λ r. ⌜ r
+        ≡ fieldEnd (unprotected (now (marks .entry))) columns (length (now (marks .entry))) (place .cell) ⌝ }
 {
     let mut last = place;
     while last.cell + 1 < marks.len() {
@@ -85,7 +89,9 @@ pub fn field_end(marks: &[Mark], place: Place, columns: usize) -> usize
 fn seek_field(marks: &[Mark], place: Place, columns: usize) -> Sought
     requires { ⌜ Counted columns place ⌝ }
     requires { ⌜ (place .cell ≤ length (now marks)) × (length (now marks) ≤ 7680) ⌝ }
-    ensures { λ r. ⌜ r ≡ firstField columns (fieldsFrom (unprotected (now (marks .entry))) columns (length (now (marks .entry))) (place .cell) (length (now (marks .entry)) - place .cell)) ⌝ }
+    ensures { λ r. ⌜ r ≡ firstField columns
+        (fieldsFrom (unprotected (now (marks .entry))) columns (length (now (marks .entry)))
+        (place .cell) (length (now (marks .entry)) - place .cell)) ⌝ }
 {
     let mut here = place;
     while here.cell < marks.len() {
@@ -101,7 +107,8 @@ fn seek_field(marks: &[Mark], place: Place, columns: usize) -> Sought
 fn seek_field_back(marks: &[Mark], place: Place, columns: usize) -> Sought
     requires { ⌜ Counted columns place ⌝ }
     requires { ⌜ (place .cell ≤ length (now marks)) × (length (now marks) ≤ 7680) ⌝ }
-    ensures { λ r. ⌜ r ≡ lastField columns (fieldsFrom (unprotected (now (marks .entry))) columns (length (now (marks .entry))) 0 (place .cell)) ⌝ }
+    ensures { λ r. ⌜ r ≡ lastField columns
+        (fieldsFrom (unprotected (now (marks .entry))) columns (length (now (marks .entry))) 0 (place .cell)) ⌝ }
 {
     let mut here = place;
     while 0 < here.cell {
@@ -117,7 +124,8 @@ fn seek_field_back(marks: &[Mark], place: Place, columns: usize) -> Sought
 fn seek_unprotected(marks: &[Mark], place: Place, columns: usize) -> Sought
     requires { ⌜ Counted columns place ⌝ }
     requires { ⌜ (place .cell ≤ length (now marks)) × (length (now marks) ≤ 7680) ⌝ }
-    ensures { λ r. ⌜ r ≡ firstUnprotectedFrom (unprotected (now (marks .entry))) columns (place .cell) (length (now (marks .entry)) - place .cell) ⌝ }
+    ensures { λ r. ⌜ r ≡ firstUnprotectedFrom (unprotected (now (marks .entry))) columns
+        (place .cell) (length (now (marks .entry)) - place .cell) ⌝ }
 {
     let mut here = place;
     while here.cell < marks.len() {
@@ -133,7 +141,8 @@ fn seek_unprotected(marks: &[Mark], place: Place, columns: usize) -> Sought
 pub fn next_field(marks: &[Mark], place: Place, columns: usize) -> Sought
     requires { ⌜ Counted columns place ⌝ }
     requires { ⌜ (place .cell < length (now marks)) × (length (now marks) ≤ 7680) ⌝ }
-    ensures { λ r. ⌜ r ≡ nextField columns (place .cell) (fieldsOf (unprotected (now (marks .entry))) columns (length (now (marks .entry)))) ⌝ }
+    ensures { λ r. ⌜ r ≡ nextField columns (place .cell)
+        (fieldsOf (unprotected (now (marks .entry))) columns (length (now (marks .entry)))) ⌝ }
 {
     let after = seek_field(marks, place.next(columns), columns);
     match after {
@@ -145,8 +154,10 @@ pub fn next_field(marks: &[Mark], place: Place, columns: usize) -> Sought
 // Key 261: the last field that starts before the place, else the last.
 pub fn previous_field(marks: &[Mark], place: Place, rows: usize, columns: usize) -> Sought
     requires { ⌜ Counted columns place ⌝ }
-    requires { ⌜ (place .cell < length (now marks)) × (rows ≤ 48) × (columns ≤ 160) × (length (now marks) ≡ rows * columns) ⌝ }
-    ensures { λ r. ⌜ r ≡ previousField columns (place .cell) (fieldsOf (unprotected (now (marks .entry))) columns (length (now (marks .entry)))) ⌝ }
+    requires { ⌜ (place .cell < length (now marks)) × (rows ≤ 48) × (columns ≤ 160) ×
+        (length (now marks) ≡ rows * columns) ⌝ }
+    ensures { λ r. ⌜ r ≡ previousField columns (place .cell)
+        (fieldsOf (unprotected (now (marks .entry))) columns (length (now (marks .entry)))) ⌝ }
 {
     let before = seek_field_back(marks, place, columns);
     match before {
@@ -155,7 +166,7 @@ pub fn previous_field(marks: &[Mark], place: Place, rows: usize, columns: usize)
     }
 }
 
-// Key 262.
+// Key 262: the first unprotected cell of the page.
 pub fn first_unprotected(marks: &[Mark], columns: usize) -> Sought
     requires { ⌜ (0 < columns) × (length (now marks) ≤ 7680) ⌝ }
     ensures { λ r. ⌜ r ≡ firstUnprotected (unprotected (now (marks .entry))) columns (length (now (marks .entry))) ⌝ }
@@ -167,7 +178,8 @@ pub fn first_unprotected(marks: &[Mark], columns: usize) -> Sought
 pub fn next_unprotected(marks: &[Mark], place: Place, columns: usize) -> Sought
     requires { ⌜ Counted columns place ⌝ }
     requires { ⌜ (place .cell < length (now marks)) × (length (now marks) ≤ 7680) ⌝ }
-    ensures { λ r. ⌜ r ≡ nextUnprotected (unprotected (now (marks .entry))) columns (length (now (marks .entry))) (place .cell) ⌝ }
+    ensures { λ r. ⌜ r
+        ≡ nextUnprotected (unprotected (now (marks .entry))) columns (length (now (marks .entry))) (place .cell) ⌝ }
 {
     let after = seek_unprotected(marks, place.next(columns), columns);
     match after {

@@ -26,6 +26,7 @@ pub fn count_off(number: usize, unit: usize) -> CountedOff
     CountedOff { times, left }
 }
 
+// How many digits a number below 1,000 has.
 pub fn decimal_length(number: usize) -> usize
     ensures { λ r. ⌜ r ≡ length (decimal number) ⌝ }
 {
@@ -38,6 +39,7 @@ pub fn decimal_length(number: usize) -> usize
     3
 }
 
+// The one function that writes a byte of the output.
 pub fn put_byte(out: &mut [u8], at: usize, byte: u8) -> usize
     requires { ⌜ at < length (now out) ⌝ }
     ensures { λ r. ⌜ Wrote at (byte ∷ []) (now (out .entry)) r (now (out .exit)) ⌝ }
@@ -46,6 +48,7 @@ pub fn put_byte(out: &mut [u8], at: usize, byte: u8) -> usize
     at + 1
 }
 
+// One digit.
 pub fn put_digit(out: &mut [u8], at: usize, digit: usize) -> usize
     requires { ⌜ (digit ≤ 9) × (at < length (now out)) ⌝ }
     ensures { λ r. ⌜ Wrote at ((0x30 + digit) ∷ []) (now (out .entry)) r (now (out .exit)) ⌝ }
@@ -53,15 +56,18 @@ pub fn put_digit(out: &mut [u8], at: usize, digit: usize) -> usize
     put_byte(out, at, (0x30 + digit) as u8)
 }
 
+// Two digits, a leading zero among them.
 pub fn put_two_digits(out: &mut [u8], at: usize, number: usize) -> usize
     requires { ⌜ (number < 100) × (at + 2 ≤ length (now out)) ⌝ }
-    ensures { λ r. ⌜ Wrote at ((0x30 + number / 10) ∷ (0x30 + number % 10) ∷ []) (now (out .entry)) r (now (out .exit)) ⌝ }
+    ensures { λ r. ⌜ Wrote at ((0x30 + number / 10) ∷ (0x30 + number % 10) ∷ [])
+        (now (out .entry)) r (now (out .exit)) ⌝ }
 {
     let tens = count_off(number, 10);
     let next = put_digit(out, at, tens.times);
     put_digit(out, next, tens.left)
 }
 
+// A number below 1,000 in decimal.
 pub fn put_decimal(out: &mut [u8], at: usize, number: usize) -> usize
     requires { ⌜ (number < 1000) × (at + length (decimal number) ≤ length (now out)) ⌝ }
     ensures { λ r. ⌜ Wrote at (decimal number) (now (out .entry)) r (now (out .exit)) ⌝ }
@@ -93,9 +99,9 @@ pub fn put_place(out: &mut [u8], at: usize, row: usize, column: usize, letter: u
     ensures { λ r. ⌜ Wrote at (placeBytes row column letter) (now (out .entry)) r (now (out .exit)) ⌝ }
 {
     let bracket = put_byte(out, at, 0x1B);
-    let digits = put_byte(out, bracket, 0x5B);
+    let digits = put_byte(out, bracket, b'[');
     let semicolon = put_decimal(out, digits, row);
-    let more_digits = put_byte(out, semicolon, 0x3B);
+    let more_digits = put_byte(out, semicolon, b';');
     let end = put_decimal(out, more_digits, column);
     put_byte(out, end, letter)
 }

@@ -6,7 +6,7 @@ use lib.Dec.{ltb, eqb}
 use lib.ListN.{getD}
 use Rattle.words.specs.Choice.{_is_to_}
 
--- `mark` is a cell's whole byte of marks. Bit n of it, counted from 0 at the lowest: read, set and cleared; the others stay.
+-- `mark` is a cell's whole byte of marks. Bit n of it, the lowest being 0: read, set, cleared; the other bits stay.
 abbrev pub hasBit : ℕ → ℕ → Bool
 hasBit n mark = eqb (mark / 2 ^ n % 2) 1
 

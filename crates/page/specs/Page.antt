@@ -26,7 +26,8 @@ validPage page = every validCharacter (page .characters) and every validMark (pa
 
 -- "Reading host bytes", text: the character, and for its marks the pen, which has no modified bit.
 unfoldable pub textStored : ℕ → ℕ → ℕ → Page → Page
-textStored cell character pen page = record { characters = set (page .characters) cell character; marks = set (page .marks) cell pen }
+textStored cell character pen page =
+    record { characters = set (page .characters) cell character; marks = set (page .marks) cell pen }
 
 -- "Fields, keys and blocks", 32 to 126: the character; its cell keeps its marks and becomes modified.
 unfoldable pub typed : ℕ → ℕ → Page → Page
@@ -42,9 +43,10 @@ erasable mode marks cell = mode or unprotected marks cell
 
 unfoldable pub erased : Bool → ℕ → ℕ → Page → Page
 erased mode from to page =
+    let hit : ℕ → Bool = λ cell. within from to cell and erasable mode (page .marks) cell in
     record {
-      characters = each (λ cell character. if within from to cell and erasable mode (page .marks) cell then 0x20 else character) (page .characters);
-      marks = each (λ cell mark. if within from to cell and erasable mode (page .marks) cell then 0 else mark) (page .marks);
+      characters = each (λ cell character. if hit cell then 0x20 else character) (page .characters);
+      marks = each (λ cell mark. if hit cell then 0 else mark) (page .marks);
     }
 
 unfoldable pub cellsErased : Bool → ℕ → ℕ → Page → List ℕ
@@ -55,7 +57,8 @@ pub record HasErased (mode : Bool) (from to : ℕ) (before after : Page) (count 
   pub page : after ≡ erased mode from to before
   pub counted : count ≡ length (cellsErased mode from to before)
 
--- "Commands", a scroll by a row of so many columns, up and down: a row of 20 with marks 0 comes in. Protected cells move too.
+-- "Commands", a scroll by a row of so many columns, up and down: a row of 20 with marks 0 comes in.
+-- Protected cells move too.
 unfoldable pub scrolledUp : ℕ → Page → Page
 scrolledUp columns page =
     record {
@@ -103,7 +106,8 @@ movedRight part = 0x20 ∷ take (length part - 1) part
 
 -- One of these three on the part of the characters from `from` to before `to`, and these cells modified.
 abbrev pub partStored : (List ℕ → List ℕ) → ℕ → ℕ → Page → Page
-partStored change from to page = record { characters = onPart from to change (page .characters); marks = tagged from to (page .marks) }
+partStored change from to page =
+    record { characters = onPart from to change (page .characters); marks = tagged from to (page .marks) }
 
 -- What a block that was sent leaves of the marks.
 unfoldable pub markAfterBlock : ℕ → ℕ

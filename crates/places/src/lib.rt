@@ -10,6 +10,7 @@ pub struct Place {
 }
 
 impl Place {
+    // The first cell of a page, 1;1.
     pub fn first(columns: usize) -> Self
         requires { ⌜ 0 < columns ⌝ }
         ensures { λ r. ⌜ r ≡ placeOf columns 0 ⌝ }
@@ -21,6 +22,7 @@ impl Place {
         }
     }
 
+    // The cell of a row and a column.
     pub fn at(row: usize, column: usize, columns: usize) -> Self
         requires { ⌜ (1 ≤ row) × (row ≤ 48) × (1 ≤ column) × (column ≤ columns) × (columns ≤ 160) ⌝ }
         ensures { λ r. ⌜ r ≡ placeOf columns (cellAt columns row column) ⌝ }
@@ -44,6 +46,7 @@ impl Place {
         }
     }
 
+    // The next cell in page order.
     pub fn next(self, columns: usize) -> Self
         requires { ⌜ Counted columns self ⌝ }
         ensures { λ r. ⌜ r ≡ placeOf columns (self .cell + 1) ⌝ }
@@ -62,6 +65,7 @@ impl Place {
         }
     }
 
+    // The cell before it in page order.
     pub fn back(self, columns: usize) -> Self
         requires { ⌜ Counted columns self ⌝ }
         requires { ⌜ 0 < self .cell ⌝ }

@@ -1,4 +1,5 @@
--- What an event tells of the byte that gave it: text is 20 to 7E, a command after ESC came after ESC, a final byte is 40 to 7E.
+-- What an event tells of the byte that gave it:
+-- text is 20 to 7E, a command after ESC came after ESC, a final byte is 40 to 7E.
 use mathlib.Core.Path.{_≡_, refl}
 use mathlib.Core.Bool.{true}
 use Prim.Native.Nat.{ℕ, _≤_}

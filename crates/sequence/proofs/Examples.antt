@@ -1,4 +1,5 @@
--- The definitions of reading, computed on bytes worked out by hand from document 01: the events, and the record left half read.
+-- The definitions of reading, computed on bytes worked out by hand from document 01:
+-- the events, and the record left half read.
 use mathlib.Core.Path.{_≡_, refl}
 use mathlib.Core.List.{List, [], _∷_, map}
 use mathlib.Core.Bool.{Bool, true, false}
@@ -76,7 +77,8 @@ as-worked-out : map (λ (e : Example). reading nothingRead (e .bytes)) examples 
 unfolding if_then_else_ _and_ _or_ _is_to_ withDigit withNextArgument isControl isCancel outsideSequence afterEsc afterIntermediate afterBracket insideSequence advanceOf noted reading gives bracket examples
 as-worked-out = refl
 
--- Records in range: one of each of the first three kinds, eight arguments of 9,999, an argument being read, a spoilt one.
+-- Records in range: one of each of the first three kinds, eight arguments of 9,999, an argument being read,
+-- a spoilt one.
 record-of : ℕ → List ℕ → ℕ → Bool → HalfRead
 record-of kind arguments count spoilt = record { kind = kind; arguments = arguments; count = count; spoilt = spoilt }
 

@@ -98,7 +98,8 @@ module _ (half : HalfRead) where
       (λ k. bracket-out (eqb-true _ _ k))
       (λ k. bare-out (eqb-false _ _ k)))
 
--- A record in range is spoilt, after ESC [, or of the first three kinds: what each has, to something that follows from it.
+-- A record in range is spoilt, after ESC [, or of the first three kinds:
+-- what each has, to something that follows from it.
 module _ (half : HalfRead) where
   abbrev FromSpoilt : Type 0 → Type 0
   FromSpoilt A = half .kind ≡ 3 → half .count ≡ 1 → ((i : ℕ) → argumentOf half i ≡ 0) → A

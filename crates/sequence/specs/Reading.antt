@@ -1,13 +1,17 @@
--- Document 01, "Reading host bytes", rule by rule (its bullets, numbered from 1): what one host byte does to the half-read record, and the event it gives.
+-- Document 01, "Reading host bytes", rule by rule (its bullets, numbered from 1): what one host byte does to the
+-- half-read record, and the event it gives.
 -- What an event does to the terminal is told by later definitions.
 use mathlib.Core.Bool.{Bool}
+use Prim.Native.Char.{code}
 use Prim.Native.Nat.{ℕ, _-_}
 use lib.Dec.{ltb, leb, eqb}
 use Rattle.words.specs.Choice.{if_then_else_, _or_, _is_to_}
-use Rattle.sequence.specs.Record.{nothingRead, escRead, intermediateRead, bracketRead, spoiltRead, withDigit, withNextArgument}
+use Rattle.sequence.specs.Record.{nothingRead, escRead, intermediateRead, bracketRead, spoiltRead}
+use Rattle.sequence.specs.Record.{withDigit, withNextArgument}
 use Rattle.sequence.specs.declared.HalfRead.{HalfRead}
 use Rattle.sequence.specs.declared.Event.{Event}
-use Rattle.sequence.specs.declared.Event.the-variants.{Nothing, Text, Control, EscCommand, BracketCommand, Refused}
+use Rattle.sequence.specs.declared.Event.the-variants.{Nothing, Text, Control, EscCommand}
+use Rattle.sequence.specs.declared.Event.the-variants.{BracketCommand, Refused}
 use Rattle.sequence.specs.declared.Advanced.{Advanced}
 
 -- The sequence is read on, and nothing happens yet; or it ends, with an event, and nothing stays half read.
@@ -38,7 +42,7 @@ outsideSequence byte =
 unfoldable pub afterEsc : ℕ → Advanced
 afterEsc byte =
     if leb byte 0x2F then readsOn intermediateRead
-    else if eqb byte 0x5B then readsOn bracketRead
+    else if eqb byte (code "[") then readsOn bracketRead
     else ends (EscCommand byte)
 
 -- Rule 5, a byte 20 to 7E after ESC and an intermediate.
@@ -50,13 +54,14 @@ afterIntermediate byte =
 -- Rule 6, a byte 20 to 7E after ESC [. The third line is for 20 to 2F, 3A and 3C to 3F.
 unfoldable pub afterBracket : HalfRead → ℕ → Advanced
 afterBracket half byte =
-    if byte is 0x30 to 0x39 then readsOn (withDigit half (byte - 0x30))
-    else if eqb byte 0x3B then readsOn (withNextArgument half)
+    if byte is code "0" to code "9" then readsOn (withDigit half (byte - code "0"))
+    else if eqb byte (code ";") then readsOn (withNextArgument half)
     else if ltb byte 0x40 then readsOn spoiltRead
     else if half .spoilt then ends Refused
     else ends (BracketCommand byte)
 
--- Rules 3 to 6, inside a sequence. The last line is for every other byte below 20, 7F, and 80 to FF: refused, and not executed.
+-- Rules 3 to 6, inside a sequence.
+-- The last line is for every other byte below 20, 7F, and 80 to FF: refused, and not executed.
 unfoldable pub insideSequence : HalfRead → ℕ → Advanced
 insideSequence half byte =
     if isCancel byte then ends Nothing

@@ -37,7 +37,8 @@ largestArgument i reached =
 -- All arguments from number i on fit, where so many are reached.
 unfoldable pub argumentsFit : ℕ → ℕ → List ℕ → Bool
 argumentsFit reached i [] = true
-argumentsFit reached i (argument ∷ rest) = leb argument (largestArgument i reached) and argumentsFit reached (i + 1) rest
+argumentsFit reached i (argument ∷ rest) =
+    leb argument (largestArgument i reached) and argumentsFit reached (i + 1) rest
 
 -- A record in range: what number 2 of "Numbers a call gives back" asks of it.
 unfoldable pub validHalfRead : HalfRead → Bool
@@ -52,7 +53,12 @@ lastArgument half = getD (half .arguments) (half .count - 1) 0
 
 abbrev pub withLastArgument : HalfRead → ℕ → HalfRead
 withLastArgument half value =
-    record { kind = half .kind; arguments = set (half .arguments) (half .count - 1) value; count = half .count; spoilt = half .spoilt }
+    record {
+      kind = half .kind;
+      arguments = set (half .arguments) (half .count - 1) value;
+      count = half .count;
+      spoilt = half .spoilt;
+    }
 
 -- A digit is put at the argument's end; above 9,999 it spoils; nothing adds to a spoilt sequence.
 unfoldable pub withDigit : HalfRead → ℕ → HalfRead

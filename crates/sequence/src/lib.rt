@@ -4,8 +4,10 @@ ghost use mathlib.Core.Path.{_≡_};
 ghost use mathlib.Core.Bool.{true};
 ghost use Prim.Native.Nat.{_≤_};
 ghost use Rattle.words.specs.Choice.{_is_to_};
-ghost use Rattle.sequence.specs.Record.{largestArgument, argumentsFit, validHalfRead, withDigit, withNextArgument};
-ghost use Rattle.sequence.specs.Reading.{isControl, isCancel, outsideSequence, afterEsc, afterIntermediate, afterBracket, insideSequence, advanceOf};
+ghost use Rattle.sequence.specs.Record.{largestArgument, argumentsFit, validHalfRead};
+ghost use Rattle.sequence.specs.Record.{withDigit, withNextArgument};
+ghost use Rattle.sequence.specs.Reading.{isControl, isCancel, outsideSequence, afterEsc};
+ghost use Rattle.sequence.specs.Reading.{afterIntermediate, afterBracket, insideSequence, advanceOf};
 
 // What is half read.
 pub const NONE: u8 = 0;
@@ -102,6 +104,7 @@ fn is_between(n: u8, low: u8, high: u8) -> bool
     n <= high
 }
 
+// The control bytes that are executed.
 fn is_control(byte: u8) -> bool
     ensures { λ r. ⌜ r ≡ isControl byte ⌝ }
 {
@@ -114,6 +117,7 @@ fn is_control(byte: u8) -> bool
     }
 }
 
+// 18 and 1A, at which a sequence is forgotten.
 fn is_cancel(byte: u8) -> bool
     ensures { λ r. ⌜ r ≡ isCancel byte ⌝ }
 {
@@ -159,7 +163,7 @@ fn after_esc(byte: u8) -> Advanced
             event: Event::Nothing,
         };
     }
-    if byte == 0x5B {
+    if byte == b'[' {
         return Advanced {
             half: BRACKET_READ,
             event: Event::Nothing,
@@ -194,6 +198,7 @@ fn largest_argument(i: usize, reached: usize) -> u16
     0
 }
 
+// No argument is larger than it may be.
 fn arguments_fit(arguments: [u16; 8], reached: usize) -> bool
     ensures { λ r. ⌜ r ≡ argumentsFit reached 0 arguments ⌝ }
 {
@@ -277,13 +282,13 @@ impl HalfRead {
         requires { ⌜ (1 ≤ self .count) × (self .count ≤ 8) ⌝ }
         ensures { λ r. ⌜ r ≡ afterBracket self byte ⌝ }
     {
-        if is_between(byte, 0x30, 0x39) {
+        if is_between(byte, b'0', b'9') {
             return Advanced {
-                half: self.with_digit(byte - 0x30),
+                half: self.with_digit(byte - b'0'),
                 event: Event::Nothing,
             };
         }
-        if byte == 0x3B {
+        if byte == b';' {
             return Advanced {
                 half: self.with_next_argument(),
                 event: Event::Nothing,

@@ -17,7 +17,8 @@ use Rattle.state.specs.State.{Arrays, withCursor, withModes, withLocks, 
 use Rattle.state.specs.Tabs.{stopSet, stopCleared, stopsCleared}
 use Rattle.state.proofs.State as state
 
--- The checker knows of a state of the code how the machine has it: of a parameter (`c .good`), of a result (`c .callee .ok`).
+-- The checker knows of a state of the code how the machine has it:
+-- of a parameter (`c .good`), of a result (`c .callee .ok`).
 pub code-arrays : (s : State) (values : List Val) → Is (row state.the-type) s values → Arrays s
 code-arrays s values is = record {
   stops = sym (length-map (s .stops) _) ∙ is .1 .1 .1 .1 .1 .1 .0 .1 .0 .1;

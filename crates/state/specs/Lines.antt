@@ -13,7 +13,8 @@ use Rattle.state.specs.Tabs.{stopAt}
 -- The size is none of the nine, or a slice has another length than the size says.
 pub data Line1 (size : Size) (page : Page) : Type 0 where
   rows-not-listed : (size .rows ≡ 24 → ⊥) → (size .rows ≡ 27 → ⊥) → (size .rows ≡ 48 → ⊥) → Line1 size page
-  columns-not-listed : (size .columns ≡ 80 → ⊥) → (size .columns ≡ 132 → ⊥) → (size .columns ≡ 160 → ⊥) → Line1 size page
+  columns-not-listed : (size .columns ≡ 80 → ⊥) → (size .columns ≡ 132 → ⊥) → (size .columns ≡ 160 → ⊥) →
+      Line1 size page
   characters-not-as-long : (cells page ≡ size .rows * size .columns → ⊥) → Line1 size page
   marks-not-as-long : (length (page .marks) ≡ size .rows * size .columns → ⊥) → Line1 size page
 

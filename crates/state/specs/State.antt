@@ -1,4 +1,5 @@
--- Document 01, "The terminal and its sources": the state that travels by value, and the parts of it that commands and keys replace.
+-- Document 01, "The terminal and its sources":
+-- the state that travels by value, and the parts of it that commands and keys replace.
 use mathlib.Core.Bool.{Bool, true, false}
 use mathlib.Core.List.{List}
 use mathlib.Core.Path.{_≡_}

@@ -1,4 +1,5 @@
--- Document 01, "Numbers a call gives back", lines 1 and 2: what a call asks of the state and the lent page before anything else.
+-- Document 01, "Numbers a call gives back", lines 1 and 2:
+-- what a call asks of the state and the lent page before anything else.
 use mathlib.Core.Bool.{Bool, not}
 use mathlib.Core.List.{List}
 use Prim.Native.Nat.{ℕ, _*_}

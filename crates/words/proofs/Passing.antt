@@ -26,7 +26,8 @@ module _ {A : Type 0} (test : A → Bool) (other : A) (list : List A) (i : ℕ) 
   unfolding every
   all-pass h = rw (drop-of-length-le list h)
 
--- A loop that counts the places before `to` that pass the test and has come to `place`: with those to come it makes `all`.
+-- A loop that counts the places before `to` that pass the test and has come to `place`:
+-- with those to come it makes `all`.
 module _ (test : ℕ → Bool) (place to count all : ℕ) (so-far : count + length (numbersFrom test place (to - place)) ≡ all) where
   pub place-counted : place < to → test place ≡ true → count + 1 + length (numbersFrom test (place + 1) (to - (place + 1))) ≡ all
   unfolding numbersFrom

@@ -12,7 +12,8 @@ use lib.Seq.{set-getD, set-at, take-suc, drop-cons, append-snoc, take-all, getD-
 use Rattle.words.specs.Lists.{within, eachFrom, each, onPart}
 use Rattle.words.proofs.Choosing.{both-hold, first-fails, second-fails, less-or-not}
 
--- What a loop has made that writes `target` over `start` from the front and has come to i. From the back the two change places.
+-- What a loop has made that writes `target` over `start` from the front and has come to i.
+-- From the back the two change places.
 abbrev pub upTo : ℕ → List ℕ → List ℕ → List ℕ
 upTo i target start = take i target ++ drop i start
 
@@ -196,7 +197,8 @@ module _ (from to k : ℕ) where
   pub outside-range : (from ≤ k → k < to → ⊥) → within from to k ≡ false
   outside-range outside = less-or-not k from before-range (λ after. let late = outside after in let past : to ≤ k = omega arith in after-range past)
 
--- A change of the part from `from` to before `to` that keeps the part's length keeps the list's, and every element outside the part.
+-- A change of the part from `from` to before `to` that keeps the part's length keeps the list's,
+-- and every element outside the part.
 module _ (from to : ℕ) (change : List ℕ → List ℕ) (list : List ℕ) (some : from < to) (keeps : (part : List ℕ) → 0 < length part → length (change part) ≡ length part) where
   part-kept : to ≤ length list → length (change (take (to - from) (drop from list))) ≡ to - from
   part-kept fits =

@@ -1,4 +1,6 @@
--- `lent::advance_lent` meets its contract: a walk of its MIR, by hand. The borrow is opened, the record is copied and passed to `advance`, of which the proof knows only that it meets its contract, and the borrow is closed at the record that `advance` gives.
+-- `lent::advance_lent` meets its contract: a walk of its MIR, by hand. The borrow is opened, the record is copied
+-- and passed to `advance`, of which the proof knows only that it meets its contract,
+-- and the borrow is closed at the record that `advance` gives.
 -- Assumes nothing.
 use mathlib.Core.Path.{_≡_, refl, ap}
 use mathlib.Core.Bool.{true}
