@@ -96,11 +96,11 @@ unfolding hostSteps stepsOf bytesSentBy
 steps-send = λ i. full-block-is 0x42 i ++ (full-block-is 0x58 i ++ [])
 
 -- Sent backwards, the one with X comes first.
-sent-backwards : sendsBackwards .host start sendTwice twoRooms ≡ record { number = 0; taken = 5; sent = 20; stored = 1; terminal = after 0x58 clear; output = fieldBlock 0x58 ++ fieldBlock 0x42 }
+sent-backwards : sendsBackwards .host start sendTwice twoRooms ≡ record { number = 0; taken = 5; sent = 20; stored = 1; refused = 0; protection = true; terminal = after 0x58 clear; output = fieldBlock 0x58 ++ fieldBlock 0x42 }
 unfolding hostSteps calls
 sent-backwards =
     ap (λ (o : Outcome). showing (placed 0 (bytesSentBy (reverse (stepsOf start (take (o .taken) sendTwice)))) twoRooms) o) (host-did start sendTwice twoRooms B-valid (omega arith) (omega (arith, ap length steps-send)))
-    ∙ (λ i. record { number = 0; taken = 5; sent = length (steps-send i); stored = 1; terminal = after 0x58 clear; output = placed 0 (full-block-is 0x58 i ++ (full-block-is 0x42 i ++ [])) twoRooms })
+    ∙ (λ i. record { number = 0; taken = 5; sent = length (steps-send i); stored = 1; refused = 0; protection = true; terminal = after 0x58 clear; output = placed 0 (full-block-is 0x58 i ++ (full-block-is 0x42 i ++ [])) twoRooms })
 
 pub sendsBackwards-breaks-copying : Copying blocksIn ourRules sendsBackwards → ⊥
 unfolding hostSteps calls streams finding HostStoresNothing blockIn blocksSent firstOf
@@ -126,11 +126,11 @@ both-send : bytesSentBy (stepsOf start askAndSend) ≡ reportBytes ++ fieldBlock
 unfolding hostSteps stepsOf bytesSentBy
 both-send = λ i. reportBytes ++ (full-block-is 0x42 i ++ [])
 
-both-sent : hostCall start askAndSend bothRooms ≡ record { number = 0; taken = 6; sent = 16; stored = 0; terminal = start; output = reportBytes ++ fieldBlock 0x42 }
+both-sent : hostCall start askAndSend bothRooms ≡ record { number = 0; taken = 6; sent = 16; stored = 0; refused = 0; protection = false; terminal = start; output = reportBytes ++ fieldBlock 0x42 }
 unfolding hostSteps calls
 both-sent =
     host-did start askAndSend bothRooms B-valid (omega arith) (omega (arith, ap length both-send))
-    ∙ (λ i. record { number = 0; taken = 6; sent = length (both-send i); stored = 0; terminal = start; output = placed 0 (both-send i) bothRooms })
+    ∙ (λ i. record { number = 0; taken = 6; sent = length (both-send i); stored = 0; refused = 0; protection = false; terminal = start; output = placed 0 (both-send i) bothRooms })
 
 -- So a host that finds blocks another way finds, or does not find, this block alone.
 found-alone : (finds : List ℕ → List (List ℕ)) → Copying finds ourRules ourEntries → (later : List (List ℕ)) × (finds (reportBytes ++ fieldBlock 0x42) ≡ firstBlock ∷ later)
