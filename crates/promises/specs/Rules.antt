@@ -34,8 +34,8 @@ steps rules t (input ∷ later) = let step = stepOf rules input t in step ∷ st
 abbrev pub byteSteps : Rules → Terminal → List ℕ → List Stepped
 byteSteps rules t bytes = steps rules t (map byte bytes)
 
--- What steps leave together, from a terminal: state and page; the bytes sent, joined; how many cells were stored and how
--- many commands refused; whether protection may have changed.
+-- What steps leave together, from a terminal: state and page; the bytes sent, joined; how many cells were stored, and
+-- how many commands refused; whether protection may have changed.
 pub record Total : Type 0 where
   pub terminal : Terminal
   pub sent : List ℕ

@@ -8,7 +8,8 @@ use Rattle.words.specs.Output.{placed}
 use Rattle.page.specs.Page.{Page}
 use Rattle.steps.specs.Steps.{Terminal, Stepped}
 use Rattle.terminal.specs.declared.Answer.{Answer}
-use Rattle.terminal.specs.declared.Answer.the-variants.{Done, WrongSize, WrongState, NoRoom, UnknownKey, Locked, TooLong, NoCell}
+use Rattle.terminal.specs.declared.Answer.the-variants.{Done, WrongSize, WrongState, NoRoom}
+use Rattle.terminal.specs.declared.Answer.the-variants.{UnknownKey, Locked, TooLong, NoCell}
 use Rattle.terminal.specs.declared.Reply.{Reply}
 use Rattle.terminal.specs.Runs.{after, bytesSentBy, cellsStoredBy, refusedBy, protectionBy}
 
@@ -22,8 +23,8 @@ numberOf Locked = 5
 numberOf TooLong = 6
 numberOf NoCell = 7
 
--- All that a call gives and leaves: the number; the bytes taken, the bytes sent, the cells stored, the commands refused;
--- whether cells may have become protected or unprotected; state and page; the output.
+-- All that a call gives and leaves: the number; the bytes taken, the bytes sent, the cells stored, the commands
+-- refused; whether cells may have become protected or unprotected; state and page; the output.
 pub record Outcome : Type 0 where
   pub number : ℕ
   pub taken : ℕ

@@ -44,8 +44,8 @@ pub record Did (taken : ℕ) (t : Terminal) (lent : List ℕ) (steps : List Step
   pub terminal : outcome .terminal ≡ after t steps
   pub output : outcome .output ≡ placed 0 (bytesSentBy steps) lent
 
--- What a host call given 3 leaves: it did the steps before the one whose transmission exceeds the room left, and took their
--- bytes only.
+-- What a host call given 3 leaves: it did the steps before the one whose transmission exceeds the room left, and took
+-- their bytes only.
 abbrev pub StopsShort : Terminal → List ℕ → List Stepped → Outcome → Type 0
 StopsShort t lent steps outcome =
     (line : Line3 (length lent) steps) × Did (length (line .before)) t lent (line .before) outcome

@@ -21,7 +21,8 @@ fitting room (step ∷ later) =
     if leb (length (bytesOf (step .transmission))) room then step ∷ further
     else []
 
--- What steps leave of a terminal; their transmissions' bytes, joined in order; the cells that they name, joined in order.
+-- What steps leave of a terminal; their transmissions' bytes, joined in order; the cells that they name, joined in
+-- order.
 unfoldable pub after : Terminal → List Stepped → Terminal
 after t [] = t
 after t (step ∷ later) = after (step .terminal) later

@@ -71,6 +71,7 @@ fn refuse_call(answer: Answer, state: State) -> Reply
     }
 }
 
+// Line 2 is not given; line 1 is tested before.
 fn is_valid(state: State, characters: &[u8], marks: &[Mark]) -> bool
     ensures { λ r. ⌜ r ≡ passesLine2 (terminalOf state (now (characters .entry)) (now (marks .entry))) ⌝ }
 {
@@ -90,6 +91,7 @@ fn count_of(holds: bool) -> usize
     0
 }
 
+// At least one of two tests holds.
 fn either(one: bool, other: bool) -> bool
     ensures { λ r. ⌜ r ≡ (one or other) ⌝ }
 {
