@@ -45,11 +45,13 @@ asRun s =
     scroll (s .bytes) (state .cursor .row) (state .cursor .column) (ran .count)
     (map (seenAt (ran .terminal .page)) (s .cells))
 
--- A at 1;1, B at 2;3, C bold and protected at 24;1: the cursor is left at 24;2, three cells are stored, and the pen stays.
+-- A at 1;1, B at 2;3, C bold and protected at 24;1: the cursor is left at 24;2, three cells are stored, and the pen
+-- stays.
 filled : List ℕ
 filled = text "A" ++ esc "[2;3H" ++ text "B" ++ esc "[24;1H" ++ esc "[1m" ++ esc "V" ++ text "C"
 
--- Each row went up: A is lost, B is in row 1, C in row 23, and the row that came in has 20 with marks 0, whatever the pen.
+-- Each row went up: A is lost, B is in row 1, C in row 23, and the row that came in has 20 with marks 0, whatever the
+-- pen.
 movedUp : List Cell
 movedUp =
     cell 1 1 0x20 0 ∷ cell 1 3 (code "B") 0 ∷ cell 2 3 0x20 0 ∷ cell 23 1 (code "C") 5
@@ -80,8 +82,9 @@ scrolled-as-worked-out : map asRun scrolls ≡ scrolls
 unfolding hostSteps streams cell seenAt scroll asRun filled movedUp movedDown scrolls
 scrolled-as-worked-out = refl
 
--- A page of 3 rows by 4 columns, small enough to be shown whole. No call takes its size, which line 1 refuses; the steps go by
--- the same rules on any R and C. Protected: 1;2 2;1 2;4 3;3, the last two with visual marks; modified: 2;2 and 3;4.
+-- A page of 3 rows by 4 columns, small enough to be shown whole. No call takes its size, which line 1 refuses; the
+-- steps go by the same rules on any R and C. Protected: 1;2 2;1 2;4 3;3, the last two with visual marks; modified: 2;2
+-- and 3;4.
 small : Terminal
 small =
     terminalWith 3 4 (pageOf

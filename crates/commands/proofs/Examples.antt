@@ -1,5 +1,5 @@
--- The definitions of the commands, computed on streams worked out by hand from document 01, each from a fresh page of 24 by 80.
--- (What they leave in the cells is shown in Cells.)
+-- The definitions of the commands, computed on streams worked out by hand from document 01, each from a fresh page of
+-- 24 by 80. (What they leave in the cells is shown in Cells.)
 use mathlib.Core.Path.{_≡_, refl}
 use mathlib.Core.List.{List, [], _∷_, _++_, map}
 use mathlib.Core.Bool.{Bool, true, false}
@@ -108,7 +108,8 @@ examples =
     -- 1 ; 99 m bolds nothing; 1 ; 0 ; 4 ; 8 m is underlined and concealed
     ∷ gives (esc "[1;99m") 1 1 true 0 0 []
     ∷ gives (esc "[1;0;4;8m") 1 1 false 72 0 []
-    -- 4 m and ESC V: underlined and protected, 9; 1 ; 99 m is refused and leaves it so; 0 m keeps protection, ESC W the rest
+    -- 4 m and ESC V: underlined and protected, 9; 1 ; 99 m is refused and leaves it so; 0 m keeps protection, ESC W the
+    -- rest
     ∷ gives (esc "[4m" ++ esc "V") 1 1 false 9 0 []
     ∷ gives (esc "[4m" ++ esc "V" ++ esc "[1;99m") 1 1 true 9 0 []
     ∷ gives (esc "[4m" ++ esc "V" ++ esc "[0m") 1 1 false 1 0 []

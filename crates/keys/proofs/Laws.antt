@@ -1,4 +1,5 @@
--- The cursor's cell and the rest of its field as the code finds them, and what a search of the fields says of their list.
+-- The cursor's cell and the rest of its field as the code finds them, and what a search of the fields says of their
+-- list.
 use mathlib.Core.Path.{_≡_, refl, sym, ap, _∙_}
 use mathlib.Core.Bool.{Bool, true, false, not}
 use mathlib.Core.List.{List, [], _∷_}
