@@ -19,7 +19,7 @@ use Rattle.fields.specs.Fields.{opensStretch, joined, startsField}
 use Rattle.output.specs.Decimal.{decimal}
 use Rattle.blocks.specs.Blocks.{block}
 use Rattle.blocks.proofs.Claims.{Whole, blankForm, firstAndEven}
-use Rattle.blocks.proofs.Listing.{joined-cell-free, joined-starts-not, protected-starts-not}
+use Rattle.blocks.proofs.Listing.{joined-cell-unprotected, joined-starts-not, protected-starts-not}
 use Rattle.blocks.proofs.Weighing.{total, total-append, total-same, opening, weight, block-length, no-longer}
 
 -- A cell by the rows above it and the columns to its left:
@@ -36,7 +36,7 @@ record Most : Type 0 where
   after-unprotected : ℕ
 
 mostAfter : Bool → Most → ℕ
-mostAfter free bound = if free then bound .after-unprotected else bound .after-protected
+mostAfter isUnprotected bound = if isUnprotected then bound .after-unprotected else bound .after-protected
 
 -- One cell more, in front of these: if it is unprotected, it starts a field or belongs to that of the cell before it.
 oneMore : Bool → ℕ → Most → Most
@@ -57,8 +57,8 @@ mostOfRows columns above zero = record { after-protected = 0; after-unprotected 
 mostOfRows columns above (suc n) = let below = mostOfRows columns (above + 1) n in most above 0 columns below
 
 -- What it adds keeps to this bound, if what comes after it does.
-one-more : (free before opens : Bool) (added later start : ℕ) (bound : Most)
-    → (free ≡ false → added ≡ 0) → (opens ≡ false → before ≡ true → free ≡ true → added ≡ 1) → added ≤ start + 1 → later ≤ mostAfter free bound
+one-more : (isUnprotected before opens : Bool) (added later start : ℕ) (bound : Most)
+    → (isUnprotected ≡ false → added ≡ 0) → (opens ≡ false → before ≡ true → isUnprotected ≡ true → added ≡ 1) → added ≤ start + 1 → later ≤ mostAfter isUnprotected bound
     → added + later ≤ mostAfter before (oneMore opens start bound)
 unfolding if_then_else_ mostAfter oneMore
 one-more false true true added later start bound none one most h = omega (arith, none refl)
@@ -68,25 +68,25 @@ one-more true true true added later start bound none one most h = omega arith
 one-more true true false added later start bound none one most h = omega (arith, one refl refl refl)
 one-more true false opens added later start bound none one most h = omega arith
 
-module _ (free : ℕ → Bool) (columns : ℕ) where
+module _ (isUnprotected : ℕ → Bool) (columns : ℕ) where
   -- What a cell adds: nothing if it is protected, one byte if it is joined to the one before it,
   -- and in any case no more than a start and a byte.
-  protected-weight : (cell : ℕ) → free cell ≡ false → weight free columns cell ≡ 0
+  protected-weight : (cell : ℕ) → isUnprotected cell ≡ false → weight isUnprotected columns cell ≡ 0
   unfolding weight if_then_else_
-  protected-weight cell f = rw (protected-starts-not free columns cell f, f)
+  protected-weight cell f = rw (protected-starts-not isUnprotected columns cell f, f)
 
-  joined-weight : (cell : ℕ) → joined free (placeOf columns cell) ≡ true → weight free columns cell ≡ 1
+  joined-weight : (cell : ℕ) → joined isUnprotected (placeOf columns cell) ≡ true → weight isUnprotected columns cell ≡ 1
   unfolding weight if_then_else_
-  joined-weight cell j = rw (joined-starts-not free columns cell j, joined-cell-free free columns cell j)
+  joined-weight cell j = rw (joined-starts-not isUnprotected columns cell j, joined-cell-unprotected isUnprotected columns cell j)
 
-  any-weight : (cell : ℕ) → weight free columns cell ≤ opening columns cell + 1
+  any-weight : (cell : ℕ) → weight isUnprotected columns cell ≤ opening columns cell + 1
   unfolding weight
   any-weight cell =
-      let one : (if free cell then 1 else 0) ≤ 1 = either-line (λ (n : ℕ). n ≤ 1) (free cell) _ _ (λ _. omega arith) (λ _. omega arith) in
-      either-line (λ (n : ℕ). n + (if free cell then 1 else 0) ≤ opening columns cell + 1) (startsField free (placeOf columns cell)) _ _ (λ _. omega arith) (λ _. omega arith)
+      let one : (if isUnprotected cell then 1 else 0) ≤ 1 = either-line (λ (n : ℕ). n ≤ 1) (isUnprotected cell) _ _ (λ _. omega arith) (λ _. omega arith) in
+      either-line (λ (n : ℕ). n + (if isUnprotected cell then 1 else 0) ≤ opening columns cell + 1) (startsField isUnprotected (placeOf columns cell)) _ _ (λ _. omega arith) (λ _. omega arith)
 
   module _ (above left : ℕ) (fits : left < columns) where
-    start-weight : weight free columns (above * columns + left) ≤ needed above left + 1
+    start-weight : weight isUnprotected columns (above * columns + left) ≤ needed above left + 1
     unfolding opening placeOf needed
     start-weight = rw (digits-div above fits, digits-mod above fits) at (any-weight (above * columns + left))
 
@@ -94,13 +94,13 @@ module _ (free : ℕ → Bool) (columns : ℕ) where
     unfolding opensStretch placeOf opensAt
     opens-at = rw (digits-mod above fits, add-one left) (eqb·suc-suc left 0)
 
-    inside-weight : opensAt above left ≡ false → free (above * columns + left - 1) ≡ true → free (above * columns + left) ≡ true → weight free columns (above * columns + left) ≡ 1
+    inside-weight : opensAt above left ≡ false → isUnprotected (above * columns + left - 1) ≡ true → isUnprotected (above * columns + left) ≡ true → weight isUnprotected columns (above * columns + left) ≡ 1
     unfolding joined placeOf
     inside-weight inside before here = joined-weight (above * columns + left) (both-hold _ _ (ap not (opens-at ∙ inside)) (both-hold _ _ before here))
 
   -- The n cells at the end of a row with what comes after it, and the last n rows.
-  row-from : (above n left : ℕ) (behind : Most) (rest : ℕ) → left + n ≡ columns → rest ≤ mostAfter (free (above * columns + columns - 1)) behind
-      → total (weight free columns) (above * columns + left) n + rest ≤ mostAfter (free (above * columns + left - 1)) (most above left n behind)
+  row-from : (above n left : ℕ) (behind : Most) (rest : ℕ) → left + n ≡ columns → rest ≤ mostAfter (isUnprotected (above * columns + columns - 1)) behind
+      → total (weight isUnprotected columns) (above * columns + left) n + rest ≤ mostAfter (isUnprotected (above * columns + left - 1)) (most above left n behind)
   unfolding total most
   row-from above zero left behind rest e h = let at-end : left ≡ columns = omega arith in rw at-end (omega arith)
   row-from above (suc n) left behind rest e h =
@@ -111,11 +111,11 @@ module _ (free : ℕ → Bool) (columns : ℕ) where
       let later = rw (next, before-next) at (row-from above n (left + 1) behind rest (omega arith) h) in
       omega (
         arith,
-        one-more (free cell) (free (cell - 1)) (opensAt above left) (weight free columns cell) _ (needed above left) _
+        one-more (isUnprotected cell) (isUnprotected (cell - 1)) (opensAt above left) (weight isUnprotected columns cell) _ (needed above left) _
             (protected-weight cell) (inside-weight above left fits) (start-weight above left fits) later,
       )
 
-  rows-from : (n above : ℕ) → total (weight free columns) (above * columns) (n * columns) ≤ mostAfter (free (above * columns - 1)) (mostOfRows columns above n)
+  rows-from : (n above : ℕ) → total (weight isUnprotected columns) (above * columns) (n * columns) ≤ mostAfter (isUnprotected (above * columns - 1)) (mostOfRows columns above n)
   unfolding mostOfRows total
   rows-from zero above = rw (zero-mul columns) (omega arith)
   rows-from (suc n) above =
@@ -164,43 +164,43 @@ largest-is : mostOfRows 160 0 48 ≡ largest
 unfolding mostOfRows most oneMore opensAt needed decimal if_then_else_ largest
 largest-is = refl
 
-below-largest : (free : Bool) (bound : Most) → NotAbove bound largest → mostAfter free bound ≤ 35184
+below-largest : (isUnprotected : Bool) (bound : Most) → NotAbove bound largest → mostAfter isUnprotected bound ≤ 35184
 unfolding mostAfter largest
-below-largest free bound h = either-line (λ (n : ℕ). n ≤ 35184) free _ _ (λ _. h .unprotected-case) (λ _. h .protected-case)
+below-largest isUnprotected bound h = either-line (λ (n : ℕ). n ≤ 35184) isUnprotected _ _ (λ _. h .unprotected-case) (λ _. h .protected-case)
 
 pub bounded : (full : Bool) (rows columns : ℕ) (page : Page) → rows ≤ 48 → columns ≤ 160 → length (page .marks) ≡ rows * columns → Whole page
     → length (block full columns page) ≤ 35185
 bounded full rows columns page few narrow size whole =
-    let free = unprotected (page .marks) in
+    let isUnprotected = unprotected (page .marks) in
     let wider : columns + (160 - columns) ≡ 160 = omega arith in
     let more : rows + (48 - rows) ≡ 48 = omega arith in
     let first : 0 * columns ≡ 0 = zero-mul columns in
-    let sum : total (weight free columns) 0 (rows * columns) ≤ mostAfter (free 0) (mostOfRows columns 0 rows) = rw first at (rows-from free columns rows 0) in
+    let sum : total (weight isUnprotected columns) 0 (rows * columns) ≤ mostAfter (isUnprotected 0) (mostOfRows columns 0 rows) = rw first at (rows-from isUnprotected columns rows 0) in
     let bound : NotAbove (mostOfRows columns 0 rows) largest = rw (wider, more, largest-is) at (more-rows columns (160 - columns) rows (48 - rows) 0) in
-    omega (arith, no-longer full columns page, rw size at (block-length columns page whole), below-largest (free 0) _ bound)
+    omega (arith, no-longer full columns page, rw size at (block-length columns page whole), below-largest (isUnprotected 0) _ bound)
 
 -- The block of a blank form, by the cells that are to be unprotected.
-module _ (free : ℕ → Bool) (cells : ℕ) where
-  form-marks : length (blankForm free cells .marks) ≡ cells
+module _ (isUnprotected : ℕ → Bool) (cells : ℕ) where
+  form-marks : length (blankForm isUnprotected cells .marks) ≡ cells
   form-marks = length-each _ 0 (replicate cells 0) ∙ length-replicate cells 0
 
-  form-free : (cell : ℕ) → cell < cells → unprotected (blankForm free cells .marks) cell ≡ free cell
+  form-unprotected : (cell : ℕ) → cell < cells → unprotected (blankForm isUnprotected cells .marks) cell ≡ isUnprotected cell
   unfolding unprotected if_then_else_
-  form-free cell h =
+  form-unprotected cell h =
       let listed : cell < length (replicate {A = ℕ} cells 0) = omega (arith, length-replicate {A = ℕ} cells 0) in
       let same : 0 + cell ≡ cell = omega arith in
-      rw (getD-each (λ k m. if free k then 0 else 1) 0 (replicate cells 0) cell listed, same) (either-way (free cell) (λ f. rw f) (λ f. rw f))
+      rw (getD-each (λ k m. if isUnprotected k then 0 else 1) 0 (replicate cells 0) cell listed, same) (either-way (isUnprotected cell) (λ f. rw f) (λ f. rw f))
 
   -- What a cell adds is told by it and the cell before it.
-  same-weight : (other : ℕ → Bool) (columns cell : ℕ) → other cell ≡ free cell → other (cell - 1) ≡ free (cell - 1) → weight other columns cell ≡ weight free columns cell
+  same-weight : (other : ℕ → Bool) (columns cell : ℕ) → other cell ≡ isUnprotected cell → other (cell - 1) ≡ isUnprotected (cell - 1) → weight other columns cell ≡ weight isUnprotected columns cell
   unfolding weight startsField joined placeOf
   same-weight other columns cell e b = rw (e, b)
 
-  form-length : (columns : ℕ) → length (block true columns (blankForm free cells)) ≡ 1 + total (weight free columns) 0 cells
+  form-length : (columns : ℕ) → length (block true columns (blankForm isUnprotected cells)) ≡ 1 + total (weight isUnprotected columns) 0 cells
   form-length columns =
-      let marks = blankForm free cells .marks in
-      block-length columns (blankForm free cells) (length-replicate cells 0x20 ∙ sym form-marks)
-      ∙ rw form-marks (ap (λ (sum : ℕ). 1 + sum) (total-same _ _ 0 cells (λ k l h. same-weight (unprotected marks) columns k (form-free k (omega arith)) (form-free (k - 1) (omega arith)))))
+      let marks = blankForm isUnprotected cells .marks in
+      block-length columns (blankForm isUnprotected cells) (length-replicate cells 0x20 ∙ sym form-marks)
+      ∙ rw form-marks (ap (λ (sum : ℕ). 1 + sum) (total-same _ _ 0 cells (λ k l h. same-weight (unprotected marks) columns k (form-unprotected k (omega arith)) (form-unprotected (k - 1) (omega arith)))))
 
 all-added : total (weight firstAndEven 160) 0 7680 ≡ 35184
 unfolding total weight firstAndEven startsField joined opensStretch placeOf opening decimal if_then_else_ _and_ _or_

@@ -53,10 +53,10 @@ UnmodifiedKept p q =
 
 -- A page of 20s on which just these cells are unprotected.
 abbrev pub blankForm : (ℕ → Bool) → ℕ → Page
-blankForm free cells =
+blankForm cell-unprotected cells =
     record {
       characters = replicate cells 0x20;
-      marks = each (λ cell mark. if free cell then 0 else 1) (replicate cells 0);
+      marks = each (λ cell mark. if cell-unprotected cell then 0 else 1) (replicate cells 0);
     }
 
 -- Of 160 columns, the first and the even ones.

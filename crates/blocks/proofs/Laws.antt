@@ -36,8 +36,8 @@ module _ (marks : List ℕ) (cell to : ℕ) where
   modified-nowhere h = let none : to - cell ≡ 0 = omega arith in rw none
 
 -- the end of a field that starts on the page
-pub end-bounds : (free : ℕ → Bool) (columns cells cell : ℕ) → cell < cells → (cell < fieldEnd free columns cells cell) × (fieldEnd free columns cells cell ≤ cells)
-end-bounds free columns cells cell h = let end = end-of free columns cells cell h in (end .high, end .on-page)
+pub end-bounds : (isUnprotected : ℕ → Bool) (columns cells cell : ℕ) → cell < cells → (cell < fieldEnd isUnprotected columns cells cell) × (fieldEnd isUnprotected columns cells cell ≤ cells)
+end-bounds isUnprotected columns cells cell h = let end = end-of isUnprotected columns cells cell h in (end .high, end .on-page)
 
 -- What the block has for a place that was counted right.
 module _ (full : Bool) (columns : ℕ) (page : Page) (place : Place) (right : place ≡ placeOf columns (place .cell)) where

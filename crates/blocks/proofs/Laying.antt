@@ -20,7 +20,7 @@ use Rattle.fields.specs.Fields.{Field, fieldEnd, fieldsOf}
 use Rattle.blocks.specs.Blocks.{Entry, entryOf, someModified, isInBlock, entriesSent, block}
 use Rattle.blocks.specs.Lay.{samePlace, laidOn, lay}
 use Rattle.blocks.proofs.Claims.{Sendable, fieldsOn, SameForm, UnmodifiedKept}
-use Rattle.blocks.proofs.Listing.{Listed, listed, field-bounds, field-free}
+use Rattle.blocks.proofs.Listing.{Listed, listed, field-bounds, field-unprotected}
 use Rattle.blocks.proofs.Pages.{ListedOn, decode-block, all-sent}
 
 -- A row and a column tell the cell.
@@ -31,10 +31,10 @@ cell-told columns j k row column =
     sym (div-add-mod' j columns) ∙ (λ i. above i * columns + left i) ∙ div-add-mod' k columns
 
 -- The entries of two pages' fields: at one place exactly where it is one field.
-module _ (free : ℕ → Bool) (columns cells : ℕ) (old new : List ℕ) where
-  same-field : (a b : Field) → Listed free columns cells a → Listed free columns cells b → a .start ≡ b .start → a ≡ b
+module _ (isUnprotected : ℕ → Bool) (columns cells : ℕ) (old new : List ℕ) where
+  same-field : (a b : Field) → Listed isUnprotected columns cells a → Listed isUnprotected columns cells b → a .start ≡ b .start → a ≡ b
   same-field a b p q e =
-      let size : a .length ≡ b .length = p .whole ∙ ap (λ (cell : ℕ). fieldEnd free columns cells cell - cell) e ∙ sym (q .whole) in
+      let size : a .length ≡ b .length = p .whole ∙ ap (λ (cell : ℕ). fieldEnd isUnprotected columns cells cell - cell) e ∙ sym (q .whole) in
       λ i. record { start = e i; length = size i }
 
   here : (field : Field) → samePlace (entryOf columns new field) (entryOf columns old field) ≡ true
@@ -52,8 +52,8 @@ module _ (free : ℕ → Bool) (columns cells : ℕ) (old new : List ℕ) where
   abbrev Renewed : (Field → Bool) → List Field → Field → Type 0
   Renewed sent fields field = laidOn (map (entryOf columns new) (selected sent fields)) (entryOf columns old field) ≡ entryOf columns new field
 
-  laid-field : (sent : Field → Bool) (fields : List Field) → ((field : Field) → List·Memᴰ field fields → Listed free columns cells field)
-      → (field : Field) → Listed free columns cells field
+  laid-field : (sent : Field → Bool) (fields : List Field) → ((field : Field) → List·Memᴰ field fields → Listed isUnprotected columns cells field)
+      → (field : Field) → Listed isUnprotected columns cells field
       → (sent field ≡ true → List·Memᴰ field fields)
       → (sent field ≡ false → entryOf columns old field ≡ entryOf columns new field)
       → Renewed sent fields field
@@ -137,4 +137,4 @@ module _ (columns : ℕ) (p q : Page) (sendable-p : Sendable columns p) (sendabl
           let place = placeOf columns (field .start) in
           ap (λ (characters : List ℕ). record { row = place .row; column = place .column; characters = characters })
           (same-part (p .characters) (q .characters) (field .length) (field .start) (sym (same .size .characters))
-          (λ k l h. unchanged k (omega arith) (field-free _ _ _ field is k l h) (unmodified (q .marks) (field .length) (field .start) k (neither unsent .1) l h)))
+          (λ k l h. unchanged k (omega arith) (field-unprotected _ _ _ field is k l h) (unmodified (q .marks) (field .length) (field .start) k (neither unsent .1) l h)))

@@ -19,7 +19,7 @@ use Rattle.blocks.specs.Blocks.{encode, entryOf, someModified, isInBlock
 use Rattle.blocks.specs.Decode.{decode, validEntry}
 use Rattle.blocks.proofs.Claims.{Sendable, fieldsOn, NothingModified}
 use Rattle.blocks.proofs.Decoding.{decode-encode}
-use Rattle.blocks.proofs.Listing.{Listed, listed, field-bounds, field-free}
+use Rattle.blocks.proofs.Listing.{Listed, listed, field-bounds, field-unprotected}
 
 -- A field of a page's list.
 abbrev pub ListedOn : ℕ → Page → Field → Type 0
@@ -67,4 +67,4 @@ module _ (columns : ℕ) (page : Page) where
       unsent field m =
           let is : ListedOn columns page field = listed _ _ _ field m in
           let bounds = field-bounds _ _ _ field is in
-          second-decides false _ refl ∙ none-modified (field .length) (field .start) (λ k l h. unmodified k (omega arith) (field-free _ _ _ field is k l h))
+          second-decides false _ refl ∙ none-modified (field .length) (field .start) (λ k l h. unmodified k (omega arith) (field-unprotected _ _ _ field is k l h))

@@ -19,7 +19,7 @@ use Rattle.blocks.specs.Blocks.{Entry, entryOf, entriesSent, block}
 use Rattle.page.proofs.Keeping.{SameSize}
 use Rattle.blocks.proofs.Claims.{Sendable, Whole, fieldsOn, FilledAlike}
 use Rattle.blocks.proofs.Decoding.{encode-injective}
-use Rattle.blocks.proofs.Listing.{listed, field-bounds, cellsOf, free-cells}
+use Rattle.blocks.proofs.Listing.{listed, field-bounds, cellsOf, unprotected-cells}
 use Rattle.blocks.proofs.Pages.{ListedOn, valid-entries, all-sent}
 
 -- The field of an entry.
@@ -27,8 +27,8 @@ fieldTold : ℕ → Entry → Field
 fieldTold columns entry = record { start = cellAt columns (entry .row) (entry .column); length = length (entry .characters) }
 
 -- The unprotected cells of a page, in order.
-abbrev freeOn : Page → List ℕ
-freeOn page = numbersFrom (unprotected (page .marks)) 0 (length (page .marks))
+abbrev unprotectedOn : Page → List ℕ
+unprotectedOn page = numbersFrom (unprotected (page .marks)) 0 (length (page .marks))
 
 -- A part of a list, by its places.
 part-is : (list : List ℕ) (n i : ℕ) → i + n ≤ length list → take n (drop i list) ≡ map (λ k. getD list k 0) (numbersFrom (λ _. true) i n)
@@ -62,9 +62,9 @@ module _ (columns : ℕ) (page : Page) (whole : Whole page) where
       (map-same (λ field. fieldTold columns (entryOf columns (page .characters) field)) (λ field. field) (fieldsOn columns page) (λ field m. field-told field (listed _ _ _ field m))
       ∙ map-id (fieldsOn columns page))
 
-  cells-told : flatMap (λ (entry : Entry). entry .characters) (entriesSent true columns page) ≡ map (λ k. getD (page .characters) k 0) (freeOn page)
+  cells-told : flatMap (λ (entry : Entry). entry .characters) (entriesSent true columns page) ≡ map (λ k. getD (page .characters) k 0) (unprotectedOn page)
   cells-told =
-      rw (all-sent columns page, free-cells (unprotected (page .marks)) columns (length (page .marks)))
+      rw (all-sent columns page, unprotected-cells (unprotected (page .marks)) columns (length (page .marks)))
       (characters-told columns (page .characters) (fieldsOn columns page) (λ field m. omega (arith, field-bounds _ _ _ field (listed _ _ _ field m))))
 
 -- Two tests that list the same places agree on these.
@@ -83,12 +83,12 @@ module _ (columns : ℕ) (p q : Page) (size : SameSize p q) (whole-p : Whole p) 
     same-fields : fieldsOn columns p ≡ fieldsOn columns q
     same-fields = sym (fields-told columns p whole-p) ∙ ap (map (fieldTold columns)) same ∙ fields-told columns q whole-q
 
-    same-free : freeOn p ≡ freeOn q
-    same-free = free-cells _ columns _ ∙ ap (flatMap cellsOf) same-fields ∙ sym (free-cells _ columns _)
+    same-unprotected-cells : unprotectedOn p ≡ unprotectedOn q
+    same-unprotected-cells = unprotected-cells _ columns _ ∙ ap (flatMap cellsOf) same-fields ∙ sym (unprotected-cells _ columns _)
 
-    same-characters : map (λ k. getD (p .characters) k 0) (freeOn q) ≡ map (λ k. getD (q .characters) k 0) (freeOn q)
+    same-characters : map (λ k. getD (p .characters) k 0) (unprotectedOn q) ≡ map (λ k. getD (q .characters) k 0) (unprotectedOn q)
     same-characters =
-        ap (map (λ k. getD (p .characters) k 0)) (sym same-free)
+        ap (map (λ k. getD (p .characters) k 0)) (sym same-unprotected-cells)
         ∙ sym (cells-told columns p whole-p) ∙ ap (flatMap (λ (entry : Entry). entry .characters)) same ∙ cells-told columns q whole-q
 
     filled-alike : FilledAlike columns p q
@@ -96,8 +96,8 @@ module _ (columns : ℕ) (p q : Page) (size : SameSize p q) (whole-p : Whole p) 
         record {
           entries = same;
           fields = same-fields;
-          form = record { size = size; unprotected-cells = λ k h. same-places (unprotected (p .marks)) (unprotected (q .marks)) _ _ k same-free (omega arith) h };
-          characters = λ k h f. map-tells _ _ k (freeOn q) same-characters (place-listed (unprotected (q .marks)) k 0 _ (omega arith) (omega arith) f);
+          form = record { size = size; unprotected-cells = λ k h. same-places (unprotected (p .marks)) (unprotected (q .marks)) _ _ k same-unprotected-cells (omega arith) h };
+          characters = λ k h f. map-tells _ _ k (unprotectedOn q) same-characters (place-listed (unprotected (q .marks)) k 0 _ (omega arith) (omega arith) f);
         }
 
   pub equal-blocks : Sendable columns p → Sendable columns q → block true columns p ≡ block true columns q → FilledAlike columns p q

@@ -16,7 +16,7 @@ use Rattle.fields.specs.Fields.{startsField, Field, fieldsFrom, fieldsOf}
 use Rattle.output.specs.Decimal.{decimal, placeBytes}
 use Rattle.blocks.specs.Blocks.{Entry, entryBytes, encode, entryOf, isInBlock, entriesSent, block}
 use Rattle.blocks.proofs.Claims.{Whole, fieldsOn}
-use Rattle.blocks.proofs.Listing.{listed, field-bounds, cellsOf, free-cells}
+use Rattle.blocks.proofs.Listing.{listed, field-bounds, cellsOf, unprotected-cells}
 use Rattle.blocks.proofs.Pages.{all-sent}
 
 -- What f gives at the n places from i on, added up.
@@ -48,7 +48,7 @@ opening columns cell = 4 + length (decimal (placeOf columns cell .row)) + length
 
 -- What a cell adds to a full block.
 unfoldable pub weight : (ℕ → Bool) → ℕ → ℕ → ℕ
-weight free columns cell = (if startsField free (placeOf columns cell) then opening columns cell else 0) + (if free cell then 1 else 0)
+weight isUnprotected columns cell = (if startsField isUnprotected (placeOf columns cell) then opening columns cell else 0) + (if isUnprotected cell then 1 else 0)
 
 -- The length of the entries of a list of fields: what their starts need, and a byte for each cell.
 openings : ℕ → List Field → ℕ
@@ -74,19 +74,19 @@ encode-length columns characters (field ∷ fields) h =
       run-length (field .start) (field .length),
     )
 
-openings-total : (free : ℕ → Bool) (columns cells n cell : ℕ) → openings columns (fieldsFrom free columns cells cell n) ≡ total (λ k. if startsField free (placeOf columns k) then opening columns k else 0) cell n
+openings-total : (isUnprotected : ℕ → Bool) (columns cells n cell : ℕ) → openings columns (fieldsFrom isUnprotected columns cells cell n) ≡ total (λ k. if startsField isUnprotected (placeOf columns k) then opening columns k else 0) cell n
 unfolding openings fieldsFrom total if_then_else_
-openings-total free columns cells zero cell = refl
-openings-total free columns cells (suc n) cell =
-    let later = openings-total free columns cells n (cell + 1) in
-    either-way (startsField free (placeOf columns cell)) (λ s. rw s (omega arith)) (λ s. rw s (omega arith))
+openings-total isUnprotected columns cells zero cell = refl
+openings-total isUnprotected columns cells (suc n) cell =
+    let later = openings-total isUnprotected columns cells n (cell + 1) in
+    either-way (startsField isUnprotected (placeOf columns cell)) (λ s. rw s (omega arith)) (λ s. rw s (omega arith))
 
-places-total : (free : ℕ → Bool) (n i : ℕ) → length (numbersFrom free i n) ≡ total (λ k. if free k then 1 else 0) i n
+places-total : (isUnprotected : ℕ → Bool) (n i : ℕ) → length (numbersFrom isUnprotected i n) ≡ total (λ k. if isUnprotected k then 1 else 0) i n
 unfolding numbersFrom total if_then_else_
-places-total free zero i = refl
-places-total free (suc n) i =
-    let later = places-total free n (i + 1) in
-    either-way (free i) (λ f. rw f (omega arith)) (λ f. rw f (omega arith))
+places-total isUnprotected zero i = refl
+places-total isUnprotected (suc n) i =
+    let later = places-total isUnprotected n (i + 1) in
+    either-way (isUnprotected i) (λ f. rw f (omega arith)) (λ f. rw f (omega arith))
 
 fewer-no-longer : (entry : Field → Entry) (chosen : Field → Bool) (fields : List Field) → length (encode (map entry (selected chosen fields))) ≤ length (encode (map entry fields))
 unfolding encode selected
@@ -101,16 +101,16 @@ fewer-no-longer entry chosen (field ∷ fields) =
 pub block-length : (columns : ℕ) (page : Page) → Whole page → length (block true columns page) ≡ 1 + total (weight (unprotected (page .marks)) columns) 0 (length (page .marks))
 unfolding block weight fieldsOf
 block-length columns page whole =
-    let free = unprotected (page .marks) in
+    let isUnprotected = unprotected (page .marks) in
     let cells = length (page .marks) in
     omega (
       arith,
       ap (λ (entries : List Entry). length (encode entries)) (all-sent columns page),
       encode-length columns (page .characters) (fieldsOn columns page) (λ field m. omega (arith, field-bounds _ _ _ field (listed _ _ _ field m))),
-      openings-total free columns cells cells 0,
-      ap length (free-cells free columns cells),
-      places-total free cells 0,
-      total-sum (λ k. if startsField free (placeOf columns k) then opening columns k else 0) (λ k. if free k then 1 else 0) 0 cells,
+      openings-total isUnprotected columns cells cells 0,
+      ap length (unprotected-cells isUnprotected columns cells),
+      places-total isUnprotected cells 0,
+      total-sum (λ k. if startsField isUnprotected (placeOf columns k) then opening columns k else 0) (λ k. if isUnprotected k then 1 else 0) 0 cells,
     )
 
 -- No block is longer than the full one.

@@ -1,5 +1,5 @@
 -- What the theorems claim: the words of document 01, "Fields, keys and blocks", as types.
--- `free` and `cells` are as in specs/Fields.antt.
+-- `unprotected` and `cells` are as in specs/Fields.antt.
 use mathlib.Core.Path.{_≡_}
 use mathlib.Core.Bool.{Bool, true, false}
 use mathlib.Core.List.{List, [], _∷_, List·Memᴰ}
@@ -22,33 +22,33 @@ field has cell = (field .start ≤ cell) × (cell < endOf field)
 -- A field can't be made longer: no cell can be added before it, nor after it.
 -- Cell / columns is the row, counted from 0.
 -- A stretch opens at the left margin, so a cell there does not follow on the one before.
-pub record IsField (free : ℕ → Bool) (columns cells : ℕ) (field : Field) : Type 0 where
+pub record IsField (isUnprotected : ℕ → Bool) (columns cells : ℕ) (field : Field) : Type 0 where
   pub some-cells : 1 ≤ field .length
   pub on-page : endOf field ≤ cells
-  pub all-unprotected : (cell : ℕ) → field has cell → free cell ≡ true
+  pub all-unprotected : (cell : ℕ) → field has cell → isUnprotected cell ≡ true
   pub one-row : field .start / columns ≡ (endOf field - 1) / columns
-  pub none-before : (opensStretch (placeOf columns (field .start)) ≡ true) ⊎ (free (field .start - 1) ≡ false)
-  pub none-after : (endOf field ≡ cells) ⊎ ((opensStretch (placeOf columns (endOf field)) ≡ true) ⊎ (free (endOf field) ≡ false))
+  pub none-before : (opensStretch (placeOf columns (field .start)) ≡ true) ⊎ (isUnprotected (field .start - 1) ≡ false)
+  pub none-after : (endOf field ≡ cells) ⊎ ((opensStretch (placeOf columns (endOf field)) ≡ true) ⊎ (isUnprotected (endOf field) ≡ false))
 
 -- The field around a cell, by its two bounds.
 abbrev pub fieldAround : (ℕ → Bool) → ℕ → ℕ → ℕ → Field
-fieldAround free columns cells cell =
+fieldAround isUnprotected columns cells cell =
     record {
-      start = fieldStart free columns cell;
-      length = fieldEnd free columns cells cell - fieldStart free columns cell;
+      start = fieldStart isUnprotected columns cell;
+      length = fieldEnd isUnprotected columns cells cell - fieldStart isUnprotected columns cell;
     }
 
-pub record IsAround (free : ℕ → Bool) (columns cells cell : ℕ) : Type 0 where
-  pub is-field : IsField free columns cells (fieldAround free columns cells cell)
-  pub has-cell : (fieldStart free columns cell ≤ cell) × (cell < fieldEnd free columns cells cell)
-  pub one-end : fieldEnd free columns cells (fieldStart free columns cell) ≡ fieldEnd free columns cells cell
+pub record IsAround (isUnprotected : ℕ → Bool) (columns cells cell : ℕ) : Type 0 where
+  pub is-field : IsField isUnprotected columns cells (fieldAround isUnprotected columns cells cell)
+  pub has-cell : (fieldStart isUnprotected columns cell ≤ cell) × (cell < fieldEnd isUnprotected columns cells cell)
+  pub one-end : fieldEnd isUnprotected columns cells (fieldStart isUnprotected columns cell) ≡ fieldEnd isUnprotected columns cells cell
 
 -- From the one bound to the other all cells are unprotected.
 -- This asks nothing of the numbers: the cell may be past the page.
-pub record FreeAround (free : ℕ → Bool) (columns cells cell : ℕ) : Type 0 where
-  pub low : fieldStart free columns cell ≤ cell
-  pub high : cell < fieldEnd free columns cells cell
-  pub all-unprotected : (k : ℕ) → fieldStart free columns cell ≤ k → k < fieldEnd free columns cells cell → free k ≡ true
+pub record UnprotectedAround (isUnprotected : ℕ → Bool) (columns cells cell : ℕ) : Type 0 where
+  pub low : fieldStart isUnprotected columns cell ≤ cell
+  pub high : cell < fieldEnd isUnprotected columns cells cell
+  pub all-unprotected : (k : ℕ) → fieldStart isUnprotected columns cell ≤ k → k < fieldEnd isUnprotected columns cells cell → isUnprotected k ≡ true
 
 -- Page order: each field ends at or before the start of every later one.
 -- (By membership: no claim needs a field's index in the list.)
@@ -57,10 +57,10 @@ pub data InOrder : List Field → Type 0 where
   one-more : {field : Field} {later : List Field} → ((other : Field) → List·Memᴰ other later → endOf field ≤ other .start) → InOrder later → InOrder (field ∷ later)
 
 -- The list has the page's fields and no others, they have every unprotected cell, and it is in page order.
-pub record Lists (free : ℕ → Bool) (columns cells : ℕ) (fields : List Field) : Type 0 where
-  pub only-fields : (field : Field) → List·Memᴰ field fields → IsField free columns cells field
-  pub every-field : (field : Field) → IsField free columns cells field → List·Memᴰ field fields
-  pub every-cell : (cell : ℕ) → cell < cells → free cell ≡ true → (field : Field) × List·Memᴰ field fields × (field has cell)
+pub record Lists (isUnprotected : ℕ → Bool) (columns cells : ℕ) (fields : List Field) : Type 0 where
+  pub only-fields : (field : Field) → List·Memᴰ field fields → IsField isUnprotected columns cells field
+  pub every-field : (field : Field) → IsField isUnprotected columns cells field → List·Memᴰ field fields
+  pub every-cell : (cell : ℕ) → cell < cells → isUnprotected cell ≡ true → (field : Field) × List·Memᴰ field fields × (field has cell)
   pub in-order : InOrder fields
 
 -- A field of the list starts at the cell.

@@ -1,4 +1,4 @@
--- Laws of stretches and of joined cells, over any test `free` of which cells are unprotected.
+-- Laws of stretches and of joined cells, over any test `unprotected` of which cells are unprotected.
 use mathlib.Core.Path.{_≡_, refl, ap, _∙_}
 use mathlib.Core.Bool.{Bool, true, false, not}
 use mathlib.Core.Logic.{_⊎_, inl, inr, ⊎-elim}
@@ -48,44 +48,44 @@ module _ (columns : ℕ) (some : 0 < columns) where
       (eq-or-lt-of-le low)
 
 -- Two cells are joined, or there is a reason why not.
-module _ (free : ℕ → Bool) (place : Place) where
-  pub joined-within : joined free place ≡ true → opensStretch place ≡ false
+module _ (isUnprotected : ℕ → Bool) (place : Place) where
+  pub joined-within : joined isUnprotected place ≡ true → opensStretch place ≡ false
   unfolding joined
   joined-within j = not-true _ (both j .0)
 
-  pub joined-free : joined free place ≡ true → (free (place .cell - 1) ≡ true) × (free (place .cell) ≡ true)
+  pub joined-unprotected : joined isUnprotected place ≡ true → (isUnprotected (place .cell - 1) ≡ true) × (isUnprotected (place .cell) ≡ true)
   unfolding joined
-  joined-free j = both (both j .1)
+  joined-unprotected j = both (both j .1)
 
-  pub are-joined : opensStretch place ≡ false → free (place .cell - 1) ≡ true → free (place .cell) ≡ true → joined free place ≡ true
+  pub are-joined : opensStretch place ≡ false → isUnprotected (place .cell - 1) ≡ true → isUnprotected (place .cell) ≡ true → joined isUnprotected place ≡ true
   unfolding joined
   are-joined closed left right = both-hold _ _ (ap not closed) (both-hold _ _ left right)
 
   abbrev pub Apart : Type 0
-  Apart = (opensStretch place ≡ true) ⊎ ((free (place .cell - 1) ≡ false) ⊎ (free (place .cell) ≡ false))
+  Apart = (opensStretch place ≡ true) ⊎ ((isUnprotected (place .cell - 1) ≡ false) ⊎ (isUnprotected (place .cell) ≡ false))
 
-  pub are-apart : Apart → joined free place ≡ false
+  pub are-apart : Apart → joined isUnprotected place ≡ false
   unfolding joined
   are-apart (inl opens) = first-fails _ _ (ap not opens)
   are-apart (inr (inl left)) = second-fails _ _ (first-fails _ _ left)
   are-apart (inr (inr right)) = second-fails _ _ (second-fails _ _ right)
 
-  pub why-apart : joined free place ≡ false → Apart
+  pub why-apart : joined isUnprotected place ≡ false → Apart
   unfolding joined
   why-apart j = ⊎-elim (λ opens. inl (not-false _ opens)) (λ rest. inr (one-fails rest)) (one-fails j)
 
--- A field starts at a cell that is free and not joined to the one before.
-module _ (free : ℕ → Bool) (columns cell : ℕ) where
-  pub start-is : startsField free (placeOf columns cell) ≡ true → (free cell ≡ true) × (joined free (placeOf columns cell) ≡ false)
+-- A field starts at a cell that is unprotected and not joined to the one before.
+module _ (isUnprotected : ℕ → Bool) (columns cell : ℕ) where
+  pub start-is : startsField isUnprotected (placeOf columns cell) ≡ true → (isUnprotected cell ≡ true) × (joined isUnprotected (placeOf columns cell) ≡ false)
   unfolding startsField placeOf
   start-is s = let is = both s in (is .0, not-true _ (is .1))
 
-  pub is-start : free cell ≡ true → joined free (placeOf columns cell) ≡ false → startsField free (placeOf columns cell) ≡ true
+  pub is-start : isUnprotected cell ≡ true → joined isUnprotected (placeOf columns cell) ≡ false → startsField isUnprotected (placeOf columns cell) ≡ true
   unfolding startsField placeOf
   is-start here apart = both-hold _ _ here (ap not apart)
 
 -- Where the cell is not joined to the one before, its field starts there.
-pub start-here : (free : ℕ → Bool) (columns cell : ℕ) → joined free (placeOf columns cell) ≡ false → fieldStart free columns cell ≡ cell
+pub start-here : (isUnprotected : ℕ → Bool) (columns cell : ℕ) → joined isUnprotected (placeOf columns cell) ≡ false → fieldStart isUnprotected columns cell ≡ cell
 unfolding fieldStart
-start-here free columns zero j = refl
-start-here free columns (suc cell) j = else-case _ _ _ j
+start-here isUnprotected columns zero j = refl
+start-here isUnprotected columns (suc cell) j = else-case _ _ _ j

@@ -128,48 +128,48 @@ module _ (columns : ℕ) where
       (λ t. let late = ltb-false (field .start) cell t in
       nothing (λ k s. ⊎-elim (λ same. omega (arith, s .1)) (λ later. omega (arith, starts-after field before later, s .1)) (which-starts (s .0))))
 
-  -- The n cells from `from` to before `to`: the free ones, and those at which a field starts.
-  pub first-free : (free : ℕ → Bool) (n from to : ℕ) → to ≡ from + n → Finds columns First (Passes free from to) (firstUnprotectedFrom free columns from n)
+  -- The n cells from `from` to before `to`: the unprotected ones, and those at which a field starts.
+  pub first-unprotected : (isUnprotected : ℕ → Bool) (n from to : ℕ) → to ≡ from + n → Finds columns First (Passes isUnprotected from to) (firstUnprotectedFrom isUnprotected columns from n)
   unfolding firstUnprotectedFrom
-  first-free free zero from to all = nothing (λ k w. omega arith)
-  first-free free (suc n) from to all =
+  first-unprotected isUnprotected zero from to all = nothing (λ k w. omega arith)
+  first-unprotected isUnprotected (suc n) from to all =
       either-line (Finds columns First _) _ _ _
       (λ here. found from (omega arith, omega arith, here) (λ other w. w .0))
       (λ not-here. in-other-words
       (λ k w. (omega arith, w .1, w .2))
       (λ k w. (⊎-elim (λ same. absurd (not-both (w .2) (rw (← same) not-here))) (λ less. omega arith) (eq-or-lt-of-le (w .0)), w .1, w .2))
-      (first-free free n (from + 1) to (omega arith)))
+      (first-unprotected isUnprotected n (from + 1) to (omega arith)))
 
-  module _ (free : ℕ → Bool) (cells n from to : ℕ) (all : to ≡ from + n) where
-    by-cell : (k : ℕ) → StartsAt (fieldsFrom free columns cells from n) k → Passes (startsAt free columns) from to k
-    by-cell k s = rw (← s .here) (listed-starts free columns cells n from to all (s .listed) .0)
+  module _ (isUnprotected : ℕ → Bool) (cells n from to : ℕ) (all : to ≡ from + n) where
+    by-cell : (k : ℕ) → StartsAt (fieldsFrom isUnprotected columns cells from n) k → Passes (startsAt isUnprotected columns) from to k
+    by-cell k s = rw (← s .here) (listed-starts isUnprotected columns cells n from to all (s .listed) .0)
 
-    by-field : (k : ℕ) → Passes (startsAt free columns) from to k → StartsAt (fieldsFrom free columns cells from n) k
-    by-field k w = record { field = fieldFrom free columns cells k; listed = start-listed free columns cells n from to all k w; here = refl }
+    by-field : (k : ℕ) → Passes (startsAt isUnprotected columns) from to k → StartsAt (fieldsFrom isUnprotected columns cells from n) k
+    by-field k w = record { field = fieldFrom isUnprotected columns cells k; listed = start-listed isUnprotected columns cells n from to all k w; here = refl }
 
-    pub first-start : to ≤ cells → Finds columns First (Passes (startsAt free columns) from to) (firstField columns (fieldsFrom free columns cells from n))
-    first-start fits = in-other-words by-cell by-field (first-of (in-order free columns cells n from (omega arith)))
+    pub first-start : to ≤ cells → Finds columns First (Passes (startsAt isUnprotected columns) from to) (firstField columns (fieldsFrom isUnprotected columns cells from n))
+    first-start fits = in-other-words by-cell by-field (first-of (in-order isUnprotected columns cells n from (omega arith)))
 
-    pub last-start : to ≤ cells → Finds columns Last (Passes (startsAt free columns) from to) (lastField columns (fieldsFrom free columns cells from n))
-    last-start fits = in-other-words by-cell by-field (last-of (in-order free columns cells n from (omega arith)))
+    pub last-start : to ≤ cells → Finds columns Last (Passes (startsAt isUnprotected columns) from to) (lastField columns (fieldsFrom isUnprotected columns cells from n))
+    last-start fits = in-other-words by-cell by-field (last-of (in-order isUnprotected columns cells n from (omega arith)))
 
   -- The first field that starts after a cell is the first that starts from the next one on;
   -- and so for the last before a cell.
-  module _ (free : ℕ → Bool) (cells cell : ℕ) where
-    pub after-is : (next : ℕ) → next ≡ cell + 1 → next ≤ cells → firstField columns (fieldsFrom free columns cells next (cells - next)) ≡ firstAfter columns cell (fieldsOf free columns cells)
+  module _ (isUnprotected : ℕ → Bool) (cells cell : ℕ) where
+    pub after-is : (next : ℕ) → next ≡ cell + 1 → next ≤ cells → firstField columns (fieldsFrom isUnprotected columns cells next (cells - next)) ≡ firstAfter columns cell (fieldsOf isUnprotected columns cells)
     unfolding fieldsOf
     after-is next one fits =
-        one-first (first-start free cells (cells - next) next cells (omega arith) (omega arith))
+        one-first (first-start isUnprotected cells (cells - next) next cells (omega arith) (omega arith))
         (in-other-words
-        (λ k s. let w = by-cell free cells cells 0 cells (omega arith) k (s .0) in (omega (arith, s .1), w .1, w .2))
-        (λ k w. (by-field free cells cells 0 cells (omega arith) k (omega arith, w .1, w .2), omega (arith, w .0)))
-        (first-after cell (in-order free columns cells cells 0 (omega arith))))
+        (λ k s. let w = by-cell isUnprotected cells cells 0 cells (omega arith) k (s .0) in (omega (arith, s .1), w .1, w .2))
+        (λ k w. (by-field isUnprotected cells cells 0 cells (omega arith) k (omega arith, w .1, w .2), omega (arith, w .0)))
+        (first-after cell (in-order isUnprotected columns cells cells 0 (omega arith))))
 
-    pub before-is : cell ≤ cells → lastField columns (fieldsFrom free columns cells 0 cell) ≡ lastBefore columns cell (fieldsOf free columns cells)
+    pub before-is : cell ≤ cells → lastField columns (fieldsFrom isUnprotected columns cells 0 cell) ≡ lastBefore columns cell (fieldsOf isUnprotected columns cells)
     unfolding fieldsOf
     before-is fits =
-        one-last (last-start free cells cell 0 cell (omega arith) fits)
+        one-last (last-start isUnprotected cells cell 0 cell (omega arith) fits)
         (in-other-words
-        (λ k s. let w = by-cell free cells cells 0 cells (omega arith) k (s .0) in (w .0, s .1, w .2))
-        (λ k w. (by-field free cells cells 0 cells (omega arith) k (w .0, omega (arith, w .1), w .2), w .1))
-        (last-before cell (in-order free columns cells cells 0 (omega arith))))
+        (λ k s. let w = by-cell isUnprotected cells cells 0 cells (omega arith) k (s .0) in (w .0, s .1, w .2))
+        (λ k w. (by-field isUnprotected cells cells 0 cells (omega arith) k (w .0, omega (arith, w .1), w .2), w .1))
+        (last-before cell (in-order isUnprotected columns cells cells 0 (omega arith))))

@@ -1,6 +1,6 @@
 -- What document 01, "Fields, keys and blocks", says of fields and of the cells that keys look for;
 -- Claims.antt has its words.
--- Each holds for any test `free` of which cells are unprotected.
+-- Each holds for any test `unprotected` of which cells are unprotected.
 -- The contracts in src/lib.rt say that the code gives what is spoken of here.
 use mathlib.Core.Path.{_≡_}
 use mathlib.Core.Bool.{Bool, true}
@@ -10,35 +10,35 @@ use native.Mathlib.Omega.{arith}
 use Rattle.fields.specs.declared.Sought.the-variants.{Nowhere}
 use Rattle.fields.specs.Fields.{Field, fieldsOf}
 use Rattle.fields.specs.Searches.{firstField, lastField, firstAfter, lastBefore, nextField, previousField, firstUnprotectedFrom, firstUnprotected, nextUnprotected}
-use Rattle.fields.proofs.Claims.{IsField, _has_, IsAround, InOrder, Lists, StartsAt, Passes, First, Last, Finds, GoesRound, FreeAround, Lands}
-use Rattle.fields.proofs.Bounds.{around, same-field, all-free-around}
+use Rattle.fields.proofs.Claims.{IsField, _has_, IsAround, InOrder, Lists, StartsAt, Passes, First, Last, Finds, GoesRound, UnprotectedAround, Lands}
+use Rattle.fields.proofs.Bounds.{around, same-field, all-unprotected-around}
 use Rattle.fields.proofs.Listing.{in-order, lists-fields, listed-starts}
-use Rattle.fields.proofs.Searching.{in-other-words, goes-round, finds-something, first-of, last-of, first-after, last-before, first-free, finds-on-page, either-lands}
+use Rattle.fields.proofs.Searching.{in-other-words, goes-round, finds-something, first-of, last-of, first-after, last-before, first-unprotected, finds-on-page, either-lands}
 
-module _ (free : ℕ → Bool) (columns cells : ℕ) (some-columns : 0 < columns) where
+module _ (isUnprotected : ℕ → Bool) (columns cells : ℕ) (some-columns : 0 < columns) where
   -- Around an unprotected cell there is a field, and `fieldStart` and `fieldEnd` are its bounds.
-  pub field-around : (cell : ℕ) → cell < cells → free cell ≡ true → IsAround free columns cells cell
-  field-around = around free columns cells some-columns
+  pub field-around : (cell : ℕ) → cell < cells → isUnprotected cell ≡ true → IsAround isUnprotected columns cells cell
+  field-around = around isUnprotected columns cells some-columns
 
   -- Two fields that share a cell are one.
-  pub one-field : {one other : Field} → IsField free columns cells one → IsField free columns cells other → (cell : ℕ) → one has cell → other has cell → one ≡ other
-  one-field = same-field free columns cells some-columns
+  pub one-field : {one other : Field} → IsField isUnprotected columns cells one → IsField isUnprotected columns cells other → (cell : ℕ) → one has cell → other has cell → one ≡ other
+  one-field = same-field isUnprotected columns cells some-columns
 
   -- `fieldsOf` lists the page's fields, all of them and nothing else, in page order.
-  pub all-fields-listed : Lists free columns cells (fieldsOf free columns cells)
-  all-fields-listed = lists-fields free columns cells some-columns
+  pub all-fields-listed : Lists isUnprotected columns cells (fieldsOf isUnprotected columns cells)
+  all-fields-listed = lists-fields isUnprotected columns cells some-columns
 
 -- Whatever the page and the columns, no bound reaches over a protected cell.
-pub free-around : (free : ℕ → Bool) (columns cells cell : ℕ) → free cell ≡ true → FreeAround free columns cells cell
-free-around = all-free-around
+pub unprotected-around : (isUnprotected : ℕ → Bool) (columns cells cell : ℕ) → isUnprotected cell ≡ true → UnprotectedAround isUnprotected columns cells cell
+unprotected-around = all-unprotected-around
 
-module _ (free : ℕ → Bool) (columns cells : ℕ) where
+module _ (isUnprotected : ℕ → Bool) (columns cells : ℕ) where
   abbrev fields : List Field
-  fields = fieldsOf free columns cells
+  fields = fieldsOf isUnprotected columns cells
 
   fields-in-order : InOrder fields
   unfolding fieldsOf
-  fields-in-order = in-order free columns cells cells 0 (omega arith)
+  fields-in-order = in-order isUnprotected columns cells cells 0 (omega arith)
 
   -- The page's first field, and its last.
   pub first-found : Finds columns First (StartsAt fields) (firstField columns fields)
@@ -65,33 +65,33 @@ module _ (free : ℕ → Bool) (columns cells : ℕ) where
   key-261 cell = goes-round columns (before-found cell) last-found
 
   -- The first unprotected cell of n cells.
-  pub free-found : (n from : ℕ) → Finds columns First (Passes free from (from + n)) (firstUnprotectedFrom free columns from n)
-  free-found n from = first-free columns free n from (from + n) (omega arith)
+  pub unprotected-found : (n from : ℕ) → Finds columns First (Passes isUnprotected from (from + n)) (firstUnprotectedFrom isUnprotected columns from n)
+  unprotected-found n from = first-unprotected columns isUnprotected n from (from + n) (omega arith)
 
   -- Key 262: the first unprotected cell of the page.
-  pub key-262 : Finds columns First (Passes free 0 cells) (firstUnprotected free columns cells)
+  pub key-262 : Finds columns First (Passes isUnprotected 0 cells) (firstUnprotected isUnprotected columns cells)
   unfolding firstUnprotected
-  key-262 = first-free columns free cells 0 cells (omega arith)
+  key-262 = first-unprotected columns isUnprotected cells 0 cells (omega arith)
 
   -- After a typed character: the first unprotected cell after the cell, else the first.
-  pub after-typing : (cell : ℕ) → cell < cells → GoesRound columns First (Passes free 0 cells) (λ k. cell < k) (nextUnprotected free columns cells cell)
+  pub after-typing : (cell : ℕ) → cell < cells → GoesRound columns First (Passes isUnprotected 0 cells) (λ k. cell < k) (nextUnprotected isUnprotected columns cells cell)
   unfolding nextUnprotected
   after-typing cell here =
       goes-round columns
       (in-other-words columns
       (λ k w. ((omega arith, w .1, w .2), omega (arith, w .0)))
       (λ k w. (omega (arith, w .1), w .0 .1, w .0 .2))
-      (first-free columns free (cells - (cell + 1)) (cell + 1) cells (omega arith)))
+      (first-unprotected columns isUnprotected (cells - (cell + 1)) (cell + 1) cells (omega arith)))
       key-262
 
   -- If any cell of the page is unprotected, one is found after a typed character.
-  pub after-typing-found : (cell other : ℕ) → cell < cells → other < cells → free other ≡ true → nextUnprotected free columns cells cell ≡ Nowhere → ⊥
-  after-typing-found cell other here there is-free = finds-something columns (after-typing cell here) other (omega arith, there, is-free)
+  pub after-typing-found : (cell other : ℕ) → cell < cells → other < cells → isUnprotected other ≡ true → nextUnprotected isUnprotected columns cells cell ≡ Nowhere → ⊥
+  after-typing-found cell other here there is-unprotected = finds-something columns (after-typing cell here) other (omega arith, there, is-unprotected)
 
   -- All that these searches find is on the page.
   starts-on-page : (k : ℕ) → StartsAt fields k → k < cells
   unfolding fieldsOf
-  starts-on-page k s = rw (← s .here) (listed-starts free columns cells cells 0 cells (omega arith) (s .listed) .0 .1)
+  starts-on-page k s = rw (← s .here) (listed-starts isUnprotected columns cells cells 0 cells (omega arith) (s .listed) .0 .1)
 
   pub next-field-lands : (cell : ℕ) → Lands columns cells (nextField columns cell fields)
   unfolding nextField
@@ -105,11 +105,11 @@ module _ (free : ℕ → Bool) (columns cells : ℕ) where
       either-lands columns (finds-on-page columns cells (λ k w. starts-on-page k (w .0)) (before-found cell))
       (finds-on-page columns cells starts-on-page last-found)
 
-  pub first-unprotected-lands : Lands columns cells (firstUnprotected free columns cells)
+  pub first-unprotected-lands : Lands columns cells (firstUnprotected isUnprotected columns cells)
   first-unprotected-lands = finds-on-page columns cells (λ k w. w .1) key-262
 
-  pub next-unprotected-lands : (cell : ℕ) → cell < cells → Lands columns cells (nextUnprotected free columns cells cell)
+  pub next-unprotected-lands : (cell : ℕ) → cell < cells → Lands columns cells (nextUnprotected isUnprotected columns cells cell)
   unfolding nextUnprotected
   next-unprotected-lands cell here =
-      either-lands columns (finds-on-page columns cells (λ k w. omega (arith, w .1)) (free-found (cells - (cell + 1)) (cell + 1)))
+      either-lands columns (finds-on-page columns cells (λ k w. omega (arith, w .1)) (unprotected-found (cells - (cell + 1)) (cell + 1)))
       first-unprotected-lands

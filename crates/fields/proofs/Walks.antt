@@ -25,32 +25,32 @@ pub has-before : (place : Place) → (place .cell ≡ 0 → opensStretch place �
 has-before place opens closed = let late : place .cell ≡ 0 → ⊥ = λ first. not-both (opens first) closed in omega arith
 
 -- A turn of the walk to a field's start, and the walk's end.
-start-before : (free : ℕ → Bool) (columns cell : ℕ) → 0 < cell → joined free (placeOf columns cell) ≡ true → fieldStart free columns cell ≡ fieldStart free columns (cell - 1)
+start-before : (isUnprotected : ℕ → Bool) (columns cell : ℕ) → 0 < cell → joined isUnprotected (placeOf columns cell) ≡ true → fieldStart isUnprotected columns cell ≡ fieldStart isUnprotected columns (cell - 1)
 unfolding fieldStart
-start-before free columns zero h j = absurd (omega arith)
-start-before free columns (suc cell) h j = rw (sub-one (suc cell)) (then-case _ _ _ j)
+start-before isUnprotected columns zero h j = absurd (omega arith)
+start-before isUnprotected columns (suc cell) h j = rw (sub-one (suc cell)) (then-case _ _ _ j)
 
-module _ (free : ℕ → Bool) {columns : ℕ} {here : Place} (known : Counted columns here) where
-  pub joined-has-before : joined free here ≡ true → 0 < here .cell
-  joined-has-before j = has-before here (at-first-opens known) (joined-within free here j)
+module _ (isUnprotected : ℕ → Bool) {columns : ℕ} {here : Place} (known : Counted columns here) where
+  pub joined-has-before : joined isUnprotected here ≡ true → 0 < here .cell
+  joined-has-before j = has-before here (at-first-opens known) (joined-within isUnprotected here j)
 
-  pub start-on : joined free here ≡ true → fieldStart free columns (here .cell) ≡ fieldStart free columns (here .cell - 1)
-  start-on j = start-before free columns (here .cell) (joined-has-before j) (ap (joined free) (sym (known .right)) ∙ j)
+  pub start-on : joined isUnprotected here ≡ true → fieldStart isUnprotected columns (here .cell) ≡ fieldStart isUnprotected columns (here .cell - 1)
+  start-on j = start-before isUnprotected columns (here .cell) (joined-has-before j) (ap (joined isUnprotected) (sym (known .right)) ∙ j)
 
-  pub start-stops : joined free here ≡ false → fieldStart free columns (here .cell) ≡ here .cell
-  start-stops j = start-here free columns (here .cell) (ap (joined free) (sym (known .right)) ∙ j)
+  pub start-stops : joined isUnprotected here ≡ false → fieldStart isUnprotected columns (here .cell) ≡ here .cell
+  start-stops j = start-here isUnprotected columns (here .cell) (ap (joined isUnprotected) (sym (known .right)) ∙ j)
 
 -- A turn of the walk to a field's end, and the walk's two ends.
-module _ (free : ℕ → Bool) (columns cells cell : ℕ) where
-  pub end-on : cell + 1 < cells → joined free (placeOf columns (cell + 1)) ≡ true → fieldEnd free columns cells cell ≡ fieldEnd free columns cells (cell + 1)
+module _ (isUnprotected : ℕ → Bool) (columns cells cell : ℕ) where
+  pub end-on : cell + 1 < cells → joined isUnprotected (placeOf columns (cell + 1)) ≡ true → fieldEnd isUnprotected columns cells cell ≡ fieldEnd isUnprotected columns cells (cell + 1)
   unfolding fieldEnd endFrom
   end-on h j = let more : cells - (cell + 1) ≡ suc (cells - (cell + 1 + 1)) = omega arith in rw more (then-case _ _ _ j)
 
-  pub end-stops : cell + 1 < cells → joined free (placeOf columns (cell + 1)) ≡ false → fieldEnd free columns cells cell ≡ cell + 1
+  pub end-stops : cell + 1 < cells → joined isUnprotected (placeOf columns (cell + 1)) ≡ false → fieldEnd isUnprotected columns cells cell ≡ cell + 1
   unfolding fieldEnd endFrom
   end-stops h j = let more : cells - (cell + 1) ≡ suc (cells - (cell + 1 + 1)) = omega arith in rw more (else-case _ _ _ j)
 
-  pub end-at-last : cells ≤ cell + 1 → fieldEnd free columns cells cell ≡ cell + 1
+  pub end-at-last : cells ≤ cell + 1 → fieldEnd isUnprotected columns cells cell ≡ cell + 1
   unfolding fieldEnd endFrom
   end-at-last h = let no-more : cells - (cell + 1) ≡ 0 = omega arith in rw no-more
 
@@ -121,12 +121,12 @@ module _ {test : ℕ → Bool} {columns : ℕ} {from : Place} where
     comes-back-to-nothing no-more = nothing (λ k w. way .passed k (omega arith, w .1, w .2))
 
 -- A search from the first cell is one of the whole page.
-module _ (free : ℕ → Bool) (columns cells first : ℕ) (is : first ≡ 0) where
-  pub all-fields : fieldsFrom free columns cells first (cells - first) ≡ fieldsOf free columns cells
+module _ (isUnprotected : ℕ → Bool) (columns cells first : ℕ) (is : first ≡ 0) where
+  pub all-fields : fieldsFrom isUnprotected columns cells first (cells - first) ≡ fieldsOf isUnprotected columns cells
   unfolding fieldsOf
   all-fields = let all : cells - 0 ≡ cells = omega arith in rw (is, all)
 
-  pub all-cells : firstUnprotectedFrom free columns first (cells - first) ≡ firstUnprotected free columns cells
+  pub all-cells : firstUnprotectedFrom isUnprotected columns first (cells - first) ≡ firstUnprotected isUnprotected columns cells
   unfolding firstUnprotected
   all-cells = let all : cells - 0 ≡ cells = omega arith in rw (is, all)
 

@@ -18,8 +18,8 @@ use Rattle.page.proofs.Keeping.{KeepsPart, blanked-keeps, closed-up-keeps, move
 use Rattle.page.proofs.Protecting.{typed-protection, untagged, tagged-protection, cleared-protection, protected-uncleared}
 use Rattle.fields.specs.declared.Sought.{Sought}
 use Rattle.fields.specs.declared.Sought.the-variants.{At, Nowhere}
-use Rattle.fields.proofs.Claims.{FreeAround}
-use Rattle.fields.proofs.Theorems.{free-around}
+use Rattle.fields.proofs.Claims.{UnprotectedAround}
+use Rattle.fields.proofs.Theorems.{unprotected-around}
 use Rattle.state.specs.declared.State.{State}
 use Rattle.state.specs.State.{unlocked}
 use Rattle.state.specs.Moves.{upBy, downBy, rightBy, leftBy}
@@ -45,8 +45,8 @@ blockKey true = 267
 blockKey false = 266
 
 -- The cursor's field, in any state.
-pub field-free : (t : Terminal) → unprotectedAt t (cursorCell (t .state)) ≡ true → FreeAround (unprotectedAt t) (t .state .size .columns) (length (t .page .marks)) (cursorCell (t .state))
-field-free t = free-around (unprotectedAt t) (t .state .size .columns) (length (t .page .marks)) (cursorCell (t .state))
+pub field-unprotected : (t : Terminal) → unprotectedAt t (cursorCell (t .state)) ≡ true → UnprotectedAround (unprotectedAt t) (t .state .size .columns) (length (t .page .marks)) (cursorCell (t .state))
+field-unprotected t = unprotected-around (unprotectedAt t) (t .state .size .columns) (length (t .page .marks)) (cursorCell (t .state))
 
 module _ (key : ℕ) (t : Terminal) where
   abbrev Always : Stepped → Type 0
@@ -125,7 +125,7 @@ module _ (key : ℕ) (t : Terminal) where
   unfolding fieldBlanked
   blanked-always asked =
       line (λ here.
-      let field = field-free t here in
+      let field = field-unprotected t here in
       puts-part blanked-keeps (startHere t) (endHere t) (omega arith) (field .all-unprotected) (whole-field here asked) _ (gone-keeps-locks _ (t .state)))
       stays
 
@@ -133,7 +133,7 @@ module _ (key : ℕ) (t : Terminal) where
   unfolding restShifted
   shifted-always keeps asked =
       line (λ here.
-      let field = field-free t here in
+      let field = field-unprotected t here in
       puts-part keeps (cursorCell (t .state)) (endHere t) (field .high) (λ cell low high. field .all-unprotected cell (omega arith) high) (rest-of-field here asked) (t .state) refl)
       stays
 

@@ -52,8 +52,8 @@ pub run-counted : (from end : ℕ) {here after : ℕ} → here ≡ from → afte
 run-counted from end starts ends = run-length from (end - from) ∙ sym (λ i. ends i - starts i)
 
 -- What the code was told of the cursor's cell.
-pub is-free : {answer free : Bool} → answer ≡ free → not answer ≡ false → free ≡ true
-is-free told is = sym told ∙ not-false _ is
+pub is-unprotected : {answer cell-unprotected : Bool} → answer ≡ cell-unprotected → not answer ≡ false → cell-unprotected ≡ true
+is-unprotected told is = sym told ∙ not-false _ is
 
 -- On a protected cell a key that stores does nothing.
 pub stays : (t : Terminal) (stepped : Stepped) {answer : Bool} {step : Step} → answer ≡ unprotectedAt t (cursorCell (t .state)) → not answer ≡ true → told step (t .page) ≡ tells (goesTo (t .state) t) → told step (t .page) ≡ tells (ifUnprotected t stepped)
@@ -76,8 +76,8 @@ rest-on-page {t} valid =
 -- 264 and 265, whatever the change: it is made on the rest of the field, and these cells are counted.
 pub rest-shifted : (t : Terminal) (change : List ℕ → List ℕ) {step : Step} {page : Page} → unprotectedAt t (cursorCell (t .state)) ≡ true → ((cells : List ℕ) (page : Page) → length cells ≡ endHere t - cursorCell (t .state) → told step page ≡ tells (stores cells false (t .state) page)) → page ≡ partStored change (cursorCell (t .state)) (endHere t) (t .page) → told step page ≡ tells (restShifted change t)
 unfolding restShifted if_then_else_
-rest-shifted t change is-free stored left =
-    rw (is-free, stored (cellsFrom (cursorCell (t .state)) (endHere t)) _ (run-length (cursorCell (t .state)) (endHere t - cursorCell (t .state))), left)
+rest-shifted t change is-unprotected stored left =
+    rw (is-unprotected, stored (cellsFrom (cursorCell (t .state)) (endHere t)) _ (run-length (cursorCell (t .state)) (endHere t - cursorCell (t .state))), left)
 
 module _ {t : Terminal} {place : Place} (here : Found t place) where
   -- The start of the cursor's field.

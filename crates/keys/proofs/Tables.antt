@@ -30,7 +30,7 @@ use Rattle.steps.proofs.Storing.{typed-stored, part-stored}
 use Rattle.steps.proofs.Soundness.{Sound, cursor-on-page, goes-soundly, stores-soundly, clears-soundly}
 use Rattle.steps.proofs.Measuring.{Measured, measured}
 use Rattle.keys.proofs.Claims.{Tags, KeySound}
-use Rattle.keys.proofs.Always.{field-free, key-always}
+use Rattle.keys.proofs.Always.{field-unprotected, key-always}
 
 -- Both blocks clear modified.
 block-clears : (full : Bool) (bytes : List ℕ) (mark : ℕ) → markLeft (blockTransmission full bytes) mark ≡ markAfterBlock mark
@@ -100,7 +100,7 @@ module _ (t : Terminal) (valid : Valid t) where
   unfolding fieldBlanked
   blanked-holds =
       line (λ here.
-      let field = field-free t here in
+      let field = field-unprotected t here in
       let end = end-on-page in
       part-holds blanked-keeps (startHere t) (endHere t) (omega arith) end (field .all-unprotected) _ (gone-keeps-valid (on-cell (startHere t) (omega arith))))
       (goes (t .state) stays)
@@ -109,7 +109,7 @@ module _ (t : Terminal) (valid : Valid t) where
   unfolding restShifted
   shifted-holds keeps =
       line (λ here.
-      let field = field-free t here in
+      let field = field-unprotected t here in
       part-holds keeps (cursorCell (t .state)) (endHere t) (field .high) end-on-page (λ cell low high. field .all-unprotected cell (omega arith) high) (t .state) stays)
       (goes (t .state) stays)
 

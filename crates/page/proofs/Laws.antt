@@ -60,7 +60,7 @@ still-erasable mode before now cell same = rw same
 module _ (marks : List ℕ) (cell : ℕ) where
   pub sent-unprotected : unprotected marks cell ≡ true → markAfterBlock (getD marks cell 0) ≡ withoutModified (getD marks cell 0)
   unfolding unprotected markAfterBlock
-  sent-unprotected free = else-case _ _ _ (not-true _ free)
+  sent-unprotected cell-unprotected = else-case _ _ _ (not-true _ cell-unprotected)
 
   pub sent-protected : unprotected marks cell ≡ false → markAfterBlock (getD marks cell 0) ≡ getD marks cell 0
   unfolding unprotected markAfterBlock

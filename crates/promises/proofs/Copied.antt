@@ -37,7 +37,7 @@ own-copy t valid is = record {
   is = is;
   was-sendable = sendable valid;
   form = record { size = record { characters = refl; marks = refl }; unprotected-cells = λ cell here. refl };
-  kept = λ cell here free unmodified. refl;
+  kept = λ cell here cell-unprotected unmodified. refl;
 }
 
 -- Of one form with a page that is of one form with a third.
@@ -55,10 +55,10 @@ module _ (copy : List ℕ) (t : Terminal) (valid : Valid t) (step : Stepped) (la
     is = rw (law .size) (copied .is);
     was-sendable = rw (law .size) (copied .was-sendable);
     form = form-then (copied .form) (same-form t valid step law (tag .protection));
-    kept = λ cell here free unmodified.
+    kept = λ cell here cell-unprotected unmodified.
         let on-page = was-on-page t valid step law cell here in
         let stays = law .touches cell on-page (λ named. not-both (tag .tags cell named) unmodified) in
-        copied .kept cell on-page (sym (tag .protection cell on-page) ∙ free) (sym (ap isModified (stays .mark ∙ keeps _)) ∙ unmodified)
+        copied .kept cell on-page (sym (tag .protection cell on-page) ∙ cell-unprotected) (sym (ap isModified (stays .mark ∙ keeps _)) ∙ unmodified)
         ∙ sym (stays .character);
   }
 

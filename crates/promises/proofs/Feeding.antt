@@ -48,7 +48,7 @@ module _ (sender : Terminal) (valid : Valid sender) where
       record {
         end = feeds .0;
         leads = subst (λ (bytes : List ℕ). Leads receiver bytes (feeds .0)) (sym (ap encode (all-sent columns (sender .page)))) (feeds .1 .leads);
-        filled = λ cell here free. feeds .1 .fills cell (lists .every-cell cell here free);
+        filled = λ cell here cell-unprotected. feeds .1 .fills cell (lists .every-cell cell here cell-unprotected);
         kept = λ cell protected. feeds .1 .keeps cell (λ some. not-both (lists .only-fields (some .0) (some .1) .all-unprotected cell (some .2)) protected);
       }
 
@@ -85,10 +85,10 @@ module _ (sender receiver : Terminal) (asks : Input) (bytes : List ℕ) (cut : L
       ∙ sym (measured valid .all-cells)
 
   fed-characters : (cell : ℕ) → unprotectedAt sender cell ≡ true → getD (left .characters) cell 0 ≡ getD (sender .page .characters) cell 0
-  fed-characters cell is-free =
+  fed-characters cell is-unprotected =
       left-character cell
       ∙ less-or-not cell (length (sender .page .marks))
-      (λ here. reached .filled cell here is-free .character)
+      (λ here. reached .filled cell here is-unprotected .character)
       (λ past.
       List·getD-eq-default (reached .end .page .characters) 0 (omega (arith, as-many-marks, measured end-valid .as-many))
       ∙ sym (List·getD-eq-default (sender .page .characters) 0 (omega (arith, measured valid .as-many))))
@@ -98,7 +98,7 @@ module _ (sender receiver : Terminal) (asks : Input) (bytes : List ℕ) (cut : L
   unfolding unprotected
   end-protection cell here =
       either-way (unprotected (sender .page .marks) cell)
-      (λ free. reached .filled cell here free .free ∙ sym free)
+      (λ cell-unprotected. reached .filled cell here cell-unprotected .cell-unprotected ∙ sym cell-unprotected)
       (λ protected. ap (λ (mark : ℕ). not (isProtected mark)) (reached .kept cell protected .mark) ∙ receives .protection cell)
 
   fed-protection : (cell : ℕ) → unprotected (left .marks) cell ≡ unprotected (sender .page .marks) cell

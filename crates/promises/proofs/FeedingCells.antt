@@ -16,7 +16,7 @@ use Rattle.promises.proofs.FeedingRuns.{Leads, leads-then, leads-validl
 -- A cell has the sender's character and is unprotected; a cell keeps its character and mark.
 pub record Filled (sender page : Page) (cell : ℕ) : Type 0 where
   pub character : getD (page .characters) cell 0 ≡ getD (sender .characters) cell 0
-  pub free : unprotected (page .marks) cell ≡ true
+  pub cell-unprotected : unprotected (page .marks) cell ≡ true
 
 pub record Kept (before after : Page) (cell : ℕ) : Type 0 where
   pub character : getD (after .characters) cell 0 ≡ getD (before .characters) cell 0

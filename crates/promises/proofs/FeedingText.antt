@@ -91,7 +91,7 @@ module _ (sender : Terminal) (valid : Valid sender) where
         let lengths = same-lengths valid ready in
         record {
           character = set-here (t .page .characters) (characterAt cell) k (omega arith) same ∙ ap characterAt (sym same);
-          free =
+          cell-unprotected =
               ap (λ (mark : ℕ). not (isProtected mark)) (set-here (t .page .marks) (t .state .modes .pen) k (omega (arith, measured (ready .valid) .as-many)) same)
               ∙ ap not (ready .unprotected-pen);
         }
@@ -101,7 +101,7 @@ module _ (sender : Terminal) (valid : Valid sender) where
     filled-elsewhere k other filled =
         record {
           character = set-elsewhere (t .page .characters) (characterAt cell) k other ∙ filled .character;
-          free = ap (λ (mark : ℕ). not (isProtected mark)) (set-elsewhere (t .page .marks) (t .state .modes .pen) k other) ∙ filled .free;
+          cell-unprotected = ap (λ (mark : ℕ). not (isProtected mark)) (set-elsewhere (t .page .marks) (t .state .modes .pen) k other) ∙ filled .cell-unprotected;
         }
 
     character-feeds : Feeds sender t (characterAt cell ∷ []) next (λ k. k ≡ cell)

@@ -50,7 +50,7 @@ leaves step is mark = ap (λ (transmission : Transmission). markLeft transmissio
 -- Sending clears modified on an unprotected cell.
 sent-unmodified : (mark : ℕ) → isProtected mark ≡ false → isModified (markAfterBlock mark) ≡ false
 unfolding markAfterBlock
-sent-unmodified mark free = ap isModified (else-case _ _ _ free) ∙ ne-eqb ((mark / 4 * 4 + mark % 2) / 2 % 2) 1 (λ bit. omega arith)
+sent-unmodified mark cell-unprotected = ap isModified (else-case _ _ _ cell-unprotected) ∙ ne-eqb ((mark / 4 * 4 + mark % 2) / 2 % 2) 1 (λ bit. omega arith)
 
 -- A protected cell is on the page, past which nothing is; and no transmission changes its mark.
 pub past-unprotected : (marks : List ℕ) (cell : ℕ) → length marks ≤ cell → unprotected marks cell ≡ true
@@ -112,7 +112,7 @@ module _ (t : Terminal) (valid : Valid t) (step : Stepped) (law : StepLaw t step
     -- If it sends a block, nothing is modified any more.
     pub nothing-modified : ((mark : ℕ) → markLeft (step .transmission) mark ≡ markAfterBlock mark) → NothingModified (step .terminal .page)
     unfolding unprotected
-    nothing-modified clears cell here free =
+    nothing-modified clears cell here cell-unprotected =
         let on-page = was-on-page cell here in
         ap isModified (all-stay cell on-page List·Memᴰ·not-nil .mark ∙ clears _)
-        ∙ sent-unmodified (getD (t .page .marks) cell 0) (not-true _ (sym (names-none .protection cell on-page) ∙ free))
+        ∙ sent-unmodified (getD (t .page .marks) cell 0) (not-true _ (sym (names-none .protection cell on-page) ∙ cell-unprotected))

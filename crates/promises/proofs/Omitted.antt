@@ -50,7 +50,7 @@ omits-exactly t valid stored tracks field listed =
 tracks-anew : (t : Terminal) → Valid t → (step : Stepped) → StepLaw t step → step .cells ≡ [] → ((mark : ℕ) → markLeft (step .transmission) mark ≡ markAfterBlock mark) → Tracks [] (step .terminal .page)
 tracks-anew t valid step law no-cell clears = record {
   stored-are = λ cell here was-stored. absurd (List·Memᴰ·not-nil was-stored);
-  others-are-not = λ cell here free unstored. nothing-modified t valid step law no-cell clears cell here free;
+  others-are-not = λ cell here cell-unprotected unstored. nothing-modified t valid step law no-cell clears cell here cell-unprotected;
 }
 
 module _ (t : Terminal) (valid : Valid t) (step : Stepped) (law : StepLaw t step) (tag : TagLaw t step) (stored : List ℕ) (tracks : Tracks stored (t .page)) where
@@ -65,9 +65,9 @@ module _ (t : Terminal) (valid : Valid t) (step : Stepped) (law : StepLaw t step
         (λ unmodified. stays cell here (λ named. not-both (tag .tags cell named) unmodified) ∙ tracks .stored-are cell (on-page cell here) before))
         (tag .tags cell)
         (List·Memᴰ·append-cases stored was-stored);
-    others-are-not = λ cell here free unstored.
+    others-are-not = λ cell here cell-unprotected unstored.
         stays cell here (λ named. unstored (Memᴰ·append-right stored named))
-        ∙ tracks .others-are-not cell (on-page cell here) (sym (tag .protection cell (on-page cell here)) ∙ free) (λ before. unstored (Memᴰ·append-left (step .cells) before));
+        ∙ tracks .others-are-not cell (on-page cell here) (sym (tag .protection cell (on-page cell here)) ∙ cell-unprotected) (λ before. unstored (Memᴰ·append-left (step .cells) before));
   }
     where
       on-page : (cell : ℕ) → cell < length (step .terminal .page .marks) → cell < length (t .page .marks)

@@ -71,9 +71,9 @@ module _ (rules : Rules) (laws : StepLaws rules) where
             less-or-not cell (length (t .page .marks))
             (λ here. touches cell here List·Memᴰ·not-nil .mark ∙ clears (getD (t .page .marks) cell 0))
             (λ past. past-unmarked (step .terminal .page .marks) (t .page .marks) cell (omega (arith, same .marks)) past);
-        none-modified = λ cell is-free.
+        none-modified = λ cell is-unprotected.
             less-or-not cell (length (step .terminal .page .marks))
-            (λ here. nothing-modified t valid step law (sent .no-cell) clears cell here is-free)
+            (λ here. nothing-modified t valid step law (sent .no-cell) clears cell here is-unprotected)
             (λ past. ap isModified (List·getD-eq-default (step .terminal .page .marks) 0 past));
         protected-cells = λ cell protected. protected-kept t valid step law cell protected (rw (sent .no-cell) List·Memᴰ·not-nil);
       }

@@ -28,20 +28,20 @@ abbrev pub at : ℕ → Page → Terminal
 at column page = record { state = withCursor (freshState (record { rows = 24; columns = 80 })) (cursorAt 1 column); page = page }
 
 -- No field starts among protected cells.
-module _ (free : ℕ → Bool) (columns cells : ℕ) where
-  no-fields : (n cell : ℕ) → ((k : ℕ) → cell ≤ k → k < cell + n → free k ≡ false) → fieldsFrom free columns cells cell n ≡ []
+module _ (isUnprotected : ℕ → Bool) (columns cells : ℕ) where
+  no-fields : (n cell : ℕ) → ((k : ℕ) → cell ≤ k → k < cell + n → isUnprotected k ≡ false) → fieldsFrom isUnprotected columns cells cell n ≡ []
   unfolding fieldsFrom startsField placeOf
   no-fields zero cell protected = refl
   no-fields (suc n) cell protected =
       else-case _ _ _ (first-fails _ _ (protected cell (omega arith) (omega arith)))
       ∙ no-fields n (cell + 1) (λ k low high. protected k (omega arith) (omega arith))
 
-  fields-in-front : (front n cell : ℕ) → ((k : ℕ) → cell + front ≤ k → k < cell + front + n → free k ≡ false) → fieldsFrom free columns cells cell (front + n) ≡ fieldsFrom free columns cells cell front
+  fields-in-front : (front n cell : ℕ) → ((k : ℕ) → cell + front ≤ k → k < cell + front + n → isUnprotected k ≡ false) → fieldsFrom isUnprotected columns cells cell (front + n) ≡ fieldsFrom isUnprotected columns cells cell front
   unfolding fieldsFrom
   fields-in-front zero n cell protected = rw (zero-add n) (no-fields n cell (λ k low high. protected k (omega arith) (omega arith)))
   fields-in-front (suc front) n cell protected =
       rw (suc-add front n)
-      (ap (λ (later : List Field). if startsField free (placeOf columns cell) then fieldFrom free columns cells cell ∷ later else later)
+      (ap (λ (later : List Field). if startsField isUnprotected (placeOf columns cell) then fieldFrom isUnprotected columns cells cell ∷ later else later)
       (fields-in-front front n (cell + 1) (λ k low high. protected k (omega arith) (omega arith))))
 
 -- So the fields of a sheet are those of its first five cells.

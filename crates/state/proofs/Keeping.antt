@@ -107,21 +107,21 @@ on-page s listed valid =
     }
 
 -- Where moves end.
-back-within : (n last at : ℕ) → OneTo last at → OneTo last (backBy n at)
+back-within : (n last at : ℕ) → OneTo last at → OneTo last (backBy at n)
 unfolding backBy
 back-within n last at h = either-line (OneTo last) _ _ _ (λ t. let less = ltb-true n at t in (omega arith, omega arith)) (λ _. (omega arith, omega arith))
 
-on-within : (n last at : ℕ) → OneTo last at → OneTo last (onBy n at last)
+on-within : (n last at : ℕ) → OneTo last at → OneTo last (onBy at n last)
 unfolding onBy
 on-within n last at h = either-line (OneTo last) _ _ _ (λ t. let room = leb-true n (last - at) t in (omega arith, omega arith)) (λ _. (omega arith, omega arith))
 
 module _ (stops : List Bool) (last : ℕ) where
-  stops-on-within : (n column : ℕ) → OneTo last column → OneTo last (stopsOn stops last n column)
+  stops-on-within : (n column : ℕ) → OneTo last column → OneTo last (stopsOn stops last column n)
   unfolding stopsOn
   stops-on-within zero column h = h
   stops-on-within (suc n) column h = stops-on-within n _ (right-within stops last (last - column) column (h .0) (omega arith))
 
-  stops-back-within : (n column : ℕ) → OneTo last column → OneTo last (stopsBack stops n column)
+  stops-back-within : (n column : ℕ) → OneTo last column → OneTo last (stopsBack stops column n)
   unfolding stopsBack
   stops-back-within zero column h = h
   stops-back-within (suc n) column h = stops-back-within n _ (left-within stops last column h)

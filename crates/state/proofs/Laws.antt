@@ -56,20 +56,20 @@ module _ (stops : List Bool) where
 
   -- One stop on, and one back.
   module _ (last n column : ℕ) where
-    pub stops-on-turn : 0 < n → stopsOn stops last n column ≡ stopsOn stops last (n - 1) (stopRight stops column (last - column))
+    pub stops-on-turn : 0 < n → stopsOn stops last column n ≡ stopsOn stops last (stopRight stops column (last - column)) (n - 1)
     unfolding stopsOn
-    stops-on-turn h = let more : n ≡ suc (n - 1) = omega arith in ap (λ (k : ℕ). stopsOn stops last k column) more
+    stops-on-turn h = let more : n ≡ suc (n - 1) = omega arith in ap (λ (k : ℕ). stopsOn stops last column k) more
 
-    pub stops-on-end : n ≤ 0 → stopsOn stops last n column ≡ column
+    pub stops-on-end : n ≤ 0 → stopsOn stops last column n ≡ column
     unfolding stopsOn
     stops-on-end h = let none : n ≡ 0 = omega arith in rw none
 
   module _ (n column : ℕ) where
-    pub stops-back-turn : 0 < n → stopsBack stops n column ≡ stopsBack stops (n - 1) (stopLeft stops column)
+    pub stops-back-turn : 0 < n → stopsBack stops column n ≡ stopsBack stops (stopLeft stops column) (n - 1)
     unfolding stopsBack
-    stops-back-turn h = let more : n ≡ suc (n - 1) = omega arith in ap (λ (k : ℕ). stopsBack stops k column) more
+    stops-back-turn h = let more : n ≡ suc (n - 1) = omega arith in ap (λ (k : ℕ). stopsBack stops column k) more
 
-    pub stops-back-end : n ≤ 0 → stopsBack stops n column ≡ column
+    pub stops-back-end : n ≤ 0 → stopsBack stops column n ≡ column
     unfolding stopsBack
     stops-back-end h = let none : n ≡ 0 = omega arith in rw none
 

@@ -7,27 +7,27 @@ use Rattle.state.specs.State.{withCursor, cursorAt}
 
 -- From a row or column so many back, and so many on; the first is 1.
 unfoldable pub backBy : ℕ → ℕ → ℕ
-backBy n at =
+backBy at n =
     if ltb n at then at - n
     else 1
 
 unfoldable pub onBy : ℕ → ℕ → ℕ → ℕ
-onBy n at last =
+onBy at n last =
     if leb n (last - at) then at + n
     else last
 
 -- CUU, CUD, CUF, CUB.
 unfoldable pub upBy : ℕ → State → State
-upBy n s = withCursor s (cursorAt (backBy n (s .cursor .row)) (s .cursor .column))
+upBy n s = withCursor s (cursorAt (backBy (s .cursor .row) n) (s .cursor .column))
 
 unfoldable pub downBy : ℕ → State → State
-downBy n s = withCursor s (cursorAt (onBy n (s .cursor .row) (s .size .rows)) (s .cursor .column))
+downBy n s = withCursor s (cursorAt (onBy (s .cursor .row) n (s .size .rows)) (s .cursor .column))
 
 unfoldable pub rightBy : ℕ → State → State
-rightBy n s = withCursor s (cursorAt (s .cursor .row) (onBy n (s .cursor .column) (s .size .columns)))
+rightBy n s = withCursor s (cursorAt (s .cursor .row) (onBy (s .cursor .column) n (s .size .columns)))
 
 unfoldable pub leftBy : ℕ → State → State
-leftBy n s = withCursor s (cursorAt (s .cursor .row) (backBy n (s .cursor .column)))
+leftBy n s = withCursor s (cursorAt (s .cursor .row) (backBy (s .cursor .column) n))
 
 -- To column 1 of the same row.
 unfoldable pub toMargin : State → State

@@ -39,15 +39,15 @@ stopLeft stops (suc (suc before)) =
 
 -- 09, CHT and CBT: so many stops on or back.
 unfoldable pub stopsOn : List Bool → ℕ → ℕ → ℕ → ℕ
-stopsOn stops last zero column = column
-stopsOn stops last (suc n) column = stopsOn stops last n (stopRight stops column (last - column))
+stopsOn stops last column zero = column
+stopsOn stops last column (suc n) = stopsOn stops last (stopRight stops column (last - column)) n
 
 unfoldable pub stopsBack : List Bool → ℕ → ℕ → ℕ
-stopsBack stops zero column = column
-stopsBack stops (suc n) column = stopsBack stops n (stopLeft stops column)
+stopsBack stops column zero = column
+stopsBack stops column (suc n) = stopsBack stops (stopLeft stops column) n
 
 unfoldable pub tabbedOn : ℕ → State → State
-tabbedOn n s = withCursor s (cursorAt (s .cursor .row) (stopsOn (s .stops) (s .size .columns) n (s .cursor .column)))
+tabbedOn n s = withCursor s (cursorAt (s .cursor .row) (stopsOn (s .stops) (s .size .columns) (s .cursor .column) n))
 
 unfoldable pub tabbedBack : ℕ → State → State
-tabbedBack n s = withCursor s (cursorAt (s .cursor .row) (stopsBack (s .stops) n (s .cursor .column)))
+tabbedBack n s = withCursor s (cursorAt (s .cursor .row) (stopsBack (s .stops) (s .cursor .column) n))

@@ -7,8 +7,8 @@ ghost use Rattle.state.specs.State.{OnPage, withCursor, cursorAt};
 ghost use Rattle.state.specs.Moves.{backBy, onBy, upBy, downBy, rightBy, leftBy, toMargin, toNextCell};
 
 // From a row or column so many back, not past the first.
-fn back_by(n: usize, at: usize) -> usize
-    ensures { λ r. ⌜ r ≡ backBy n at ⌝ }
+fn back_by(at: usize, n: usize) -> usize
+    ensures { λ r. ⌜ r ≡ backBy at n ⌝ }
 {
     if n < at {
         return at - n;
@@ -17,9 +17,9 @@ fn back_by(n: usize, at: usize) -> usize
 }
 
 // From a row or column so many on, not past the last.
-fn on_by(n: usize, at: usize, last: usize) -> usize
+fn on_by(at: usize, n: usize, last: usize) -> usize
     requires { ⌜ at ≤ last ⌝ }
-    ensures { λ r. ⌜ r ≡ onBy n at last ⌝ }
+    ensures { λ r. ⌜ r ≡ onBy at n last ⌝ }
 {
     if n <= last - at {
         return at + n;
@@ -42,7 +42,7 @@ impl State {
     pub fn up_by(self, n: usize) -> Self
         ensures { λ r. ⌜ r ≡ upBy n self ⌝ }
     {
-        let row = back_by(n, self.cursor.row);
+        let row = back_by(self.cursor.row, n);
         self.moved_to(row, self.cursor.column)
     }
 
@@ -51,7 +51,7 @@ impl State {
         requires { ⌜ OnPage self ⌝ }
         ensures { λ r. ⌜ r ≡ downBy n self ⌝ }
     {
-        let row = on_by(n, self.cursor.row, self.size.rows);
+        let row = on_by(self.cursor.row, n, self.size.rows);
         self.moved_to(row, self.cursor.column)
     }
 
@@ -60,7 +60,7 @@ impl State {
         requires { ⌜ OnPage self ⌝ }
         ensures { λ r. ⌜ r ≡ rightBy n self ⌝ }
     {
-        let column = on_by(n, self.cursor.column, self.size.columns);
+        let column = on_by(self.cursor.column, n, self.size.columns);
         self.moved_to(self.cursor.row, column)
     }
 
@@ -68,7 +68,7 @@ impl State {
     pub fn left_by(self, n: usize) -> Self
         ensures { λ r. ⌜ r ≡ leftBy n self ⌝ }
     {
-        let column = back_by(n, self.cursor.column);
+        let column = back_by(self.cursor.column, n);
         self.moved_to(self.cursor.row, column)
     }
 

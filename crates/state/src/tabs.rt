@@ -37,9 +37,9 @@ fn stop_left(stops: [bool; 160], column: usize) -> usize
 }
 
 // So many tab stops on.
-fn stops_on(stops: [bool; 160], last: usize, n: usize, column: usize) -> usize
+fn stops_on(stops: [bool; 160], last: usize, column: usize, n: usize) -> usize
     requires { ⌜ (1 ≤ column) × (column ≤ last) × (last ≤ 160) ⌝ }
-    ensures { λ r. ⌜ r ≡ stopsOn stops last n column ⌝ }
+    ensures { λ r. ⌜ r ≡ stopsOn stops last column n ⌝ }
 {
     let mut at = column;
     let mut left = n;
@@ -51,9 +51,9 @@ fn stops_on(stops: [bool; 160], last: usize, n: usize, column: usize) -> usize
 }
 
 // So many tab stops back.
-fn stops_back(stops: [bool; 160], n: usize, column: usize) -> usize
+fn stops_back(stops: [bool; 160], column: usize, n: usize) -> usize
     requires { ⌜ (1 ≤ column) × (column ≤ 160) ⌝ }
-    ensures { λ r. ⌜ r ≡ stopsBack stops n column ⌝ }
+    ensures { λ r. ⌜ r ≡ stopsBack stops column n ⌝ }
 {
     let mut at = column;
     let mut left = n;
@@ -71,7 +71,7 @@ impl State {
         ensures { λ r. ⌜ r ≡ tabbedOn n self ⌝ }
     {
         let stops = self.stops;
-        let column = stops_on(stops, self.size.columns, n, self.cursor.column);
+        let column = stops_on(stops, self.size.columns, self.cursor.column, n);
         self.moved_to(self.cursor.row, column)
     }
 
@@ -81,7 +81,7 @@ impl State {
         ensures { λ r. ⌜ r ≡ tabbedBack n self ⌝ }
     {
         let stops = self.stops;
-        let column = stops_back(stops, n, self.cursor.column);
+        let column = stops_back(stops, self.cursor.column, n);
         self.moved_to(self.cursor.row, column)
     }
 

@@ -6,7 +6,7 @@ use lib.ListN.{length}
 use Rattle.page.specs.Marks.{unprotected}
 use Rattle.places.proofs.Counting.{cell-is}
 use Rattle.fields.proofs.Walks.{Onward, sets-out, goes-on, comes-to, comes-to-nothing}
-use Rattle.fields.proofs.Searching.{one-first, first-free}
+use Rattle.fields.proofs.Searching.{one-first, first-unprotected}
 use Rattle.fields.proofs.seek_unprotected.Statement.{statement}
 use Rattle.fields.proofs.seek_unprotected.Tie as tie
 
@@ -20,7 +20,7 @@ abbrev μ-loop : tie.MeasureT-loop
 returns : tie.Need-returns Inv-loop μ-loop
 returns c =
     let way = c .before .before .before .before .loop .inv in
-    one-first _ (comes-to way (c .before .before .if1 .taken) (sym (c .before .is-unprotected .ensures) ∙ c .if2 .taken)) (first-free _ _ _ _ _ (omega arith))
+    one-first _ (comes-to way (c .before .before .if1 .taken) (sym (c .before .is-unprotected .ensures) ∙ c .if2 .taken)) (first-unprotected _ _ _ _ _ (omega arith))
 
 loop-again : tie.Need-loop-again Inv-loop μ-loop
 loop-again c =
@@ -28,7 +28,7 @@ loop-again c =
     goes-on way (c .before .before .before .if1 .taken) (omega arith) (sym (c .before .before .is-unprotected .ensures) ∙ c .before .if2 .left) (c .next .ensures)
 
 returns-2 : tie.Need-returns-2 Inv-loop μ-loop
-returns-2 c = one-first _ (comes-to-nothing (c .before .before .loop .inv) (c .if1 .left)) (first-free _ _ _ _ _ (omega arith))
+returns-2 c = one-first _ (comes-to-nothing (c .before .before .loop .inv) (c .if1 .left)) (first-unprotected _ _ _ _ _ (omega arith))
 
 pub seek-unprotected-spec : {M : Type 1} → statement M
 seek-unprotected-spec =

@@ -8,7 +8,7 @@ use Rattle.steps.specs.Steps.{Terminal}
 use Rattle.keys.specs.Keys.{goneTo, cellsFrom, fieldBlanked}
 use Rattle.steps.specs.Seen.{startHere, endHere}
 use Rattle.steps.proofs.Measuring.{measured}
-use Rattle.keys.proofs.Laws.{found, is-free, stays, run-counted, starts-before, start-is, rest-on-page, end-is}
+use Rattle.keys.proofs.Laws.{found, is-unprotected, stays, run-counted, starts-before, start-is, rest-on-page, end-is}
 use Rattle.keys.proofs.blank_field.Statement.{statement}
 use Rattle.keys.proofs.blank_field.Tie as tie
 
@@ -60,11 +60,11 @@ returns-2 c =
     let test = placed .before in
     let start = test .before .before .before .before .before .before in
     let here = found (start .pre) (placed .place .ensures) in
-    let free = is-free (test .before .stands-unprotected .ensures) (test .if1 .left) in
+    let cell-unprotected = is-unprotected (test .before .stands-unprotected .ensures) (test .if1 .left) in
     let starts = start-is here (started .field-start .ensures) in
     let ends = end-is here (ended .field-end .ensures) in
     let t : Terminal = record { state = start .args .state; page = pageOf (start .args .characters .now) (start .args .marks .now) } in
-    rw (free, c .stored .ensures (cellsFrom (startHere t) (endHere t)) _ (run-counted _ _ (cell-is _ _ starts) ends), c .before .before .moved-to .ensures, blanked .blank-cells .ensures, ends, starts)
+    rw (cell-unprotected, c .stored .ensures (cellsFrom (startHere t) (endHere t)) _ (run-counted _ _ (cell-is _ _ starts) ends), c .before .before .moved-to .ensures, blanked .blank-cells .ensures, ends, starts)
 
 pub blank-field-spec : {M : Type 1} → statement M
 blank-field-spec =

@@ -2,7 +2,7 @@ use borrow.Author.Needs.{needs}
 use native.Mathlib.Omega.{arith}
 use Rattle.page.specs.Page.{movedRight}
 use Rattle.keys.specs.Keys.{restShifted}
-use Rattle.keys.proofs.Laws.{is-free, stays, rest-on-page, rest-shifted}
+use Rattle.keys.proofs.Laws.{is-unprotected, stays, rest-on-page, rest-shifted}
 use Rattle.keys.proofs.insert_here.Statement.{statement}
 use Rattle.keys.proofs.insert_here.Tie as tie
 
@@ -25,8 +25,8 @@ returns-2 c =
     let changed = c .before .before .before .before .before .before in
     let rest = changed .before .before .before in
     let test = rest .before .before .before in
-    let free = is-free (test .before .stands-unprotected .ensures) (test .if1 .left) in
-    rest-shifted _ movedRight free (rw (rest .rest-of-field .ensures) at (c .stored .ensures)) (rw (rest .rest-of-field .ensures) at (changed .insert-blank .ensures))
+    let cell-unprotected = is-unprotected (test .before .stands-unprotected .ensures) (test .if1 .left) in
+    rest-shifted _ movedRight cell-unprotected (rw (rest .rest-of-field .ensures) at (c .stored .ensures)) (rw (rest .rest-of-field .ensures) at (changed .insert-blank .ensures))
 
 pub insert-here-spec : {M : Type 1} → statement M
 insert-here-spec =

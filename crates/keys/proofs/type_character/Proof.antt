@@ -6,7 +6,7 @@ use Rattle.words.specs.Choice.{if_then_else_}
 use Rattle.steps.specs.Steps.{cursorCell}
 use Rattle.keys.specs.Keys.{typedStep}
 use Rattle.steps.proofs.Measuring.{measured}
-use Rattle.keys.proofs.Laws.{found, is-free, stays}
+use Rattle.keys.proofs.Laws.{found, is-unprotected, stays}
 use Rattle.keys.proofs.type_character.Statement.{statement}
 use Rattle.keys.proofs.type_character.Tie as tie
 
@@ -33,8 +33,8 @@ returns-2 c =
     let test = placed .before in
     let start = test .before .before .before .before .before .before in
     let here = found (start .pre) (placed .place .ensures) in
-    let free = is-free (test .before .stands-unprotected .ensures) (test .if1 .left) in
-    rw (free, c .stored .ensures (cursorCell (start .args .state) ∷ []) _ refl, c .before .gone-to .ensures, sought .next-unprotected .ensures, stored .store-typed .ensures, here .cell)
+    let cell-unprotected = is-unprotected (test .before .stands-unprotected .ensures) (test .if1 .left) in
+    rw (cell-unprotected, c .stored .ensures (cursorCell (start .args .state) ∷ []) _ refl, c .before .gone-to .ensures, sought .next-unprotected .ensures, stored .store-typed .ensures, here .cell)
 
 pub type-character-spec : {M : Type 1} → statement M
 type-character-spec =

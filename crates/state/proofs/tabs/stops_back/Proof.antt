@@ -9,10 +9,10 @@ use Rattle.state.proofs.tabs.stops_back.Tie as tie
 
 -- n stops back from the column asked for is `left` stops back from `at`
 abbrev Inv-loop : tie.InvT-loop
-Inv-loop stops n column at₀ left₀ at left = (1 ≤ at) × (at ≤ 160) × (stopsBack stops n column ≡ stopsBack stops left at)
+Inv-loop stops column n at₀ left₀ at left = (1 ≤ at) × (at ≤ 160) × (stopsBack stops column n ≡ stopsBack stops at left)
 
 abbrev μ-loop : tie.MeasureT-loop
-μ-loop stops n column at₀ left₀ at left = left
+μ-loop stops column n at₀ left₀ at left = left
 
 loop-again : tie.Need-loop-again Inv-loop μ-loop
 loop-again c =

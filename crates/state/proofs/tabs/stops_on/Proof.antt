@@ -9,10 +9,10 @@ use Rattle.state.proofs.tabs.stops_on.Tie as tie
 
 -- n stops on from the column asked for is `left` stops on from `at`
 abbrev Inv-loop : tie.InvT-loop
-Inv-loop stops last n column at₀ left₀ at left = (1 ≤ at) × (at ≤ last) × (stopsOn stops last n column ≡ stopsOn stops last left at)
+Inv-loop stops last column n at₀ left₀ at left = (1 ≤ at) × (at ≤ last) × (stopsOn stops last column n ≡ stopsOn stops last at left)
 
 abbrev μ-loop : tie.MeasureT-loop
-μ-loop stops last n column at₀ left₀ at left = left
+μ-loop stops last column n at₀ left₀ at left = left
 
 loop-again : tie.Need-loop-again Inv-loop μ-loop
 loop-again c =
