@@ -77,8 +77,8 @@ Progress entries =
     (t : Terminal) (bytes lent : List ℕ) → 35185 ≤ length lent → entries .host t bytes lent .number ≡ 3 →
     0 < entries .host t bytes lent .sent
 
--- Calls are the steps of what they did: their bytes are those transmissions joined, their count the cells that those
--- steps name.
+-- Calls are the steps of what they did: their bytes are those transmissions joined, their counts the cells that those
+-- steps name and the commands that they refuse.
 abbrev pub CallsAreSteps : Rules → Entries → Type 0
 CallsAreSteps rules entries =
     (t : Terminal) (calls : List Call) →

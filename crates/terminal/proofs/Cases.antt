@@ -101,16 +101,16 @@ module _ (t : Terminal) (bytes output : List ℕ) where
     where
       go : Tested (hostRefusals t bytes) (exceedsRoom (length output) (stepsOf t bytes) answers NoRoom) → HostCase
       go (one-holds answer nothing first) =
-          refused answer (no-steps answer Done nothing refl) (no-steps answer NoRoom nothing refl) (Deciding.host-refused t bytes output answer nothing first)
+          refused answer (no-steps answer Done nothing refl) (no-steps answer NoRoom nothing refl) (Deciding.host-refuses t bytes output answer nothing first)
       go (last-holds all-fail exceeds) =
           let line = line-3 (length output) (stepsOf t bytes) .0 exceeds in
           stopped (host-passed t bytes all-fail) line
-          (Deciding.host-did t bytes output NoRoom refl (through all-fail (this exceeds))
+          (Deciding.host-does t bytes output NoRoom refl (through all-fail (this exceeds))
           ∙ ap (λ (steps : List Stepped). afterSteps NoRoom (length steps) t output steps) (line-3-done (length output) (stepsOf t bytes) line))
       go (none-holds all-fail fits) =
           let all = all-fit (length output) (stepsOf t bytes) (ltb-false _ _ fits) in
           done (host-passed t bytes all-fail) (all .1)
-          (Deciding.host-did t bytes output Done refl (through all-fail (past fits none))
+          (Deciding.host-does t bytes output Done refl (through all-fail (past fits none))
           ∙ ap (λ (steps : List Stepped). afterSteps Done (length steps) t output steps) (all .0)
           ∙ ap (λ (n : ℕ). afterSteps Done n t output (stepsOf t bytes)) (steps-count t bytes))
 
@@ -131,7 +131,7 @@ module _ (t : Terminal) (key : ℕ) (output : List ℕ) where
   key-case = go (tested (keyRefusals t key) (exceedsRoom (length output) (keyStep key t ∷ []) answers NoRoom) refl)
     where
       go : Tested (keyRefusals t key) (exceedsRoom (length output) (keyStep key t ∷ []) answers NoRoom) → KeyCase
-      go (one-holds answer nothing first) = refused answer (no-steps answer Done nothing refl) (Deciding.key-refused t key output answer nothing first)
+      go (one-holds answer nothing first) = refused answer (no-steps answer Done nothing refl) (Deciding.key-refuses t key output answer nothing first)
       go (last-holds all-fail exceeds) = let-pass (key-passed t key all-fail)
       go (none-holds all-fail fits) = let-pass (key-passed t key all-fail)
 

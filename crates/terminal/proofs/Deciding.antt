@@ -36,6 +36,7 @@ pub valid-holds : (t : Terminal) → Valid t → passesLine2 t ≡ true
 unfolding passesLine2
 valid-holds t valid = both-hold _ _ (valid .state) (valid .page)
 
+-- A test, or none.
 pub or-false : (test : Bool) → (test or false) ≡ test
 unfolding _or_
 or-false true = refl
@@ -62,7 +63,7 @@ module _ (answer : Answer) (taken : ℕ) (t : Terminal) (output : List ℕ) (ste
 
 -- What lets a call pass all lines but 3: every test before it fails.
 module _ (t : Terminal) (bytes : List ℕ) where
-  pub host-passes : Valid t → length bytes ≤ 65536 → AllFail (hostRefusals t bytes)
+  host-passes : Valid t → length bytes ≤ 65536 → AllFail (hostRefusals t bytes)
   unfolding hostRefusals
   host-passes valid short = fails (ap not (valid .size)) (fails (ap not (valid-holds t valid)) (fails (le-ltb _ _ short) no-line))
 
@@ -99,19 +100,19 @@ module _ (t : Terminal) (bytes output : List ℕ) where
   unfolding hostCall
   host-gives answer first = ap (λ (a : Answer). gives a (length done) t output done) (decided first)
 
-  pub host-refused : (answer : Answer) → changesNothing answer ≡ true → First (hostLines t bytes output) answer → hostCall t bytes output ≡ unchanged answer t output
-  host-refused answer nothing first = host-gives answer first ∙ gives-nothing answer _ t output _ nothing
+  pub host-refuses : (answer : Answer) → changesNothing answer ≡ true → First (hostLines t bytes output) answer → hostCall t bytes output ≡ unchanged answer t output
+  host-refuses answer nothing first = host-gives answer first ∙ gives-nothing answer _ t output _ nothing
 
-  pub host-did : (answer : Answer) → changesNothing answer ≡ false → First (hostLines t bytes output) answer → hostCall t bytes output ≡ afterSteps answer (length done) t output done
-  host-did answer some first = host-gives answer first ∙ gives-steps answer _ t output _ some
+  pub host-does : (answer : Answer) → changesNothing answer ≡ false → First (hostLines t bytes output) answer → hostCall t bytes output ≡ afterSteps answer (length done) t output done
+  host-does answer some first = host-gives answer first ∙ gives-steps answer _ t output _ some
 
   pub host-no-room : Valid t → length bytes ≤ 65536 → exceedsRoom (length output) (stepsOf t bytes) ≡ true → hostCall t bytes output ≡ afterSteps NoRoom (length done) t output done
   unfolding hostLines changesNothing
-  host-no-room valid short exceeds = host-did NoRoom refl (through (host-passes t bytes valid short) (this exceeds))
+  host-no-room valid short exceeds = host-does NoRoom refl (through (host-passes t bytes valid short) (this exceeds))
 
   pub host-done : Valid t → length bytes ≤ 65536 → exceedsRoom (length output) (stepsOf t bytes) ≡ false → hostCall t bytes output ≡ afterSteps Done (length done) t output done
   unfolding hostLines changesNothing
-  host-done valid short fit = host-did Done refl (through (host-passes t bytes valid short) (past fit none))
+  host-done valid short fit = host-does Done refl (through (host-passes t bytes valid short) (past fit none))
 
 module _ (t : Terminal) (key : ℕ) (output : List ℕ) where
   abbrev pressed : List Stepped
@@ -121,8 +122,8 @@ module _ (t : Terminal) (key : ℕ) (output : List ℕ) where
   unfolding keyCall
   key-gives answer first = ap (λ (a : Answer). gives a 0 t output pressed) (decided first)
 
-  pub key-refused : (answer : Answer) → changesNothing answer ≡ true → First (keyLines t key output) answer → keyCall t key output ≡ unchanged answer t output
-  key-refused answer nothing first = key-gives answer first ∙ gives-nothing answer _ t output _ nothing
+  pub key-refuses : (answer : Answer) → changesNothing answer ≡ true → First (keyLines t key output) answer → keyCall t key output ≡ unchanged answer t output
+  key-refuses answer nothing first = key-gives answer first ∙ gives-nothing answer _ t output _ nothing
 
   -- Line 3: a key's step is done whole or not at all.
   pub key-no-room : Passes t key → length output < length (bytesOf (keyStep key t .transmission)) → keyCall t key output ≡ unchanged NoRoom t output

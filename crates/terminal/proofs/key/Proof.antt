@@ -12,7 +12,7 @@ use Rattle.terminal.specs.declared.Answer.the-variants.{WrongSize, Wrong
 use Rattle.terminal.specs.Answers.{changesNothing}
 use Rattle.terminal.specs.Tests.{LineTest, passesLine2, keyRefusals, keyLines}
 use Rattle.terminal.proofs.Firsts.{First, this, past}
-use Rattle.terminal.proofs.Deciding.{is-valid, key-refused}
+use Rattle.terminal.proofs.Deciding.{is-valid, key-refuses}
 use Rattle.terminal.proofs.key.Statement.{statement}
 use Rattle.terminal.proofs.key.Tie as tie
 
@@ -80,35 +80,35 @@ returns : tie.Need-returns
 unfolding keyLines keyRefusals changesNothing
 returns c =
     let wrong = sym (c .before .before .fits2 .ensures) ∙ not-true _ (c .before .if1 .taken) in
-    c .refuse-call .ensures _ _ ∙ sym (key-refused _ _ _ WrongSize refl (this (ap not wrong)))
+    c .refuse-call .ensures _ _ ∙ sym (key-refuses _ _ _ WrongSize refl (this (ap not wrong)))
 
 returns-2 : tie.Need-returns-2
 unfolding keyLines keyRefusals changesNothing
 returns-2 c =
     let test = c .before .before in
     let wrong = sym (test .is-valid .ensures) ∙ not-true _ (c .before .if2 .taken) in
-    c .refuse-call2 .ensures _ _ ∙ sym (key-refused _ _ _ WrongState refl (past-1 (test .before .before .before) (this (ap not wrong))))
+    c .refuse-call2 .ensures _ _ ∙ sym (key-refuses _ _ _ WrongState refl (past-1 (test .before .before .before) (this (ap not wrong))))
 
 returns-3 : tie.Need-returns-3
 unfolding keyLines keyRefusals changesNothing
 returns-3 c =
     let test = c .before .before in
     let unknown = sym (test .is-known .ensures) ∙ not-true _ (c .before .if3 .taken) in
-    c .refuse-call3 .ensures _ _ ∙ sym (key-refused _ _ _ UnknownKey refl (past-2 (test .before) (this (ap not unknown))))
+    c .refuse-call3 .ensures _ _ ∙ sym (key-refuses _ _ _ UnknownKey refl (past-2 (test .before) (this (ap not unknown))))
 
 returns-4 : tie.Need-returns-4
 unfolding keyLines keyRefusals changesNothing
 returns-4 c =
     let test = c .before .before in
     let locked = sym (test .is-locked-out .ensures) ∙ c .before .if4 .taken in
-    c .refuse-call4 .ensures _ _ ∙ sym (key-refused _ _ _ Locked refl (past-3 (test .before) (this locked)))
+    c .refuse-call4 .ensures _ _ ∙ sym (key-refuses _ _ _ Locked refl (past-3 (test .before) (this locked)))
 
 returns-5 : tie.Need-returns-5
 unfolding keyLines keyRefusals changesNothing
 returns-5 c =
     let test = c .before .before in
     let lacks = sym (test .lacks-cell .ensures) ∙ c .before .if5 .taken in
-    c .refuse-call5 .ensures _ _ ∙ sym (key-refused _ _ _ NoCell refl (past-4 (test .before .before .before) (this lacks)))
+    c .refuse-call5 .ensures _ _ ∙ sym (key-refuses _ _ _ NoCell refl (past-4 (test .before .before .before) (this lacks)))
 
 terminal-valid : (c : tie.Else2) → Valid (lent (start-2 c))
 terminal-valid c = is-valid _ (size-fits (else-1 c)) (valid c)
