@@ -62,6 +62,8 @@ pub struct Back {
     pub taken: usize,
     pub sent: usize,
     pub stored: usize,
+    pub refused: usize,
+    pub protection: bool,
 }
 
 fn state_of(given: Given) -> State {
@@ -102,7 +104,15 @@ fn back_of(reply: Reply) -> Back {
         arguments,
         stops,
     };
-    Back { state, number, taken: reply.taken, sent: reply.sent, stored: reply.stored }
+    Back {
+        state,
+        number,
+        taken: reply.taken,
+        sent: reply.sent,
+        stored: reply.stored,
+        refused: reply.refused,
+        protection: reply.protection,
+    }
 }
 
 #[no_mangle]

@@ -6,7 +6,7 @@ use Prim.Native.Nat.{ℕ, _+_, _<_, _≤_}
 use borrow.Author.Tests.{ne-eqb, lt-ltb, le-ltb}
 use lib.Dec.{ltb}
 use lib.ListN.{length, take}
-use Rattle.words.specs.Choice.{if_then_else_, _and_, _or_}
+use Rattle.words.specs.Choice.{if_then_else_, _and_, _or_, _is_to_}
 use Rattle.words.proofs.Choosing.{then-case, else-case}
 use Rattle.sequence.specs.declared.HalfRead.{HalfRead}
 use Rattle.steps.specs.Steps.{Terminal, refusing, rowStart}
@@ -17,28 +17,28 @@ use Rattle.commands.specs.Commands.{erasePart, listedStep, bracketStep}
 use Rattle.sending.specs.Sending.{statusReport}
 
 -- The table lets the command pass, or refuses it.
-module _ (final : ℕ) (half : HalfRead) (t : Terminal) (most : ℕ) (is : most ≡ allowed final .most) where
+module _ (final : ℕ) (half : HalfRead) (t : Terminal) (most : ℕ) (asked : most ≡ allowed final .most) where
   pub too-many : most < half .count → bracketStep final half t ≡ refusing t
   unfolding bracketStep
-  too-many more = then-case _ _ _ (ap (λ (m : ℕ). ltb m (half .count)) (sym is) ∙ lt-ltb _ _ more)
+  too-many more = then-case _ _ _ (ap (λ (m : ℕ). ltb m (half .count)) (sym asked) ∙ lt-ltb _ _ more)
 
   pub not-too-many : half .count ≤ most → bracketStep final half t ≡ listedStep final (half .arguments) (half .count) t
   unfolding bracketStep
-  not-too-many few = else-case _ _ _ (ap (λ (m : ℕ). ltb m (half .count)) (sym is) ∙ le-ltb _ _ few)
+  not-too-many few = else-case _ _ _ (ap (λ (m : ℕ). ltb m (half .count)) (sym asked) ∙ le-ltb _ _ few)
 
 -- By final byte.
-module _ (final what : ℕ) (arguments : List ℕ) (count : ℕ) (t : Terminal) (is : what ≡ valueOf final arguments 0) where
+module _ (final what : ℕ) (arguments : List ℕ) (count : ℕ) (t : Terminal) (given : what ≡ valueOf final arguments 0) where
   pub final-W : final ≡ 0x57 → listedStep final arguments count t ≡ tabControl what t
-  unfolding listedStep isMove if_then_else_ _and_ _or_
-  final-W e = rw (is, e)
+  unfolding listedStep isMove if_then_else_ _and_ _or_ _is_to_
+  final-W e = rw (given, e)
 
   pub final-J : final ≡ 0x4A → listedStep final arguments count t ≡ erasePart what 0 (length (t .page .marks)) t
-  unfolding listedStep isMove if_then_else_ _and_ _or_
-  final-J e = rw (is, e)
+  unfolding listedStep isMove if_then_else_ _and_ _or_ _is_to_
+  final-J e = rw (given, e)
 
   pub final-K : final ≡ 0x4B → listedStep final arguments count t ≡ erasePart what (rowStart (t .state)) (rowStart (t .state) + t .state .size .columns) t
-  unfolding listedStep isMove if_then_else_ _and_ _or_
-  final-K e = rw (is, e)
+  unfolding listedStep isMove if_then_else_ _and_ _or_ _is_to_
+  final-K e = rw (given, e)
 
   -- No other line is left for a final byte that is none of the listed ones but n.
   pub final-n : isMove final ≡ false → (final ≡ 0x57 → ⊥) → (final ≡ 0x4A → ⊥) → (final ≡ 0x4B → ⊥) → (final ≡ 0x6D → ⊥) → (final ≡ 0x68 → ⊥) → (final ≡ 0x6C → ⊥) → listedStep final arguments count t ≡ statusReport what t
@@ -51,7 +51,7 @@ module _ (final what : ℕ) (arguments : List ℕ) (count : ℕ) (t : Terminal) 
       ∙ else-case _ _ _ (ne-eqb _ _ m)
       ∙ else-case _ _ _ (ne-eqb _ _ h)
       ∙ else-case _ _ _ (ne-eqb _ _ l)
-      ∙ ap (λ (n : ℕ). statusReport n t) (sym is)
+      ∙ ap (λ (n : ℕ). statusReport n t) (sym given)
 
 module _ (final : ℕ) (arguments : List ℕ) (count : ℕ) (t : Terminal) where
   pub final-move : isMove final ≡ true → listedStep final arguments count t ≡ moveStep final arguments t
@@ -59,13 +59,13 @@ module _ (final : ℕ) (arguments : List ℕ) (count : ℕ) (t : Terminal) where
   final-move move = then-case _ _ _ move
 
   pub final-m : final ≡ 0x6D → listedStep final arguments count t ≡ rendition (take count arguments) t
-  unfolding listedStep isMove if_then_else_ _and_ _or_
+  unfolding listedStep isMove if_then_else_ _and_ _or_ _is_to_
   final-m e = rw e
 
   pub final-h : final ≡ 0x68 → listedStep final arguments count t ≡ setMode true (take count arguments) t
-  unfolding listedStep isMove if_then_else_ _and_ _or_
+  unfolding listedStep isMove if_then_else_ _and_ _or_ _is_to_
   final-h e = rw e
 
   pub final-l : final ≡ 0x6C → listedStep final arguments count t ≡ setMode false (take count arguments) t
-  unfolding listedStep isMove if_then_else_ _and_ _or_
+  unfolding listedStep isMove if_then_else_ _and_ _or_ _is_to_
   final-l e = rw e

@@ -7,6 +7,7 @@ pub mod Silent
 pub mod Lengths
 pub mod Finals
 pub mod Stepping
+pub mod Computing
 pub mod Streams
 pub mod Examples
 pub mod Cells

@@ -49,8 +49,8 @@ settled-same step done = λ i. record {
   protection = step .protection;
 }
 
--- What is told of an event's step, and with it what is written, is settled as the step is. One whose transmission did not fit
--- is no refused one.
+-- What is told of an event's step, and with it what is written, is settled as the step is. One whose transmission did
+-- not fit is no refused one.
 abbrev settling : Written → Written
 settling w = record {
   told = record {

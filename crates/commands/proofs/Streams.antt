@@ -1,24 +1,22 @@
 -- Streams of host bytes for the worked examples, and what the steps of their bytes come to.
 use mathlib.Core.List.{List, [], _∷_, _++_}
 use Prim.Native.Nat.{ℕ, _+_}
+use Prim.Native.Char.{code}
+use Prim.Native.String as string
+use Prim.Native.String.{String}
 use lib.ListN.{length, replicate}
 use Rattle.page.specs.Page.{Page, pageOf}
-use Rattle.output.specs.Decimal.{decimal}
 use Rattle.state.specs.State.{freshState}
 use Rattle.steps.specs.Steps.{Terminal, bytesOf}
 use Rattle.commands.specs.Host.{hostStep}
 
--- ESC and a byte; ESC [, numbers below 1,000 with ; between them, and a final byte. No number: the argument is omitted.
-unfoldable pub esc : ℕ → List ℕ
-esc byte = 0x1B ∷ byte ∷ []
+-- The codes of a word's characters; ESC and a word.
+unfoldable pub text : String → List ℕ
+text string.[] = []
+text (string._∷_ character word) = code character ∷ text word
 
-unfoldable pub numbers : List ℕ → List ℕ
-numbers [] = []
-numbers (number ∷ []) = decimal number
-numbers (number ∷ next ∷ later) = decimal number ++ (0x3B ∷ numbers (next ∷ later))
-
-unfoldable pub csi : List ℕ → ℕ → List ℕ
-csi arguments final = 0x1B ∷ 0x5B ∷ (numbers arguments ++ (final ∷ []))
+unfoldable pub esc : String → List ℕ
+esc word = 0x1B ∷ text word
 
 -- A terminal after a stream, with the cells stored and the bytes sent on the way.
 pub record Ran : Type 0 where
@@ -42,3 +40,8 @@ terminalWith rows columns page = record { state = freshState (record { rows = ro
 -- A fresh page of 24 by 80.
 unfoldable pub fresh : Terminal
 fresh = terminalWith 24 80 (pageOf (replicate 1920 0x20) (replicate 1920 0))
+
+-- All of it, unfolded.
+unfoldable pub streams : Unit {0}
+unfolding text esc runFrom run fresh
+streams = tt

@@ -26,8 +26,8 @@ eventStep half Refused t = refusing t
 abbrev pub FinalInTable : Event → Type 0
 FinalInTable event = (final : ℕ) → event ≡ BracketCommand final → (0x40 ≤ final) × (final ≤ 0x7E)
 
--- "Reading host bytes", a refused command: it sets the soft lock and message 1 and changes nothing else. This is the one place
--- that says so, whatever was refused, a command, a sequence or a byte.
+-- "Reading host bytes", a refused command: it sets the soft lock and message 1 and changes nothing else. This is the
+-- one place that says so, whatever was refused, a command, a sequence or a byte.
 unfoldable pub settledState : Bool → State → State
 settledState wasRefused s =
     if wasRefused then refused s

@@ -12,9 +12,11 @@ use Rattle.steps.specs.Steps.{Terminal, Stepped, withState, goesTo, stores, cur
 -- Text: the cursor's cell takes the character and the pen's marks, and the cursor goes on, round the page.
 unfoldable pub textStep : ℕ → Terminal → Stepped
 textStep character t =
-    stores (cursorCell (t .state) ∷ []) true (toNextCell (t .state)) (textStored (cursorCell (t .state)) character (t .state .modes .pen) (t .page))
+    let cell = cursorCell (t .state) in
+    stores (cell ∷ []) true (toNextCell (t .state)) (textStored cell character (t .state .modes .pen) (t .page))
 
--- IND and 0A: down one, at the last row a scroll up. RI: up one, at the first row a scroll down. NEL: as IND, with column 1.
+-- IND and 0A: down one, at the last row a scroll up. RI: up one, at the first row a scroll down. NEL: as IND, with
+-- column 1.
 unfoldable pub lineDown : Terminal → Stepped
 lineDown t =
     if ltb (t .state .cursor .row) (t .state .size .rows) then goesTo (downBy 1 (t .state)) t
@@ -28,10 +30,10 @@ lineUp t =
 unfoldable pub nextLine : Terminal → Stepped
 nextLine t = lineDown (withState t (toMargin (t .state)))
 
--- The control bytes that act: BS, HT, LF, CR.
+-- The control bytes that act: the last line is 0D.
 unfoldable pub controlStep : ℕ → Terminal → Stepped
 controlStep byte t =
-    if eqb byte 0x08 then goesTo (leftBy 1 (t .state)) t
-    else if eqb byte 0x09 then goesTo (tabbedOn 1 (t .state)) t
-    else if eqb byte 0x0A then lineDown t
-    else goesTo (toMargin (t .state)) t
+    if eqb byte 0x08 then goesTo (leftBy 1 (t .state)) t  -- BS
+    else if eqb byte 0x09 then goesTo (tabbedOn 1 (t .state)) t  -- HT
+    else if eqb byte 0x0A then lineDown t  -- LF
+    else goesTo (toMargin (t .state)) t  -- CR

@@ -14,9 +14,12 @@ ghost use Rattle.commands.specs.Text.{textStep, lineDown, lineUp, contro
 ghost use Rattle.commands.specs.Commands.{freshStep, escStep, erasing, erasePart, bracketStep};
 ghost use Rattle.commands.specs.Host.{FinalInTable, eventStep, settledState, hostStep};
 
+// Text: the cursor's cell takes the character, and the cursor goes on.
 fn text(state: State, characters: &mut [u8], marks: &mut [Mark], character: u8) -> Step
     requires { ⌜ Valid (terminalOf state (now characters) (now marks)) ⌝ }
-    ensures { λ r. ⌜ told r (pageOf (now (characters .exit)) (now (marks .exit))) ≡ tells (textStep character (terminalOf state (now (characters .entry)) (now (marks .entry)))) ⌝ }
+    ensures { λ r. ⌜
+        told r (pageOf (now (characters .exit)) (now (marks .exit)))
+        ≡ tells (textStep character (terminalOf state (now (characters .entry)) (now (marks .entry)))) ⌝ }
 {
     let place = state.place();
     page::store_text(characters, marks, place.cell, character, state.modes.pen);
@@ -26,7 +29,9 @@ fn text(state: State, characters: &mut [u8], marks: &mut [Mark], character: u8) 
 // IND and LF.
 fn line_down(state: State, characters: &mut [u8], marks: &mut [Mark]) -> Step
     requires { ⌜ Valid (terminalOf state (now characters) (now marks)) ⌝ }
-    ensures { λ r. ⌜ told r (pageOf (now (characters .exit)) (now (marks .exit))) ≡ tells (lineDown (terminalOf state (now (characters .entry)) (now (marks .entry)))) ⌝ }
+    ensures { λ r. ⌜
+        told r (pageOf (now (characters .exit)) (now (marks .exit)))
+        ≡ tells (lineDown (terminalOf state (now (characters .entry)) (now (marks .entry)))) ⌝ }
 {
     if state.cursor.row < state.size.rows {
         return steps::quiet(state.down_by(1));
@@ -39,7 +44,9 @@ fn line_down(state: State, characters: &mut [u8], marks: &mut [Mark]) -> Step
 // RI.
 fn line_up(state: State, characters: &mut [u8], marks: &mut [Mark]) -> Step
     requires { ⌜ Valid (terminalOf state (now characters) (now marks)) ⌝ }
-    ensures { λ r. ⌜ told r (pageOf (now (characters .exit)) (now (marks .exit))) ≡ tells (lineUp (terminalOf state (now (characters .entry)) (now (marks .entry)))) ⌝ }
+    ensures { λ r. ⌜
+        told r (pageOf (now (characters .exit)) (now (marks .exit)))
+        ≡ tells (lineUp (terminalOf state (now (characters .entry)) (now (marks .entry)))) ⌝ }
 {
     if 1 < state.cursor.row {
         return steps::quiet(state.up_by(1));
@@ -52,23 +59,27 @@ fn line_up(state: State, characters: &mut [u8], marks: &mut [Mark]) -> Step
 // RIS: a fresh page is one erased with erasure mode set.
 fn fresh(state: State, characters: &mut [u8], marks: &mut [Mark]) -> Step
     requires { ⌜ Valid (terminalOf state (now characters) (now marks)) ⌝ }
-    ensures { λ r. ⌜ told r (pageOf (now (characters .exit)) (now (marks .exit))) ≡ tells (freshStep (terminalOf state (now (characters .entry)) (now (marks .entry)))) ⌝ }
+    ensures { λ r. ⌜
+        told r (pageOf (now (characters .exit)) (now (marks .exit)))
+        ≡ tells (freshStep (terminalOf state (now (characters .entry)) (now (marks .entry)))) ⌝ }
 {
     let cells = marks.len();
     page::erase(characters, marks, 0, cells, true);
     steps::stored(State::fresh(state.size), cells, true)
 }
 
-// BS, HT, LF, CR.
+// The control bytes that act.
 fn control(state: State, characters: &mut [u8], marks: &mut [Mark], byte: u8) -> Step
     requires { ⌜ Valid (terminalOf state (now characters) (now marks)) ⌝ }
-    ensures { λ r. ⌜ told r (pageOf (now (characters .exit)) (now (marks .exit))) ≡ tells (controlStep byte (terminalOf state (now (characters .entry)) (now (marks .entry)))) ⌝ }
+    ensures { λ r. ⌜
+        told r (pageOf (now (characters .exit)) (now (marks .exit)))
+        ≡ tells (controlStep byte (terminalOf state (now (characters .entry)) (now (marks .entry)))) ⌝ }
 {
     match byte {
-        0x08 => steps::quiet(state.left_by(1)),
-        0x09 => steps::quiet(state.tab_on(1)),
-        0x0A => line_down(state, characters, marks),
-        _ => steps::quiet(state.to_margin()),
+        0x08 => steps::quiet(state.left_by(1)), // BS
+        0x09 => steps::quiet(state.tab_on(1)), // HT
+        0x0A => line_down(state, characters, marks), // LF
+        _ => steps::quiet(state.to_margin()), // CR
     }
 }
 
@@ -76,22 +87,25 @@ fn control(state: State, characters: &mut [u8], marks: &mut [Mark], byte: u8) ->
 fn silent_esc_step(state: State, characters: &mut [u8], marks: &mut [Mark], byte: u8) -> Step
     requires { ⌜ Valid (terminalOf state (now characters) (now marks)) ⌝ }
     requires { ⌜ (byte ≡ 0x53 → ⊥) ⌝ }
-    ensures { λ r. ⌜ told r (pageOf (now (characters .exit)) (now (marks .exit))) ≡ tells (escStep byte (terminalOf state (now (characters .entry)) (now (marks .entry)))) ⌝ }
+    ensures { λ r. ⌜
+        told r (pageOf (now (characters .exit)) (now (marks .exit)))
+        ≡ tells (escStep byte (terminalOf state (now (characters .entry)) (now (marks .entry)))) ⌝ }
 {
     match byte {
-        0x44 => line_down(state, characters, marks), // D
-        0x45 => line_down(state.to_margin(), characters, marks), // E
-        0x4D => line_up(state, characters, marks), // M
-        0x48 => steps::quiet(state.set_stop()), // H
-        0x56 => steps::quiet(state.with_pen(state::pen_protected(state.modes.pen))), // V
-        0x57 => steps::quiet(state.with_pen(state::pen_unprotected(state.modes.pen))), // W
-        0x63 => fresh(state, characters, marks), // c
-        0x60 => steps::quiet(state.disable_input()), // `
-        0x62 => steps::quiet(state.enable_input()), // b
+        b'D' => line_down(state, characters, marks), // IND
+        b'E' => line_down(state.to_margin(), characters, marks), // NEL
+        b'M' => line_up(state, characters, marks), // RI
+        b'H' => steps::quiet(state.set_stop()), // HTS
+        b'V' => steps::quiet(state.with_pen(state::pen_protected(state.modes.pen))), // SPA
+        b'W' => steps::quiet(state.with_pen(state::pen_unprotected(state.modes.pen))), // EPA
+        b'c' => fresh(state, characters, marks), // RIS
+        b'`' => steps::quiet(state.disable_input()), // DMI
+        b'b' => steps::quiet(state.enable_input()), // EMI
         _ => steps::refuse(state),
     }
 }
 
+// Erasing from one cell to before another, as erasure mode says.
 fn erase_cells(
     state: State,
     characters: &mut [u8],
@@ -100,7 +114,9 @@ fn erase_cells(
     to: usize,
 ) -> Step
     requires { ⌜ (from ≤ to) × (to ≤ length (now characters)) × (length (now marks) ≡ length (now characters)) ⌝ }
-    ensures { λ r. ⌜ told r (pageOf (now (characters .exit)) (now (marks .exit))) ≡ tells (erasing from to (terminalOf state (now (characters .entry)) (now (marks .entry)))) ⌝ }
+    ensures { λ r. ⌜
+        told r (pageOf (now (characters .exit)) (now (marks .exit)))
+        ≡ tells (erasing from to (terminalOf state (now (characters .entry)) (now (marks .entry)))) ⌝ }
 {
     let count = page::erase(characters, marks, from, to, state.modes.erasure);
     steps::stored(state, count, state.modes.erasure)
@@ -117,7 +133,9 @@ fn erase_part(
 ) -> Step
     requires { ⌜ Valid (terminalOf state (now characters) (now marks)) ⌝ }
     requires { ⌜ (first ≤ cursorCell state) × (cursorCell state + 1 ≤ end) × (end ≤ length (now marks)) ⌝ }
-    ensures { λ r. ⌜ told r (pageOf (now (characters .exit)) (now (marks .exit))) ≡ tells (erasePart what first end (terminalOf state (now (characters .entry)) (now (marks .entry)))) ⌝ }
+    ensures { λ r. ⌜
+        told r (pageOf (now (characters .exit)) (now (marks .exit)))
+        ≡ tells (erasePart what first end (terminalOf state (now (characters .entry)) (now (marks .entry)))) ⌝ }
 {
     let place = state.place();
     let cell = place.cell;
@@ -132,7 +150,10 @@ fn erase_part(
 // EL.
 fn erase_row(state: State, characters: &mut [u8], marks: &mut [Mark], what: usize) -> Step
     requires { ⌜ Valid (terminalOf state (now characters) (now marks)) ⌝ }
-    ensures { λ r. ⌜ told r (pageOf (now (characters .exit)) (now (marks .exit))) ≡ tells (erasePart what (rowStart state) (rowStart state + state .size .columns) (terminalOf state (now (characters .entry)) (now (marks .entry)))) ⌝ }
+    ensures { λ r. ⌜
+        told r (pageOf (now (characters .exit)) (now (marks .exit)))
+        ≡ tells (erasePart what (rowStart state) (rowStart state + state .size .columns)
+        (terminalOf state (now (characters .entry)) (now (marks .entry)))) ⌝ }
 {
     let place = state.place();
     let first = place.cell - (state.cursor.column - 1);
@@ -158,9 +179,13 @@ fn esc_step(
 ) -> Step
     requires { ⌜ Valid (terminalOf state (now characters) (now marks)) ⌝ }
     requires { ⌜ at ≤ length (now out) ⌝ }
-    ensures { λ r. ⌜ record { told = told r (pageOf (now (characters .exit)) (now (marks .exit))); output = now (out .exit) } ≡ written at (now (out .entry)) (terminalOf before (now (characters .entry)) (now (marks .entry))) (escStep byte (terminalOf state (now (characters .entry)) (now (marks .entry)))) ⌝ }
+    ensures { λ r. ⌜
+        record { told = told r (pageOf (now (characters .exit)) (now (marks .exit))); output = now (out .exit) }
+        ≡ written at (now (out .entry))
+        (terminalOf before (now (characters .entry)) (now (marks .entry)))
+        (escStep byte (terminalOf state (now (characters .entry)) (now (marks .entry)))) ⌝ }
 {
-    if byte == 0x53 {
+    if byte == b'S' {
         return sending::send_block(state, before, characters, marks, out, at, true);
     }
     silent_esc_step(state, characters, marks, byte)
@@ -178,7 +203,11 @@ fn bracket_step(
 ) -> Step
     requires { ⌜ Valid (terminalOf state (now characters) (now marks)) ⌝ }
     requires { ⌜ (at ≤ length (now out)) × (0x40 ≤ letter) × (letter ≤ 0x7E) × (before .half .count ≤ 8) ⌝ }
-    ensures { λ r. ⌜ record { told = told r (pageOf (now (characters .exit)) (now (marks .exit))); output = now (out .exit) } ≡ written at (now (out .entry)) (terminalOf before (now (characters .entry)) (now (marks .entry))) (bracketStep letter (before .half) (terminalOf state (now (characters .entry)) (now (marks .entry)))) ⌝ }
+    ensures { λ r. ⌜
+        record { told = told r (pageOf (now (characters .exit)) (now (marks .exit))); output = now (out .exit) }
+        ≡ written at (now (out .entry))
+        (terminalOf before (now (characters .entry)) (now (marks .entry)))
+        (bracketStep letter (before .half) (terminalOf state (now (characters .entry)) (now (marks .entry)))) ⌝ }
 {
     let half = before.half;
     let arguments = half.arguments;
@@ -192,13 +221,13 @@ fn bracket_step(
     let what = table::value(letter, arguments, 0);
     let cells = marks.len();
     match letter {
-        0x57 => table::settings::tab_control(state, what), // W
-        0x4A => erase_part(state, characters, marks, what, 0, cells), // J
-        0x4B => erase_row(state, characters, marks, what), // K
-        0x6D => table::settings::rendition(state, arguments, count as usize), // m
-        0x68 => table::settings::set_mode(state, true, arguments, count as usize), // h
-        0x6C => table::settings::set_mode(state, false, arguments, count as usize), // l
-        _ => sending::status_report(state, before, out, at, what), // n
+        b'W' => table::settings::tab_control(state, what), // CTC
+        b'J' => erase_part(state, characters, marks, what, 0, cells), // ED
+        b'K' => erase_row(state, characters, marks, what), // EL
+        b'm' => table::settings::rendition(state, arguments, count as usize), // SGR
+        b'h' => table::settings::set_mode(state, true, arguments, count as usize), // SM
+        b'l' => table::settings::set_mode(state, false, arguments, count as usize), // RM
+        _ => sending::status_report(state, before, out, at, what), // n: DSR
     }
 }
 
@@ -214,7 +243,11 @@ fn event_step(
 ) -> Step
     requires { ⌜ Valid (terminalOf state (now characters) (now marks)) ⌝ }
     requires { ⌜ (at ≤ length (now out)) × FinalInTable event × (before .half .count ≤ 8) ⌝ }
-    ensures { λ r. ⌜ record { told = told r (pageOf (now (characters .exit)) (now (marks .exit))); output = now (out .exit) } ≡ written at (now (out .entry)) (terminalOf before (now (characters .entry)) (now (marks .entry))) (eventStep (before .half) event (terminalOf state (now (characters .entry)) (now (marks .entry)))) ⌝ }
+    ensures { λ r. ⌜
+        record { told = told r (pageOf (now (characters .exit)) (now (marks .exit))); output = now (out .exit) }
+        ≡ written at (now (out .entry))
+        (terminalOf before (now (characters .entry)) (now (marks .entry)))
+        (eventStep (before .half) event (terminalOf state (now (characters .entry)) (now (marks .entry)))) ⌝ }
 {
     match event {
         Event::Nothing => steps::quiet(state),
@@ -236,7 +269,14 @@ fn event_step(
 
 // A refused command sets the soft lock and message 1, and nothing else: every refusal of a command comes through here.
 fn settle(step: Step) -> Step
-    ensures { λ r. ⌜ r ≡ record { state = settledState (step .refused) (step .state); stored = step .stored; sent = step .sent; refused = step .refused; protection = step .protection; exceeds = step .exceeds } ⌝ }
+    ensures { λ r. ⌜ r ≡ record {
+      state = settledState (step .refused) (step .state);
+      stored = step .stored;
+      sent = step .sent;
+      refused = step .refused;
+      protection = step .protection;
+      exceeds = step .exceeds;
+    } ⌝ }
 {
     if step.refused {
         let mut settled = step;
@@ -246,7 +286,8 @@ fn settle(step: Step) -> Step
     step
 }
 
-// The step of a host byte. Its transmission is written into the output from `at` on; where it does not fit nothing happens.
+// The step of a host byte. Its transmission is written into the output from `at` on; where it doesn't fit nothing
+// happens.
 pub fn step(
     state: State,
     characters: &mut [u8],
@@ -257,7 +298,11 @@ pub fn step(
 ) -> Step
     requires { ⌜ Valid (terminalOf state (now characters) (now marks)) ⌝ }
     requires { ⌜ at ≤ length (now out) ⌝ }
-    ensures { λ r. ⌜ record { told = told r (pageOf (now (characters .exit)) (now (marks .exit))); output = now (out .exit) } ≡ written at (now (out .entry)) (terminalOf state (now (characters .entry)) (now (marks .entry))) (hostStep byte (terminalOf state (now (characters .entry)) (now (marks .entry)))) ⌝ }
+    ensures { λ r. ⌜
+        record { told = told r (pageOf (now (characters .exit)) (now (marks .exit))); output = now (out .exit) }
+        ≡ written at (now (out .entry))
+        (terminalOf state (now (characters .entry)) (now (marks .entry)))
+        (hostStep byte (terminalOf state (now (characters .entry)) (now (marks .entry)))) ⌝ }
 {
     let half = state.half;
     let advanced = half.advance(byte);

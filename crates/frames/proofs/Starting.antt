@@ -52,6 +52,8 @@ fresh size =
       taken = 0;
       sent = 0;
       stored = size .rows * size .columns;
+      refused = 0;
+      protection = true;
       terminal = record { state = freshState size; page = pageOf (replicate (size .rows * size .columns) 0x20) (replicate (size .rows * size .columns) 0) };
       output = [];
     }
@@ -69,6 +71,8 @@ module _ (size : Size) (page : Page) (sizes : Sizes size page) where
         taken = 0;
         sent = 0;
         stored = marks i;
+        refused = 0;
+        protection = true;
         terminal = record { state = freshState size; page = (erased-is-fresh page (marks ∙ sym characters) ∙ (λ j. pageOf (replicate (characters j) 0x20) (replicate (marks j) 0))) i };
         output = [];
       })

@@ -1,4 +1,5 @@
--- Every line of the keys' table keeps what is claimed of a key in any state. The proofs follow the definitions line by line.
+-- Every line of the keys' table keeps what is claimed of a key in any state. The proofs follow the definitions line by
+-- line.
 use mathlib.Core.Path.{_≡_, refl, ap, _∙_}
 use mathlib.Core.Bool.{Bool, true, false}
 use mathlib.Core.List.{List}

@@ -19,8 +19,8 @@ use Rattle.steps.specs.Steps.{Terminal, bytesOf, blockTransmission}
 use Rattle.sending.specs.Sending.{sendBlock}
 use Rattle.keys.specs.Keys.{isTyping, isEditing, isFieldMove, isKnown, isLocked, isLockedOut, noField, lacksCell, goneTo, typedStep, toNextField, toPreviousField, toFirstUnprotected, fieldBlanked, restShifted, keyStep}
 
--- A page of 2 rows by 8 columns, small enough to be shown whole. No call takes its size, which line 1 refuses; the steps go by
--- the same rules on any R and C.
+-- A page of 2 rows by 8 columns, small enough to be shown whole. No call takes its size, which line 1 refuses; the
+-- steps go by the same rules on any R and C.
 --     # A B C D E # F     protected, -, bold, underline, reverse, -, protected and modified, -
 --     G H . I : J K L     modified, blink, protected, concealed, the rest protected
 -- Its fields: A to E at 1;2, F at 1;8, G and H at 2;1, which the row's end parts from F, and I at 2;4.
@@ -197,7 +197,8 @@ as-worked-out : map asRun examples ≡ map (λ (e : Example). e .seen) examples
 unfolding characters marks on asRun goes stored sent closed goesOnClosed examples if_then_else_ _and_ _or_ _is_to_ within eachFrom numbersFrom onPart selected unprotected typed tagged blanked closedUp movedRight markAfterBlock modifiedCleared placeOf decimal placeBytes opensStretch joined startsField fieldStart endFrom fieldEnd fieldsFrom fieldsOf orElse firstField lastField firstAfter lastBefore nextField previousField firstUnprotectedFrom firstUnprotected nextUnprotected entryBytes encode entryOf someModified isInBlock entriesSent block unlocked backBy onBy upBy downBy rightBy leftBy bytesOf blockTransmission sendBlock isTyping goneTo typedStep toNextField toPreviousField toFirstUnprotected fieldBlanked restShifted keyStep
 as-worked-out = refl
 
--- 268: soft lock and message are cleared; the manual lock, and all else, stays. It is the one key that a lock lets pass.
+-- 268: soft lock and message are cleared; the manual lock, and all else, stays. It is the one key that a lock lets
+-- pass.
 locked : Bool → Bool → ℕ → Terminal
 locked manual soft message =
     let t = on (pageOf characters marks) 1 3 in
@@ -220,7 +221,8 @@ known : map isKnown (31 ∷ 32 ∷ 126 ∷ 127 ∷ 255 ∷ 256 ∷ 268 ∷ 269 �
 unfolding _and_ _or_ _is_to_ isTyping isKnown
 known = refl
 
--- Line 7, for A, 263, 264, 265, then 260, 261, then 256, 262 and 266: on a protected cell, on an unprotected one, and with no field.
+-- Line 7, for A, 263, 264, 265, then 260, 261, then 256, 262 and 266: on a protected cell, on an unprotected one, and
+-- with no field.
 lacking : Terminal → List Bool
 lacking t = map (λ (key : ℕ). lacksCell key t) (0x41 ∷ 263 ∷ 264 ∷ 265 ∷ 260 ∷ 261 ∷ 256 ∷ 262 ∷ 266 ∷ [])
 

@@ -1,4 +1,5 @@
--- The cursor's cell and the rest of its field as the code finds them, and what a search of the fields says of their list.
+-- The cursor's cell and the rest of its field as the code finds them, and what a search of the fields says of their
+-- list.
 use mathlib.Core.Path.{_≡_, refl, sym, ap, _∙_}
 use mathlib.Core.Bool.{Bool, true, false, not}
 use mathlib.Core.List.{List, [], _∷_}
@@ -50,19 +51,35 @@ found valid is =
 pub run-counted : (from end : ℕ) {here after : ℕ} → here ≡ from → after ≡ end → length (cellsFrom from end) ≡ after - here
 run-counted from end starts ends = run-length from (end - from) ∙ sym (λ i. ends i - starts i)
 
+-- What the code was told of the cursor's cell.
+pub is-free : {answer free : Bool} → answer ≡ free → not answer ≡ false → free ≡ true
+is-free told is = sym told ∙ not-false _ is
+
+-- On a protected cell a key that stores does nothing.
+pub stays : (t : Terminal) (stepped : Stepped) {answer : Bool} {step : Step} → answer ≡ unprotectedAt t (cursorCell (t .state)) → not answer ≡ true → told step (t .page) ≡ tells (goesTo (t .state) t) → told step (t .page) ≡ tells (ifUnprotected t stepped)
+unfolding if_then_else_
+stays t stepped told is quiet = rw (sym told ∙ not-true _ is) quiet
+
+-- The rest of the cursor's field stands on the page, the cursor's cell at least.
+pub record RestOnPage (t : Terminal) : Type 0 where
+  pub some : cursorCell (t .state) < endHere t
+  pub on-page : endHere t ≤ length (t .page .characters)
+  pub as-many : length (t .page .marks) ≡ length (t .page .characters)
+
+pub rest-on-page : {t : Terminal} → Valid t → RestOnPage t
+rest-on-page {t} valid =
+    let known = measured valid in
+    let inside : cursorCell (t .state) < length (t .page .marks) = omega (arith, known .cursor-inside, known .as-many) in
+    let bounds = end-of (unprotected (t .page .marks)) (t .state .size .columns) (length (t .page .marks)) (cursorCell (t .state)) inside in
+    record { some = omega arith; on-page = omega (arith, known .as-many); as-many = known .as-many }
+
+-- 264 and 265, whatever the change: it is made on the rest of the field, and these cells are counted.
+pub rest-shifted : (t : Terminal) (change : List ℕ → List ℕ) {step : Step} {page : Page} → unprotectedAt t (cursorCell (t .state)) ≡ true → ((cells : List ℕ) (page : Page) → length cells ≡ endHere t - cursorCell (t .state) → told step page ≡ tells (stores cells false (t .state) page)) → page ≡ partStored change (cursorCell (t .state)) (endHere t) (t .page) → told step page ≡ tells (restShifted change t)
+unfolding restShifted if_then_else_
+rest-shifted t change is-free stored left =
+    rw (is-free, stored (cellsFrom (cursorCell (t .state)) (endHere t)) _ (run-length (cursorCell (t .state)) (endHere t - cursorCell (t .state))), left)
+
 module _ {t : Terminal} {place : Place} (here : Found t place) where
-  -- What the code was told of the cursor's cell.
-  pub asked : {answer : Bool} → answer ≡ unprotectedAt t (place .cell) → unprotectedAt t (cursorCell (t .state)) ≡ answer
-  asked told = ap (unprotectedAt t) (sym (here .cell)) ∙ sym told
-
-  pub is-free : {answer : Bool} → answer ≡ unprotectedAt t (place .cell) → not answer ≡ false → unprotectedAt t (cursorCell (t .state)) ≡ true
-  is-free told is = asked told ∙ not-false _ is
-
-  -- On a protected cell a key that stores does nothing.
-  pub stays : (stepped : Stepped) {answer : Bool} {step : Step} → answer ≡ unprotectedAt t (place .cell) → not answer ≡ true → told step (t .page) ≡ tells (goesTo (t .state) t) → told step (t .page) ≡ tells (ifUnprotected t stepped)
-  unfolding if_then_else_
-  stays stepped told is quiet = rw (asked told ∙ not-true _ is) quiet
-
   -- The start of the cursor's field.
   module _ {start : Place} (is : start ≡ placeOf (t .state .size .columns) (fieldStart (unprotected (t .page .marks)) (t .state .size .columns) (place .cell))) where
     pub starts-before : start .cell ≤ place .cell
@@ -74,20 +91,10 @@ module _ {t : Terminal} {place : Place} (here : Found t place) where
     pub start-is : start ≡ placeOf (t .state .size .columns) (startHere t)
     start-is = is ∙ ap (λ (cell : ℕ). placeOf (t .state .size .columns) (fieldStart (unprotected (t .page .marks)) (t .state .size .columns) cell)) (here .cell)
 
-  -- The rest of the cursor's field, from the cursor on.
+  -- Its end.
   module _ {end : ℕ} (is : end ≡ fieldEnd (unprotected (t .page .marks)) (t .state .size .columns) (length (t .page .marks)) (place .cell)) where
-    pub rest-on-page : (place .cell < end) × (end ≤ length (t .page .characters)) × (length (t .page .marks) ≡ length (t .page .characters))
-    rest-on-page =
-        let bounds = end-of (unprotected (t .page .marks)) (t .state .size .columns) (length (t .page .marks)) (place .cell) (here .inside) in
-        (omega arith, omega arith, here .as-many)
-
     pub end-is : end ≡ endHere t
     end-is = is ∙ ap (fieldEnd (unprotected (t .page .marks)) (t .state .size .columns) (length (t .page .marks))) (here .cell)
-
-    pub rest-shifted : (change : List ℕ → List ℕ) {step : Step} {page : Page} → unprotectedAt t (cursorCell (t .state)) ≡ true → ((cells : List ℕ) (page : Page) → length cells ≡ end - place .cell → told step page ≡ tells (stores cells false (t .state) page)) → page ≡ partStored change (place .cell) end (t .page) → told step page ≡ tells (restShifted change t)
-    unfolding restShifted if_then_else_
-    rest-shifted change is-free stored left =
-        rw (is-free, stored (cellsFrom (cursorCell (t .state)) (endHere t)) _ (run-counted _ _ (here .cell) end-is), left, here .cell, end-is)
 
 -- A search of the fields, going round, finds nothing exactly where there is none.
 pub none-sought : (columns cell : ℕ) (fields : List Field) → nextField columns cell fields ≡ Nowhere → noField fields ≡ true

@@ -51,7 +51,8 @@ module _ (key : ℕ) (t : Terminal) (valid : Valid t) where
 
 -- In any state, valid or not, whatever the lengths of the two slices.
 module _ (key : ℕ) (t : Terminal) where
-  -- The cells named are none, the cursor's, its field's, or those from the cursor to its field's end; their counts stand below.
+  -- The cells named are none, the cursor's, its field's, or those from the cursor to its field's end; their counts
+  -- stand below.
   pub key-stores : KeyStores key t (keyStep key t .cells)
   key-stores = key-always key t .stored
 

@@ -1,4 +1,5 @@
--- Document 01, "Fields, keys and blocks": what the keys do. A key that finds no cell or field does nothing: line 7 is then given.
+-- Document 01, "Fields, keys and blocks": what the keys do. A key that finds no cell or field does nothing: line 7 is
+-- then given.
 use mathlib.Core.Bool.{Bool, true, false, not}
 use mathlib.Core.List.{List, [], _∷_}
 use Prim.Native.Nat.{ℕ, _-_}

@@ -1,4 +1,4 @@
-// Document 01, "Fields, keys and blocks": the keys. What each function gives is defined in specs/Keys.antt of `steps`.
+// Document 01, "Fields, keys and blocks": the keys. What each function gives is defined in specs/Keys.antt.
 use fields::Sought;
 use page::Mark;
 use state::State;
@@ -6,11 +6,21 @@ use steps::Step;
 ghost use mathlib.Core.Path.{_≡_};
 ghost use mathlib.Core.Bool.{false};
 ghost use Rattle.page.specs.Page.{pageOf, closedUp, movedRight};
-ghost use Rattle.steps.specs.Steps.{Valid, terminalOf};
+ghost use Rattle.steps.specs.Steps.{Valid, terminalOf, cursorCell};
 ghost use Rattle.steps.specs.Told.{told, tells, written};
-ghost use Rattle.steps.specs.Seen.{fieldsHere};
-ghost use Rattle.keys.specs.Keys.{isTyping, isEditing, isFieldMove, isKnown, isLocked, isLockedOut, noField, lacksCell, goneTo, typedStep, toNextField, toPreviousField, toFirstUnprotected, fieldBlanked, restShifted, keyStep};
+ghost use Rattle.steps.specs.Seen.{unprotectedAt, fieldsHere, endHere};
+ghost use Rattle.keys.specs.Keys.{isTyping, isEditing, isFieldMove, isKnown, isLocked, isLockedOut};
+ghost use Rattle.keys.specs.Keys.{noField, lacksCell, goneTo, typedStep};
+ghost use Rattle.keys.specs.Keys.{toNextField, toPreviousField, toFirstUnprotected};
+ghost use Rattle.keys.specs.Keys.{fieldBlanked, restShifted, keyStep};
 
+// Cells from `from` to before `end`.
+struct Rest {
+    from: usize,
+    end: usize,
+}
+
+// The keys that type a character, those that store in the cursor's field, and those that look for a field.
 fn is_typing(key: usize) -> bool
     ensures { λ r. ⌜ r ≡ isTyping key ⌝ }
 {
@@ -70,10 +80,20 @@ pub fn is_locked_out(key: usize, state: State) -> bool
     false
 }
 
-// `characters` is lent for the contract, which speaks of the whole terminal.
+// Whether the cursor's cell is unprotected. Here and below `characters` is lent for the contract, which speaks of the
+// whole terminal.
+fn stands_unprotected(state: State, characters: &[u8], marks: &[Mark]) -> bool
+    requires { ⌜ Valid (terminalOf state (now characters) (now marks)) ⌝ }
+    ensures { λ r. ⌜ r
+        ≡ unprotectedAt (terminalOf state (now (characters .entry)) (now (marks .entry))) (cursorCell state) ⌝ }
+{
+    page::is_unprotected(marks, state.place().cell)
+}
+
 fn has_no_field(state: State, characters: &[u8], marks: &[Mark]) -> bool
     requires { ⌜ Valid (terminalOf state (now characters) (now marks)) ⌝ }
-    ensures { λ r. ⌜ r ≡ noField (fieldsHere (terminalOf state (now (characters .entry)) (now (marks .entry)))) ⌝ }
+    ensures { λ r. ⌜ r ≡ noField
+        (fieldsHere (terminalOf state (now (characters .entry)) (now (marks .entry)))) ⌝ }
 {
     let sought = fields::next_field(marks, state.place(), state.size.columns);
     match sought {
@@ -87,12 +107,11 @@ pub fn lacks_cell(key: usize, state: State, characters: &[u8], marks: &[Mark]) -
     requires { ⌜ Valid (terminalOf state (now characters) (now marks)) ⌝ }
     ensures { λ r. ⌜ r ≡ lacksCell key (terminalOf state (now (characters .entry)) (now (marks .entry))) ⌝ }
 {
-    let place = state.place();
     if is_typing(key) {
-        return !page::is_unprotected(marks, place.cell);
+        return !stands_unprotected(state, characters, marks);
     }
     if is_editing(key) {
-        return !page::is_unprotected(marks, place.cell);
+        return !stands_unprotected(state, characters, marks);
     }
     if is_field_move(key) {
         return has_no_field(state, characters, marks);
@@ -112,12 +131,13 @@ fn gone_to(sought: Sought, state: State) -> State
 // 32 to 126.
 fn type_character(state: State, characters: &mut [u8], marks: &mut [Mark], character: u8) -> Step
     requires { ⌜ Valid (terminalOf state (now characters) (now marks)) ⌝ }
-    ensures { λ r. ⌜ told r (pageOf (now (characters .exit)) (now (marks .exit))) ≡ tells (typedStep character (terminalOf state (now (characters .entry)) (now (marks .entry)))) ⌝ }
+    ensures { λ r. ⌜ told r (pageOf (now (characters .exit)) (now (marks .exit)))
+        ≡ tells (typedStep character (terminalOf state (now (characters .entry)) (now (marks .entry)))) ⌝ }
 {
-    let place = state.place();
-    if !page::is_unprotected(marks, place.cell) {
+    if !stands_unprotected(state, characters, marks) {
         return steps::quiet(state);
     }
+    let place = state.place();
     let next = fields::next_unprotected(marks, place, state.size.columns);
     page::store_typed(characters, marks, place.cell, character);
     steps::stored(gone_to(next, state), 1, false)
@@ -126,7 +146,8 @@ fn type_character(state: State, characters: &mut [u8], marks: &mut [Mark], chara
 // 260, 261 and 262.
 fn to_next_field(state: State, characters: &[u8], marks: &[Mark]) -> Step
     requires { ⌜ Valid (terminalOf state (now characters) (now marks)) ⌝ }
-    ensures { λ r. ⌜ told r (pageOf (now (characters .entry)) (now (marks .entry))) ≡ tells (toNextField (terminalOf state (now (characters .entry)) (now (marks .entry)))) ⌝ }
+    ensures { λ r. ⌜ told r (pageOf (now (characters .entry)) (now (marks .entry)))
+        ≡ tells (toNextField (terminalOf state (now (characters .entry)) (now (marks .entry)))) ⌝ }
 {
     let sought = fields::next_field(marks, state.place(), state.size.columns);
     steps::quiet(gone_to(sought, state))
@@ -134,7 +155,8 @@ fn to_next_field(state: State, characters: &[u8], marks: &[Mark]) -> Step
 
 fn to_previous_field(state: State, characters: &[u8], marks: &[Mark]) -> Step
     requires { ⌜ Valid (terminalOf state (now characters) (now marks)) ⌝ }
-    ensures { λ r. ⌜ told r (pageOf (now (characters .entry)) (now (marks .entry))) ≡ tells (toPreviousField (terminalOf state (now (characters .entry)) (now (marks .entry)))) ⌝ }
+    ensures { λ r. ⌜ told r (pageOf (now (characters .entry)) (now (marks .entry)))
+        ≡ tells (toPreviousField (terminalOf state (now (characters .entry)) (now (marks .entry)))) ⌝ }
 {
     let sought = fields::previous_field(marks, state.place(), state.size.rows, state.size.columns);
     steps::quiet(gone_to(sought, state))
@@ -142,7 +164,8 @@ fn to_previous_field(state: State, characters: &[u8], marks: &[Mark]) -> Step
 
 fn to_first_unprotected(state: State, characters: &[u8], marks: &[Mark]) -> Step
     requires { ⌜ Valid (terminalOf state (now characters) (now marks)) ⌝ }
-    ensures { λ r. ⌜ told r (pageOf (now (characters .entry)) (now (marks .entry))) ≡ tells (toFirstUnprotected (terminalOf state (now (characters .entry)) (now (marks .entry)))) ⌝ }
+    ensures { λ r. ⌜ told r (pageOf (now (characters .entry)) (now (marks .entry)))
+        ≡ tells (toFirstUnprotected (terminalOf state (now (characters .entry)) (now (marks .entry)))) ⌝ }
 {
     let sought = fields::first_unprotected(marks, state.size.columns);
     match sought {
@@ -154,12 +177,13 @@ fn to_first_unprotected(state: State, characters: &[u8], marks: &[Mark]) -> Step
 // 263.
 fn blank_field(state: State, characters: &mut [u8], marks: &mut [Mark]) -> Step
     requires { ⌜ Valid (terminalOf state (now characters) (now marks)) ⌝ }
-    ensures { λ r. ⌜ told r (pageOf (now (characters .exit)) (now (marks .exit))) ≡ tells (fieldBlanked (terminalOf state (now (characters .entry)) (now (marks .entry)))) ⌝ }
+    ensures { λ r. ⌜ told r (pageOf (now (characters .exit)) (now (marks .exit)))
+        ≡ tells (fieldBlanked (terminalOf state (now (characters .entry)) (now (marks .entry)))) ⌝ }
 {
-    let place = state.place();
-    if !page::is_unprotected(marks, place.cell) {
+    if !stands_unprotected(state, characters, marks) {
         return steps::quiet(state);
     }
+    let place = state.place();
     let start = fields::field_start(marks, place, state.size.columns);
     let end = fields::field_end(marks, place, state.size.columns);
     page::blank_cells(characters, marks, start.cell, end);
@@ -170,39 +194,56 @@ fn blank_field(state: State, characters: &mut [u8], marks: &mut [Mark]) -> Step
     )
 }
 
+// The rest of the cursor's field: its cells from the cursor's on.
+fn rest_of_field(state: State, characters: &[u8], marks: &[Mark]) -> Rest
+    requires { ⌜ Valid (terminalOf state (now characters) (now marks)) ⌝ }
+    ensures { λ r. ⌜ r ≡ record {
+      from = cursorCell state;
+      end = endHere (terminalOf state (now (characters .entry)) (now (marks .entry)));
+    } ⌝ }
+{
+    let place = state.place();
+    let end = fields::field_end(marks, place, state.size.columns);
+    Rest {
+        from: place.cell,
+        end,
+    }
+}
+
 // 264.
 fn delete_here(state: State, characters: &mut [u8], marks: &mut [Mark]) -> Step
     requires { ⌜ Valid (terminalOf state (now characters) (now marks)) ⌝ }
-    ensures { λ r. ⌜ told r (pageOf (now (characters .exit)) (now (marks .exit))) ≡ tells (restShifted closedUp (terminalOf state (now (characters .entry)) (now (marks .entry)))) ⌝ }
+    ensures { λ r. ⌜ told r (pageOf (now (characters .exit)) (now (marks .exit)))
+        ≡ tells (restShifted closedUp (terminalOf state (now (characters .entry)) (now (marks .entry)))) ⌝ }
 {
-    let place = state.place();
-    if !page::is_unprotected(marks, place.cell) {
+    if !stands_unprotected(state, characters, marks) {
         return steps::quiet(state);
     }
-    let end = fields::field_end(marks, place, state.size.columns);
-    page::delete_character(characters, marks, place.cell, end);
-    steps::stored(state, end - place.cell, false)
+    let rest = rest_of_field(state, characters, marks);
+    page::delete_character(characters, marks, rest.from, rest.end);
+    steps::stored(state, rest.end - rest.from, false)
 }
 
 // 265.
 fn insert_here(state: State, characters: &mut [u8], marks: &mut [Mark]) -> Step
     requires { ⌜ Valid (terminalOf state (now characters) (now marks)) ⌝ }
-    ensures { λ r. ⌜ told r (pageOf (now (characters .exit)) (now (marks .exit))) ≡ tells (restShifted movedRight (terminalOf state (now (characters .entry)) (now (marks .entry)))) ⌝ }
+    ensures { λ r. ⌜ told r (pageOf (now (characters .exit)) (now (marks .exit)))
+        ≡ tells (restShifted movedRight (terminalOf state (now (characters .entry)) (now (marks .entry)))) ⌝ }
 {
-    let place = state.place();
-    if !page::is_unprotected(marks, place.cell) {
+    if !stands_unprotected(state, characters, marks) {
         return steps::quiet(state);
     }
-    let end = fields::field_end(marks, place, state.size.columns);
-    page::insert_blank(characters, marks, place.cell, end);
-    steps::stored(state, end - place.cell, false)
+    let rest = rest_of_field(state, characters, marks);
+    page::insert_blank(characters, marks, rest.from, rest.end);
+    steps::stored(state, rest.end - rest.from, false)
 }
 
 // The keys from 256 on that send nothing; a number that is no key does nothing.
 fn act(state: State, characters: &mut [u8], marks: &mut [Mark], key: usize) -> Step
     requires { ⌜ Valid (terminalOf state (now characters) (now marks)) ⌝ }
     requires { ⌜ (isTyping key ≡ false) × (key ≡ 266 → ⊥) × (key ≡ 267 → ⊥) ⌝ }
-    ensures { λ r. ⌜ told r (pageOf (now (characters .exit)) (now (marks .exit))) ≡ tells (keyStep key (terminalOf state (now (characters .entry)) (now (marks .entry)))) ⌝ }
+    ensures { λ r. ⌜ told r (pageOf (now (characters .exit)) (now (marks .exit)))
+        ≡ tells (keyStep key (terminalOf state (now (characters .entry)) (now (marks .entry)))) ⌝ }
 {
     match key {
         256 => steps::quiet(state.up_by(1)),
@@ -229,7 +270,12 @@ pub fn step(
     key: usize,
 ) -> Step
     requires { ⌜ Valid (terminalOf state (now characters) (now marks)) ⌝ }
-    ensures { λ r. ⌜ record { told = told r (pageOf (now (characters .exit)) (now (marks .exit))); output = now (out .exit) } ≡ written 0 (now (out .entry)) (terminalOf state (now (characters .entry)) (now (marks .entry))) (keyStep key (terminalOf state (now (characters .entry)) (now (marks .entry)))) ⌝ }
+    ensures { λ r. ⌜ record {
+      told = told r (pageOf (now (characters .exit)) (now (marks .exit)));
+      output = now (out .exit);
+    }
+        ≡ written 0 (now (out .entry)) (terminalOf state (now (characters .entry)) (now (marks .entry)))
+        (keyStep key (terminalOf state (now (characters .entry)) (now (marks .entry)))) ⌝ }
 {
     if is_typing(key) {
         return type_character(state, characters, marks, key as u8);

@@ -1,11 +1,15 @@
 -- Calls are steps, however a stream is cut: demand 2, cutting, from demand 1 and Follows alone.
 use mathlib.Core.Path.{_≡_, refl, sym, ap, _∙_}
+use mathlib.Core.Bool.{Bool}
 use mathlib.Core.List.{List, [], _∷_, _++_, map, map-append, append-assoc}
 use Prim.Native.Nat.{ℕ, _+_}
+use native.Mathlib.Omega.{arith}
 use lib.ListN.{take, drop, length-append, take-append-drop}
+use Rattle.words.specs.Choice.{_or_}
 use Rattle.steps.specs.Steps.{Terminal, Stepped, Valid}
 use Rattle.terminal.specs.Answers.{Outcome, bytesSent}
-use Rattle.terminal.specs.Runs.{after, bytesSentBy, cellsStoredBy}
+use Rattle.terminal.specs.Runs.{after, bytesSentBy, cellsStoredBy, refusedBy, protectionBy}
+use Rattle.terminal.proofs.Running.{or-joined}
 use Rattle.promises.specs.Rules.{Rules, Input, byte, stepOf, steps, byteSteps, Total, totalOf}
 use Rattle.promises.specs.Entries.{Entries, Call, outcomeOf, outcomes, total, inputsOf, inputsDone, AllDone, done, Read, reads, joinedBytes, readOne, Carries, ended, taken, stopped}
 use Rattle.promises.specs.Demands.{Cutting}
@@ -15,7 +19,14 @@ use Rattle.promises.proofs.Doing.{does-steps, all-taken}
 
 -- A call in front of what comes after it.
 abbrev inFront : Outcome → Total → Total
-inFront outcome rest = record { terminal = rest .terminal; sent = bytesSent outcome ++ rest .sent; stored = outcome .stored + rest .stored }
+inFront outcome rest =
+    record {
+      terminal = rest .terminal;
+      sent = bytesSent outcome ++ rest .sent;
+      stored = outcome .stored + rest .stored;
+      refused = outcome .refused + rest .refused;
+      protection = outcome .protection or rest .protection;
+    }
 
 -- Steps, and then further steps.
 after-joined : (t : Terminal) (first second : List Stepped) → after t (first ++ second) ≡ after (after t first) second
@@ -33,6 +44,17 @@ unfolding cellsStoredBy
 stored-joined [] second = refl
 stored-joined (step ∷ later) second = rw (append-assoc, stored-joined later second)
 
+refused-joined : (first second : List Stepped) → refusedBy (first ++ second) ≡ refusedBy first + refusedBy second
+unfolding refusedBy
+refused-joined [] second = omega arith
+refused-joined (step ∷ later) second = let further = refused-joined later second in omega (arith, further)
+
+protection-joined : (first second : List Stepped) → protectionBy (first ++ second) ≡ (protectionBy first or protectionBy second)
+unfolding protectionBy _or_
+protection-joined [] second = refl
+protection-joined (step ∷ later) second =
+    ap (λ (b : Bool). step .protection or b) (protection-joined later second) ∙ or-joined (step .protection) (protectionBy later) (protectionBy second)
+
 pub steps-joined : (rules : Rules) (t : Terminal) (first second : List Input) → steps rules t (first ++ second) ≡ steps rules t first ++ steps rules (after t (steps rules t first)) second
 unfolding steps after
 steps-joined rules t [] second = refl
@@ -41,7 +63,7 @@ steps-joined rules t (input ∷ later) second = rw (steps-joined rules (stepOf r
 -- A call that did steps, in front of further steps.
 total-joined : (t : Terminal) (first second : List Stepped) (outcome : Outcome) → DidSteps t first outcome → inFront outcome (totalOf (after t first) second) ≡ totalOf t (first ++ second)
 total-joined t first second outcome did =
-    rw (after-joined t first second, sent-joined first second, stored-joined first second, length-append (cellsStoredBy first) (cellsStoredBy second), did .sent, did .stored)
+    rw (after-joined t first second, sent-joined first second, stored-joined first second, length-append (cellsStoredBy first) (cellsStoredBy second), refused-joined first second, protection-joined first second, did .sent, did .stored, did .refused, did .protection)
 
 -- What a call did, in front of what later calls did.
 pub inputs-in-front : (entries : Entries) (t : Terminal) (call : Call) (calls : List Call) {outcome : Outcome} → outcomeOf entries call t ≡ outcome → inputsDone entries t (call ∷ calls) ≡ inputsOf call outcome ++ inputsDone entries (outcome .terminal) calls
@@ -62,7 +84,7 @@ steps-keep-valid rules laws t valid (input ∷ later) = steps-keep-valid rules l
 
 module _ (rules : Rules) (entries : Entries) (kept : Keeps rules entries) where
   pub calls-are-steps-of : CallsAreSteps rules entries
-  unfolding outcomes total inputsDone steps after bytesSentBy cellsStoredBy
+  unfolding outcomes total inputsDone steps after bytesSentBy cellsStoredBy refusedBy protectionBy
   calls-are-steps-of t [] = refl
   calls-are-steps-of t (call ∷ later) =
       let outcome = outcomeOf entries call t in

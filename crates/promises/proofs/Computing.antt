@@ -27,7 +27,7 @@ use Rattle.table.specs.Moves.{isMove, moveStep}
 use Rattle.commands.specs.Commands.{escStep, listedStep, bracketStep}
 use Rattle.commands.specs.Host.{eventStep, settledState, settled, hostStep}
 use Rattle.keys.specs.Keys.{isTyping, isEditing, isFieldMove, isKnown, isLocked, isLockedOut, lacksCell, goneTo, typedStep, fieldBlanked, keyStep}
-use Rattle.terminal.specs.Runs.{stepsOf, fitting, after, bytesSentBy, cellsStoredBy}
+use Rattle.terminal.specs.Runs.{stepsOf, fitting, after, bytesSentBy, cellsStoredBy, countOf, refusedBy, protectionBy}
 use Rattle.terminal.specs.Answers.{numberOf, unchanged, afterSteps, changesNothing, gives}
 use Rattle.terminal.specs.Tests.{firstOf, exceedsRoom, passesLine2, startLines, hostRefusals, keyRefusals, hostLines, keyLines}
 use Rattle.terminal.specs.Calls.{startCall, hostCall, keyCall}
@@ -68,7 +68,7 @@ keySteps = tt
 
 -- Calls, with all but their steps; and what several of them leave.
 unfoldable pub calls : Unit {0}
-unfolding validity bytesOf placed stepsOf fitting after bytesSentBy cellsStoredBy numberOf unchanged afterSteps changesNothing gives firstOf exceedsRoom passesLine2 startLines hostRefusals keyRefusals hostLines keyLines startCall hostCall keyCall
+unfolding validity bytesOf placed stepsOf fitting after bytesSentBy cellsStoredBy countOf refusedBy protectionBy numberOf unchanged afterSteps changesNothing gives firstOf exceedsRoom passesLine2 startLines hostRefusals keyRefusals hostLines keyLines startCall hostCall keyCall
 calls = tt
 
 unfoldable pub streams : Unit {0}

@@ -16,7 +16,7 @@ use Rattle.state.specs.Lines.{Line1, Line2}
 use Rattle.state.specs.Tests.{sizeFits, validState}
 use Rattle.state.proofs.Lines.{line-1, line-2}
 use Rattle.steps.specs.Steps.{Terminal, Stepped, Valid}
-use Rattle.terminal.specs.Runs.{after, bytesSentBy, cellsStoredBy}
+use Rattle.terminal.specs.Runs.{after, bytesSentBy, cellsStoredBy, refusedBy, protectionBy}
 use Rattle.terminal.specs.Answers.{Outcome}
 use Rattle.terminal.specs.Claims.{Leaves, Did}
 use Rattle.terminal.specs.Lines.{TableLine, _when_, Decides, this-holds, not-this}
@@ -27,11 +27,18 @@ use Rattle.promises.specs.Further.{ValidByTheTable}
 use Rattle.promises.proofs.Laws.{Keeps, DidSteps}
 
 in-steps : {taken : ℕ} {t : Terminal} {lent : List ℕ} {run : List Stepped} {outcome : Outcome} → Did taken t lent run outcome → DidSteps t run outcome
-in-steps did = record { terminal = did .terminal; sent = bytes-sent did; stored = did .stored }
+in-steps did = record { terminal = did .terminal; sent = bytes-sent did; stored = did .stored; refused = did .refused; protection = did .protection }
 
 no-steps : {t : Terminal} {lent : List ℕ} {outcome : Outcome} → Leaves t lent outcome → DidSteps t [] outcome
-unfolding after bytesSentBy cellsStoredBy
-no-steps {outcome} left = record { terminal = left .terminal; sent = ap (λ (n : ℕ). take n (outcome .output)) (left .sent); stored = left .stored }
+unfolding after bytesSentBy cellsStoredBy refusedBy protectionBy
+no-steps {outcome} left =
+    record {
+      terminal = left .terminal;
+      sent = ap (λ (n : ℕ). take n (outcome .output)) (left .sent);
+      stored = left .stored;
+      refused = left .refused;
+      protection = left .protection;
+    }
 
 -- The steps of the first bytes are the first steps.
 first-steps : (rules : Rules) (n : ℕ) (t : Terminal) (bytes : List ℕ) → byteSteps rules t (take n bytes) ≡ take n (byteSteps rules t bytes)

@@ -18,7 +18,8 @@ use Rattle.promises.specs.Rules.{ourRules, stepOf, steps, byteSteps}
 abbrev pub reading : Terminal → HalfRead → Terminal
 reading t half = withState t (withHalf (t .state) half)
 
--- The step of a byte, by the record and the event to which it leads, where it isn't refused; and of one that is only read on.
+-- The step of a byte, by the record and the event to which it leads, where it isn't refused; and of one that is only
+-- read on.
 pub step-is : (t : Terminal) (next : ℕ) {advanced : Advanced} {step : Stepped} → advanceOf (t .state .half) next ≡ advanced → eventStep (t .state .half) (advanced .event) (reading t (advanced .half)) ≡ step → step .wasRefused ≡ false → hostStep next t ≡ step
 unfolding hostStep
 step-is t next {step = step} is acts accepted =

@@ -10,7 +10,7 @@ use Rattle.steps.specs.Steps.{Terminal, report, fullBlock, changedBlock, Steppe
 use Rattle.steps.specs.Seen.{seen, unprotectedAt, modifiedAt, blockHere}
 use Rattle.steps.specs.Claims.{StoresNoCell, TouchesOnly, KeepsProtection}
 use Rattle.terminal.specs.Answers.{Outcome, bytesSent}
-use Rattle.terminal.specs.Runs.{after, bytesSentBy, cellsStoredBy}
+use Rattle.terminal.specs.Runs.{after, bytesSentBy, cellsStoredBy, refusedBy, protectionBy}
 use Rattle.promises.specs.Rules.{Rules, Input, stepOf}
 use Rattle.promises.specs.Entries.{Entries}
 use Rattle.promises.specs.Demands.{Numbers, Refusals, Follows}
@@ -57,3 +57,5 @@ pub record DidSteps (t : Terminal) (done : List Stepped) (outcome : Outcome) : T
   pub terminal : outcome .terminal ≡ after t done
   pub sent : bytesSent outcome ≡ bytesSentBy done
   pub stored : outcome .stored ≡ length (cellsStoredBy done)
+  pub refused : outcome .refused ≡ refusedBy done
+  pub protection : outcome .protection ≡ protectionBy done

@@ -24,6 +24,8 @@ same-did number p q = λ i. record {
   taken = (p .bytes-taken ∙ sym (q .bytes-taken)) i;
   sent = (p .sent ∙ sym (q .sent)) i;
   stored = (p .stored ∙ sym (q .stored)) i;
+  refused = (p .refused ∙ sym (q .refused)) i;
+  protection = (p .protection ∙ sym (q .protection)) i;
   terminal = (p .terminal ∙ sym (q .terminal)) i;
   output = (p .output ∙ sym (q .output)) i;
 }
@@ -34,6 +36,8 @@ same-left number p q = λ i. record {
   taken = (p .taken ∙ sym (q .taken)) i;
   sent = (p .sent ∙ sym (q .sent)) i;
   stored = (p .stored ∙ sym (q .stored)) i;
+  refused = (p .refused ∙ sym (q .refused)) i;
+  protection = (p .protection ∙ sym (q .protection)) i;
   terminal = (p .terminal ∙ sym (q .terminal)) i;
   output = (p .output ∙ sym (q .output)) i;
 }
@@ -44,6 +48,8 @@ same-start number p q = λ i. record {
   taken = (p .taken ∙ sym (q .taken)) i;
   sent = (p .sent ∙ sym (q .sent)) i;
   stored = (p .stored ∙ sym (q .stored)) i;
+  refused = (p .refused ∙ sym (q .refused)) i;
+  protection = (p .protection ∙ sym (q .protection)) i;
   terminal = record {
     state = (p .state ∙ sym (q .state)) i;
     page = record { characters = (p .characters ∙ sym (q .characters)) i; marks = (p .marks ∙ sym (q .marks)) i };

@@ -159,7 +159,7 @@ next-call {calls} call outcome is later = record {
 
 -- An outcome whose output is just the bytes sent.
 abbrev pub leaves : ℕ → ℕ → ℕ → List ℕ → Terminal → Outcome
-leaves number taken stored sent t = record { number = number; taken = taken; sent = length sent; stored = stored; terminal = t; output = sent }
+leaves number taken stored sent t = record { number = number; taken = taken; sent = length sent; stored = stored; refused = 0; protection = false; terminal = t; output = sent }
 
 -- The terminals that the calls leave: after X, after the host's bytes with the cursor in a column, after Y, after 266.
 abbrev typedX : Terminal
@@ -179,7 +179,7 @@ pub call-267 : keyCall start 267 (replicate 17 0) ≡ leaves 0 0 0 (fullBytes "A
 unfolding validity keySteps calls
 call-267 =
     key-done start 267 (replicate 17 0) (record { valid = start-valid; known = refl; not-locked-out = refl; has-cell = refl }) (omega (arith, ap length (full-noTag "A" "C")))
-    ∙ (λ i. record { number = 0; taken = 0; sent = length (full-noTag "A" "C" i); stored = 0; terminal = start; output = placed 0 (full-noTag "A" "C" i) (replicate 17 0) })
+    ∙ (λ i. record { number = 0; taken = 0; sent = length (full-noTag "A" "C" i); stored = 0; refused = 0; protection = false; terminal = start; output = placed 0 (full-noTag "A" "C" i) (replicate 17 0) })
 
 typedX-valid : Valid typedX
 unfolding validity
@@ -193,7 +193,7 @@ call-host : hostCall typedX hostBytes (replicate 40 0) ≡ leaves 0 8 0 (fullByt
 unfolding hostSteps calls
 call-host =
     host-did typedX hostBytes (replicate 40 0) typedX-valid (omega arith) (omega (arith, ap length host-sends))
-    ∙ (λ i. record { number = 0; taken = 8; sent = length (host-sends i); stored = 0; terminal = sentTwice 2; output = placed 0 (host-sends i) (replicate 40 0) })
+    ∙ (λ i. record { number = 0; taken = 8; sent = length (host-sends i); stored = 0; refused = 0; protection = false; terminal = sentTwice 2; output = placed 0 (host-sends i) (replicate 40 0) })
 
 typedY-valid : Valid typedY
 unfolding validity
@@ -203,7 +203,7 @@ call-266 : keyCall typedY 266 (replicate 9 0) ≡ leaves 0 0 0 changedBytes end
 unfolding validity keySteps calls
 call-266 =
     key-done typedY 266 (replicate 9 0) (record { valid = typedY-valid; known = refl; not-locked-out = refl; has-cell = refl }) (omega (arith, ap length changed-secondTagged))
-    ∙ (λ i. record { number = 0; taken = 0; sent = length (changed-secondTagged i); stored = 0; terminal = end; output = placed 0 (changed-secondTagged i) (replicate 9 0) })
+    ∙ (λ i. record { number = 0; taken = 0; sent = length (changed-secondTagged i); stored = 0; refused = 0; protection = false; terminal = end; output = placed 0 (changed-secondTagged i) (replicate 9 0) })
 
 -- All that is seen, call by call; and the inputs that these calls did are those above.
 session-told : Told start session

@@ -1,10 +1,11 @@
 -- The entries of a terminal, which are what runs: start, host bytes and a key, the last two with the output lent.
 use mathlib.Core.Path.{_≡_}
+use mathlib.Core.Bool.{false}
 use mathlib.Core.List.{List, [], _∷_, _++_, map}
 use Prim.Native.Nat.{ℕ, _+_}
 use lib.Dec.{eqb}
 use lib.ListN.{take, drop}
-use Rattle.words.specs.Choice.{if_then_else_}
+use Rattle.words.specs.Choice.{if_then_else_, _or_}
 use Rattle.page.specs.Page.{Page}
 use Rattle.state.specs.declared.Size.{Size}
 use Rattle.steps.specs.Steps.{Terminal}
@@ -39,13 +40,15 @@ outcomes entries t (call ∷ later) =
 
 -- What calls leave together.
 unfoldable pub total : Terminal → List Outcome → Total
-total t [] = record { terminal = t; sent = []; stored = 0 }
+total t [] = record { terminal = t; sent = []; stored = 0; refused = 0; protection = false }
 total t (outcome ∷ later) =
     let rest = total (outcome .terminal) later in
     record {
       terminal = rest .terminal;
       sent = bytesSent outcome ++ rest .sent;
       stored = outcome .stored + rest .stored;
+      refused = outcome .refused + rest .refused;
+      protection = outcome .protection or rest .protection;
     }
 
 abbrev pub callAll : Entries → Terminal → List Call → Total

@@ -56,7 +56,7 @@ pub record StaysValid (entries : Entries) : Type 0 where
       Valid (entries .start size page .terminal)
   pub through-calls : (t : Terminal) → Valid t → (calls : List Call) → Valid (callAll entries t calls .terminal)
 
--- Two ways to cut a stream into reads, none of them refused, leave, send and store the same.
+-- Two ways to cut a stream into reads, none of them refused, leave, send, store and refuse the same.
 abbrev pub SameHoweverCut : Entries → Type 0
 SameHoweverCut entries =
     (t : Terminal) (one other : List Read) → joinedBytes one ≡ joinedBytes other →

@@ -1,12 +1,13 @@
 -- A kind of terminal by its rules: what one host byte does, and one key. What was stored, sent and refused is told by
 -- the rules alone, never by what runs.
+use mathlib.Core.Bool.{Bool}
 use mathlib.Core.List.{List, [], _∷_, map}
 use Prim.Native.Nat.{ℕ}
 use lib.ListN.{length}
 use Rattle.steps.specs.Steps.{Terminal, Stepped}
 use Rattle.commands.specs.Host.{hostStep}
 use Rattle.keys.specs.Keys.{keyStep}
-use Rattle.terminal.specs.Runs.{after, bytesSentBy, cellsStoredBy}
+use Rattle.terminal.specs.Runs.{after, bytesSentBy, cellsStoredBy, refusedBy, protectionBy}
 
 pub record Rules : Type 0 where
   pub onByte : ℕ → Terminal → Stepped
@@ -33,11 +34,21 @@ steps rules t (input ∷ later) = let step = stepOf rules input t in step ∷ st
 abbrev pub byteSteps : Rules → Terminal → List ℕ → List Stepped
 byteSteps rules t bytes = steps rules t (map byte bytes)
 
--- What steps leave together, from a terminal: state and page; the bytes sent, joined; how many cells were stored.
+-- What steps leave together, from a terminal: state and page; the bytes sent, joined; how many cells were stored, and
+-- how many commands refused; whether protection may have changed.
 pub record Total : Type 0 where
   pub terminal : Terminal
   pub sent : List ℕ
   pub stored : ℕ
+  pub refused : ℕ
+  pub protection : Bool
 
 abbrev pub totalOf : Terminal → List Stepped → Total
-totalOf t run = record { terminal = after t run; sent = bytesSentBy run; stored = length (cellsStoredBy run) }
+totalOf t run =
+    record {
+      terminal = after t run;
+      sent = bytesSentBy run;
+      stored = length (cellsStoredBy run);
+      refused = refusedBy run;
+      protection = protectionBy run;
+    }

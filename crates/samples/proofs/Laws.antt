@@ -7,6 +7,7 @@ use native.Mathlib.Nat.{add-zero}
 use native.Mathlib.Omega.{arith}
 use lib.ListN.{length, take, drop, length-drop, take-append-drop, drop-of-length-le}
 use lib.Seq.{take-all}
+use Rattle.words.specs.Choice.{_or_}
 use Rattle.words.proofs.Output.{placed-length}
 use Rattle.page.specs.Page.{Page}
 use Rattle.steps.specs.Steps.{Terminal, Transmission, bytesOf, blockTransmission, Valid}
@@ -16,6 +17,7 @@ use Rattle.terminal.specs.declared.Reply.{Reply}
 use Rattle.terminal.specs.Runs.{bytesSentBy}
 use Rattle.terminal.specs.Answers.{Outcome, given, unchanged, afterSteps, bytesSent}
 use Rattle.terminal.specs.Calls.{hostCall, keyCall}
+use Rattle.terminal.proofs.Deciding.{or-false}
 use Rattle.terminal.proofs.Cases.{KeyCase, key-case}
 use Rattle.terminal.proofs.Cases as Cases
 use Rattle.terminal.proofs.Theorems.{host-done, key-done, key-found-valid, bytes-sent}
@@ -46,11 +48,17 @@ whole-rest bytes at inside =
 -- What two calls leave together.
 abbrev together : Outcome → Outcome → Total
 together first second =
-    record { terminal = second .terminal; sent = bytesSent first ++ bytesSent second; stored = first .stored + second .stored }
+    record {
+      terminal = second .terminal;
+      sent = bytesSent first ++ bytesSent second;
+      stored = first .stored + second .stored;
+      refused = first .refused + second .refused;
+      protection = first .protection or second .protection;
+    }
 
 together-is : (t : Terminal) (first second : Outcome) → together first second ≡ total t (first ∷ second ∷ [])
 unfolding total
-together-is t first second = rw (append-nil (bytesSent second), add-zero (second .stored))
+together-is t first second = rw (append-nil (bytesSent second), add-zero (second .stored), add-zero (second .refused), or-false (second .protection))
 
 module _ (t : Terminal) (bytes : List ℕ) (cut : ℕ) (lent lentLater : List ℕ) where
   abbrev first-call : Outcome

@@ -5,7 +5,7 @@ use mathlib.Core.List.{List, _++_, List·Memᴰ}
 use Prim.Native.Nat.{ℕ, _+_}
 use lib.Dec.{eqb}
 use lib.ListN.{take, drop}
-use Rattle.words.specs.Choice.{_and_}
+use Rattle.words.specs.Choice.{_and_, _or_}
 use Rattle.page.specs.Page.{Page}
 use Rattle.steps.specs.Steps.{Terminal, Stepped}
 use Rattle.steps.specs.Seen.{characterAt, unprotectedAt, blockHere}
@@ -35,6 +35,8 @@ pub record InTwoReads
         terminal = record { state = replies .second .state; page = page };
         sent = take (replies .first .sent) output ++ take (replies .second .sent) outputLater;
         stored = replies .first .stored + replies .second .stored;
+        refused = replies .first .refused + replies .second .refused;
+        protection = replies .first .protection or replies .second .protection;
       } ≡ totalOf t (byteSteps ourRules t bytes)
 
 -- Demand 2, feeding back: what a receiver's call gave and left that was fed the sender's full block.

@@ -2,6 +2,7 @@
 use mathlib.Core.Bool.{Bool}
 use mathlib.Core.List.{List, [], _∷_}
 use Prim.Native.Nat.{ℕ}
+use Prim.Native.Char.{code}
 use lib.Dec.{eqb}
 use Rattle.words.specs.Choice.{if_then_else_}
 use Rattle.page.specs.Page.{pageOf, modifiedCleared}
@@ -11,13 +12,14 @@ use Rattle.steps.specs.Seen.{blockHere}
 
 -- DSR: 5 gives ESC [ 0 n, 6 gives CPR, ESC [ row ; column R.
 abbrev pub readyBytes : List ℕ
-readyBytes = 0x1B ∷ 0x5B ∷ 0x30 ∷ 0x6E ∷ []
+readyBytes = 0x1B ∷ code "[" ∷ code "0" ∷ code "n" ∷ []
 
 unfoldable pub readyReport : Terminal → Stepped
 readyReport t = sends (report readyBytes) (t .state) (t .page)
 
 unfoldable pub cursorReport : Terminal → Stepped
-cursorReport t = sends (report (placeBytes (t .state .cursor .row) (t .state .cursor .column) 0x52)) (t .state) (t .page)
+cursorReport t =
+    sends (report (placeBytes (t .state .cursor .row) (t .state .cursor .column) (code "R"))) (t .state) (t .page)
 
 unfoldable pub statusReport : ℕ → Terminal → Stepped
 statusReport what t =

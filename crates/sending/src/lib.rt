@@ -1,5 +1,6 @@
 // What sends: a report, or a block, full or changed.
-// `before` is the state before the command's last byte; it is handed back where the transmission doesn't fit, and then nothing happens.
+// `before` is the state before the command's last byte; it is handed back where the transmission doesn't fit, and then
+// nothing happens.
 use page::Mark;
 use state::State;
 use steps::Step;
@@ -30,7 +31,14 @@ fn no_room(before: State) -> Step
 
 // A transmission of so many bytes was sent.
 fn did_send(state: State, bytes: usize) -> Step
-    ensures { λ r. ⌜ r ≡ record { state = state; stored = 0; sent = bytes; refused = false; protection = false; exceeds = false } ⌝ }
+    ensures { λ r. ⌜ r ≡ record {
+      state = state;
+      stored = 0;
+      sent = bytes;
+      refused = false;
+      protection = false;
+      exceeds = false;
+    } ⌝ }
 {
     Step {
         state,
@@ -48,15 +56,19 @@ fn put_ready(out: &mut [u8], at: usize) -> usize
     ensures { λ r. ⌜ Wrote at readyBytes (now (out .entry)) r (now (out .exit)) ⌝ }
 {
     let bracket = output::put_byte(out, at, 0x1B);
-    let digit = output::put_byte(out, bracket, 0x5B);
-    let end = output::put_byte(out, digit, 0x30);
-    output::put_byte(out, end, 0x6E)
+    let digit = output::put_byte(out, bracket, b'[');
+    let end = output::put_byte(out, digit, b'0');
+    output::put_byte(out, end, b'n')
 }
 
-// DSR 5.
+// DSR 5: ready.
 fn ready_report(state: State, before: State, out: &mut [u8], at: usize) -> Step
     requires { ⌜ at ≤ length (now out) ⌝ }
-    ensures { λ r. ⌜ ((page : Page) → record { told = told r page; output = now (out .exit) } ≡ written at (now (out .entry)) (record { state = before; page = page }) (readyReport (record { state = state; page = page }))) ⌝ }
+    ensures { λ r. ⌜ ((page : Page) →
+        record { told = told r page; output = now (out .exit) }
+        ≡ written at (now (out .entry))
+        (record { state = before; page = page })
+        (readyReport (record { state = state; page = page }))) ⌝ }
 {
     if out.len() - at < 4 {
         return no_room(before);
@@ -65,11 +77,15 @@ fn ready_report(state: State, before: State, out: &mut [u8], at: usize) -> Step
     did_send(state, 4)
 }
 
-// CPR: ESC [ row ; column R.
+// DSR 6: CPR, ESC [ row ; column R.
 fn cursor_report(state: State, before: State, out: &mut [u8], at: usize) -> Step
     requires { ⌜ OnPage state ⌝ }
     requires { ⌜ at ≤ length (now out) ⌝ }
-    ensures { λ r. ⌜ ((page : Page) → record { told = told r page; output = now (out .exit) } ≡ written at (now (out .entry)) (record { state = before; page = page }) (cursorReport (record { state = state; page = page }))) ⌝ }
+    ensures { λ r. ⌜ ((page : Page) →
+        record { told = told r page; output = now (out .exit) }
+        ≡ written at (now (out .entry))
+        (record { state = before; page = page })
+        (cursorReport (record { state = state; page = page }))) ⌝ }
 {
     let row = state.cursor.row;
     let column = state.cursor.column;
@@ -77,15 +93,19 @@ fn cursor_report(state: State, before: State, out: &mut [u8], at: usize) -> Step
     if out.len() - at < bytes {
         return no_room(before);
     }
-    output::put_place(out, at, row, column, 0x52);
+    output::put_place(out, at, row, column, b'R');
     did_send(state, bytes)
 }
 
-// DSR.
+// DSR: 5 asks for a ready report, 6 for the cursor's place.
 pub fn status_report(state: State, before: State, out: &mut [u8], at: usize, what: usize) -> Step
     requires { ⌜ OnPage state ⌝ }
     requires { ⌜ at ≤ length (now out) ⌝ }
-    ensures { λ r. ⌜ ((page : Page) → record { told = told r page; output = now (out .exit) } ≡ written at (now (out .entry)) (record { state = before; page = page }) (statusReport what (record { state = state; page = page }))) ⌝ }
+    ensures { λ r. ⌜ ((page : Page) →
+        record { told = told r page; output = now (out .exit) }
+        ≡ written at (now (out .entry))
+        (record { state = before; page = page })
+        (statusReport what (record { state = state; page = page }))) ⌝ }
 {
     if what == 5 {
         return ready_report(state, before, out, at);
@@ -108,7 +128,11 @@ pub fn send_block(
 ) -> Step
     requires { ⌜ Valid (terminalOf state (now characters) (now marks)) ⌝ }
     requires { ⌜ at ≤ length (now out) ⌝ }
-    ensures { λ r. ⌜ record { told = told r (pageOf (now (characters .entry)) (now (marks .exit))); output = now (out .exit) } ≡ written at (now (out .entry)) (terminalOf before (now (characters .entry)) (now (marks .entry))) (sendBlock full (terminalOf state (now (characters .entry)) (now (marks .entry)))) ⌝ }
+    ensures { λ r. ⌜
+        record { told = told r (pageOf (now (characters .entry)) (now (marks .exit))); output = now (out .exit) }
+        ≡ written at (now (out .entry))
+        (terminalOf before (now (characters .entry)) (now (marks .entry)))
+        (sendBlock full (terminalOf state (now (characters .entry)) (now (marks .entry)))) ⌝ }
 {
     let answer = blocks::write_block(out, at, characters, marks, state.size.columns, full);
     match answer {

@@ -1,5 +1,5 @@
--- What holds of every step, of a host byte and of a key: each kind of step is sound, a change of the state alone, a refusal,
--- cells stored, a transmission sent.
+-- What holds of every step, of a host byte and of a key: each kind of step is sound, a change of the state alone, a
+-- refusal, cells stored, a transmission sent.
 use mathlib.Core.Path.{_≡_, refl, sym, _∙_}
 use mathlib.Core.Bool.{Bool, true, false}
 use mathlib.Core.List.{List, []}

@@ -1,4 +1,5 @@
--- What each operation that stores cells claims: the page stays valid and as large, and only the cells named are touched.
+-- What each operation that stores cells claims: the page stays valid and as large, and only the cells named are
+-- touched.
 use mathlib.Core.Path.{_≡_, refl, sym, ap, _∙_}
 use mathlib.Core.Bool.{Bool, true, false, not}
 use mathlib.Core.List.{List, [], _∷_, List·Memᴰ, List·Memᴰ·head}

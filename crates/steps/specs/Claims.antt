@@ -12,9 +12,11 @@ use Rattle.steps.specs.Seen.{blockHere}
 -- Cells in page order, each named once: none is before `first`, none is as far as `end`.
 pub data Rising (end : ℕ) : ℕ → List ℕ → Type 0 where
   none : {first : ℕ} → Rising end first []
-  next : {first : ℕ} (cell : ℕ) {later : List ℕ} → first ≤ cell → cell < end → Rising end (cell + 1) later → Rising end first (cell ∷ later)
+  next : {first : ℕ} (cell : ℕ) {later : List ℕ}
+      → first ≤ cell → cell < end → Rising end (cell + 1) later → Rising end first (cell ∷ later)
 
--- What a transmission leaves of the mark of a cell that isn't named: a block clears modified, and nothing else does anything.
+-- What a transmission leaves of the mark of a cell that isn't named: a block clears modified, and nothing else does
+-- anything.
 unfoldable pub markLeft : Transmission → ℕ → ℕ
 markLeft silent mark = mark
 markLeft (report bytes) mark = mark
@@ -33,7 +35,8 @@ TouchesOnly cells transmission before after =
 
 -- The cell keeps its character, if the lent characters have it, and its mark.
 pub record ProtectedKept (before after : Page) (cell : ℕ) : Type 0 where
-  pub character : cell < length (before .characters) → getD (after .characters) cell 0 ≡ getD (before .characters) cell 0
+  pub character : cell < length (before .characters)
+      → getD (after .characters) cell 0 ≡ getD (before .characters) cell 0
   pub mark : getD (after .marks) cell 0 ≡ getD (before .marks) cell 0
 
 -- The cell keeps its character and its mark.
@@ -43,7 +46,8 @@ pub record CellKept (before after : Page) (cell : ℕ) : Type 0 where
 
 -- Every cell of the page is as protected as it was.
 abbrev pub KeepsProtection : Page → Page → Type 0
-KeepsProtection before after = (cell : ℕ) → cell < length (before .marks) → unprotected (after .marks) cell ≡ unprotected (before .marks) cell
+KeepsProtection before after =
+    (cell : ℕ) → cell < length (before .marks) → unprotected (after .marks) cell ≡ unprotected (before .marks) cell
 
 -- All characters stay, and all protection.
 pub record KeepsText (before after : Page) : Type 0 where

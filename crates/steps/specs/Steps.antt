@@ -36,8 +36,8 @@ unfoldable pub blockTransmission : Bool → List ℕ → Transmission
 blockTransmission true bytes = fullBlock bytes
 blockTransmission false bytes = changedBlock bytes
 
--- The terminal after a step; the transmission sent; the cells stored, by their numbers (the step *names* them); whether a command was
--- refused; whether protection may have changed (no rule of document 01 asks for it; D-30).
+-- The terminal after a step; the transmission sent; the cells stored, by their numbers (the step *names* them);
+-- whether a command was refused; whether protection may have changed (no rule of document 01 asks for it; D-30).
 pub record Stepped : Type 0 where
   pub terminal : Terminal
   pub transmission : Transmission
@@ -50,18 +50,33 @@ withState t s = record { state = s; page = t .page }
 
 -- The state changes, and nothing is stored, sent or refused.
 abbrev pub goesTo : State → Terminal → Stepped
-goesTo s t = record { terminal = withState t s; transmission = silent; cells = []; wasRefused = false; protection = false }
+goesTo s t =
+    record { terminal = withState t s; transmission = silent; cells = []; wasRefused = false; protection = false }
 
 -- Cells are stored, and the state changes; the Bool says whether protection may have changed.
 abbrev pub stores : List ℕ → Bool → State → Page → Stepped
 stores cells protection s page =
-    record { terminal = record { state = s; page = page }; transmission = silent; cells = cells; wasRefused = false; protection = protection }
+    record {
+      terminal = record { state = s; page = page };
+      transmission = silent;
+      cells = cells;
+      wasRefused = false;
+      protection = protection;
+    }
 
 -- A transmission is sent.
 abbrev pub sends : Transmission → State → Page → Stepped
-sends transmission s page = record { terminal = record { state = s; page = page }; transmission = transmission; cells = []; wasRefused = false; protection = false }
+sends transmission s page =
+    record {
+      terminal = record { state = s; page = page };
+      transmission = transmission;
+      cells = [];
+      wasRefused = false;
+      protection = false;
+    }
 
--- A command that is refused changes nothing: it hands back that it refuses, and the step of its byte sets lock and message.
+-- A command that is refused changes nothing: it hands back that it refuses, and the step of its byte sets lock and
+-- message.
 abbrev pub refusing : Terminal → Stepped
 refusing t = record { terminal = t; transmission = silent; cells = []; wasRefused = true; protection = false }
 

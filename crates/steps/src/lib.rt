@@ -1,4 +1,4 @@
-// What the code tells of a step: see specs/.
+// What the code tells of a step (specs/Told.antt).
 use state::State;
 ghost use mathlib.Core.Path.{_≡_};
 ghost use mathlib.Core.List.{List};
@@ -32,7 +32,7 @@ pub fn quiet(state: State) -> Step
     }
 }
 
-// A command that is refused changes nothing and hands back that it refuses: every refusal of a command comes through here.
+// A command that is refused changes nothing and hands back that it refuses; every one that refuses comes through here.
 pub fn refuse(state: State) -> Step
     ensures { λ r. ⌜ ((page : Page) → told r page ≡ tells (refusing (record { state = state; page = page }))) ⌝ }
 {
@@ -48,7 +48,8 @@ pub fn refuse(state: State) -> Step
 
 // Cells are stored, and the state changes; `protection` says whether cells may have been protected or unprotected.
 pub fn stored(state: State, count: usize, protection: bool) -> Step
-    ensures { λ r. ⌜ ((cells : List ℕ) (page : Page) → length cells ≡ count → told r page ≡ tells (stores cells protection state page)) ⌝ }
+    ensures { λ r. ⌜ ((cells : List ℕ) (page : Page) → length cells ≡ count →
+        told r page ≡ tells (stores cells protection state page)) ⌝ }
 {
     Step {
         state,

@@ -5,6 +5,7 @@ use mathlib.Core.Logic.{⊎-elim}
 use Prim.Native.Nat.{ℕ, zero, suc, _+_, _<_, _≤_}
 use native.Mathlib.Omega.{arith}
 use borrow.Author.Tests.{leb-true, eqb-true}
+use Rattle.words.specs.Choice.{_is_to_}
 use Rattle.words.proofs.Choosing.{both, one-holds}
 use Rattle.table.specs.Moves.{isMove}
 
@@ -20,7 +21,7 @@ outside n least (suc more) none h l = outside n least more (none .0) h (omega (a
 module _ (final : ℕ) (move : isMove final ≡ true) where
   -- What follows of A to I, of Z, of d and of f follows of a move.
   of-each-move : {A : Type 0} → (0x41 ≤ final → final ≤ 0x49 → A) → (final ≡ 0x5A → A) → (final ≡ 0x64 → A) → (final ≡ 0x66 → A) → A
-  unfolding isMove
+  unfolding isMove _is_to_
   of-each-move a-to-i z d f =
       ⊎-elim
       (λ p. let ends = both p in a-to-i (leb-true _ _ (ends .0)) (leb-true _ _ (ends .1)))

@@ -1,4 +1,5 @@
--- Tables of digits that follow a rule: antt computes `digitsOf`, and compares it with a table of the code digit by digit.
+-- Tables of digits that follow a rule: antt computes `digitsOf`, and compares it with a table of the code digit by
+-- digit.
 use mathlib.Core.Path.{_≡_, ap, _∙_}
 use mathlib.Core.List.{List, [], _∷_}
 use Prim.Native.Nat.{ℕ, zero, suc, _+_, _-_, _<_, _≤_}

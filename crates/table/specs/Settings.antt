@@ -6,7 +6,8 @@ use lib.Dec.{eqb}
 use Rattle.words.specs.Choice.{if_then_else_, _or_}
 use Rattle.words.specs.Lists.{every}
 use Rattle.state.specs.Tabs.{stopSet, stopCleared, stopsCleared}
-use Rattle.state.specs.Pen.{penPlain, penBold, penUnderlined, penBlinking, penReversed, penConcealed, withPen, withErasure}
+use Rattle.state.specs.Pen.{penPlain, penBold, penUnderlined, penBlinking, penReversed, penConcealed}
+use Rattle.state.specs.Pen.{withPen, withErasure}
 use Rattle.steps.specs.Steps.{Terminal, Stepped, goesTo, refusing}
 
 -- CTC (lines 2296 to 2310): 0 set, 2 clear here, 5 clear all.

@@ -1,4 +1,5 @@
--- Document 01, "Commands": the table by final byte. How many arguments a command may have, and what an argument of 0 stands for.
+-- Document 01, "Commands": the table by final byte. How many arguments a command may have, and what an argument of 0
+-- stands for.
 use Prim.Native.Nat.{ℕ}
 use Prim.Native.Char.{code}
 use lib.Dec.{eqb}

@@ -1,4 +1,4 @@
-// Document 01, "Commands": the table by final byte, and in modules of their own the commands that change the state alone.
+// Document 01, "Commands": the table by final byte; in modules of their own, the commands that change the state alone.
 // What each function gives is defined in specs/.
 ghost use mathlib.Core.Path.{_≡_};
 ghost use Prim.Native.Nat.{_≤_};

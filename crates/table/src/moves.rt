@@ -30,7 +30,8 @@ fn to_row(state: State, row: usize) -> Step
 
 // CUP and HVP: past the page they are refused.
 fn to_place(state: State, row: usize, column: usize) -> Step
-    ensures { λ r. ⌜ ((page : Page) → told r page ≡ tells (toPlace row column (record { state = state; page = page }))) ⌝ }
+    ensures { λ r. ⌜ ((page : Page) →
+        told r page ≡ tells (toPlace row column (record { state = state; page = page }))) ⌝ }
 {
     if row <= state.size.rows {
         if column <= state.size.columns {
@@ -76,28 +77,30 @@ pub fn is_move(letter: u8) -> bool
 pub fn move_command(state: State, letter: u8, arguments: [u16; 8]) -> Step
     requires { ⌜ OnPage state ⌝ }
     requires { ⌜ isMove letter ≡ true ⌝ }
-    ensures { λ r. ⌜ ((page : Page) → told r page ≡ tells (moveStep letter arguments (record { state = state; page = page }))) ⌝ }
+    ensures { λ r. ⌜ ((page : Page) →
+        told r page ≡ tells (moveStep letter arguments (record { state = state; page = page }))) ⌝ }
 {
     let first = crate::value(letter, arguments, 0);
     let second = crate::value(letter, arguments, 1);
     let row = arguments[0];
     let given = arguments[1];
     match letter {
-        b'A' => steps::quiet(state.up_by(first)),
-        b'B' => steps::quiet(state.down_by(first)),
-        b'C' => steps::quiet(state.right_by(first)),
-        b'D' => steps::quiet(state.left_by(first)),
-        b'E' => steps::quiet(state.down_by(first).to_margin()),
-        b'F' => steps::quiet(state.up_by(first).to_margin()),
-        b'G' => to_column(state, first),
-        b'H' => to_place(state, first, second),
-        b'I' => steps::quiet(state.tab_on(first)),
-        b'd' => to_row(state, first),
+        b'A' => steps::quiet(state.up_by(first)), // CUU
+        b'B' => steps::quiet(state.down_by(first)), // CUD
+        b'C' => steps::quiet(state.right_by(first)), // CUF
+        b'D' => steps::quiet(state.left_by(first)), // CUB
+        b'E' => steps::quiet(state.down_by(first).to_margin()), // CNL
+        b'F' => steps::quiet(state.up_by(first).to_margin()), // CPL
+        b'G' => to_column(state, first), // CHA
+        b'H' => to_place(state, first, second), // CUP
+        b'I' => steps::quiet(state.tab_on(first)), // CHT
+        b'd' => to_row(state, first), // VPA
+        // HVP
         b'f' => to_place(
             state,
             first,
             kept_column(row, given, second, state.cursor.column),
         ),
-        _ => steps::quiet(state.tab_back(first)), // Z
+        _ => steps::quiet(state.tab_back(first)), // Z: CBT
     }
 }

@@ -12,7 +12,7 @@ ghost use Rattle.state.specs.State.{OnPage};
 ghost use Rattle.steps.specs.Told.{told, tells};
 ghost use Rattle.table.specs.Settings.{tabControl, isVisual, penAfter, penAfterAll, rendition, setMode};
 
-// CTC.
+// CTC: 0 sets a tab stop, 2 clears it, 5 clears all.
 pub fn tab_control(state: State, what: usize) -> Step
     requires { ⌜ OnPage state ⌝ }
     ensures { λ r. ⌜ ((page : Page) → told r page ≡ tells (tabControl what (record { state = state; page = page }))) ⌝ }
@@ -25,6 +25,7 @@ pub fn tab_control(state: State, what: usize) -> Step
     }
 }
 
+// Whether SGR lists a value.
 fn is_visual(value: u16) -> bool
     ensures { λ r. ⌜ r ≡ isVisual value ⌝ }
 {
@@ -39,6 +40,7 @@ fn is_visual(value: u16) -> bool
     }
 }
 
+// Whether it lists them all.
 fn all_visual(values: [u16; 8], count: usize) -> bool
     requires { ⌜ count ≤ 8 ⌝ }
     ensures { λ r. ⌜ r ≡ every isVisual (take count values) ⌝ }
@@ -53,6 +55,7 @@ fn all_visual(values: [u16; 8], count: usize) -> bool
     true
 }
 
+// Whether every mode is 6, erasure.
 fn all_six(values: [u16; 8], count: usize) -> bool
     requires { ⌜ count ≤ 8 ⌝ }
     ensures { λ r. ⌜ r ≡ every (λ value. eqb value 6) (take count values) ⌝ }
@@ -81,6 +84,7 @@ fn pen_after(value: u16, pen: Mark) -> Mark
     }
 }
 
+// The pen after all of them, in order.
 fn pen_after_all(values: [u16; 8], count: usize, pen: Mark) -> Mark
     requires { ⌜ count ≤ 8 ⌝ }
     ensures { λ r. ⌜ r ≡ penAfterAll (take count values) pen ⌝ }
@@ -97,7 +101,8 @@ fn pen_after_all(values: [u16; 8], count: usize, pen: Mark) -> Mark
 // SGR: all values are tested before any acts.
 pub fn rendition(state: State, values: [u16; 8], count: usize) -> Step
     requires { ⌜ count ≤ 8 ⌝ }
-    ensures { λ r. ⌜ ((page : Page) → told r page ≡ tells (rendition (take count values) (record { state = state; page = page }))) ⌝ }
+    ensures { λ r. ⌜ ((page : Page) →
+        told r page ≡ tells (rendition (take count values) (record { state = state; page = page }))) ⌝ }
 {
     if all_visual(values, count) {
         let pen = pen_after_all(values, count, state.modes.pen);
@@ -106,10 +111,11 @@ pub fn rendition(state: State, values: [u16; 8], count: usize) -> Step
     steps::refuse(state)
 }
 
-// SM and RM.
+// SM and RM: mode 6.
 pub fn set_mode(state: State, on: bool, values: [u16; 8], count: usize) -> Step
     requires { ⌜ count ≤ 8 ⌝ }
-    ensures { λ r. ⌜ ((page : Page) → told r page ≡ tells (setMode on (take count values) (record { state = state; page = page }))) ⌝ }
+    ensures { λ r. ⌜ ((page : Page) →
+        told r page ≡ tells (setMode on (take count values) (record { state = state; page = page }))) ⌝ }
 {
     if all_six(values, count) {
         return steps::quiet(state.with_erasure(on));

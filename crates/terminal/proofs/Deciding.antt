@@ -1,10 +1,12 @@
 -- Which line decides a call, and what the call then gives.
 use mathlib.Core.Path.{_≡_, refl, sym, ap, _∙_}
-use mathlib.Core.Bool.{true, false, not}
+use mathlib.Core.Bool.{Bool, true, false, not}
 use mathlib.Core.List.{List, [], _∷_, append-nil}
 use Prim.Native.Nat.{ℕ, _-_, _<_, _≤_}
+use native.Mathlib.Nat.{add-zero}
 use borrow.Author.Tests.{le-ltb, le-leb, lt-leb, not-false}
 use lib.ListN.{length}
+use Rattle.words.specs.Choice.{_or_}
 use Rattle.words.proofs.Choosing.{then-case, else-case, both, both-hold}
 use Rattle.words.specs.Output.{placed}
 use Rattle.words.proofs.Output.{wrote-none}
@@ -19,7 +21,7 @@ use Rattle.steps.proofs.Soundness.{sized}
 use Rattle.commands.proofs.Laws.{all-cells-count, erased-is-fresh}
 use Rattle.terminal.specs.declared.Answer.{Answer}
 use Rattle.terminal.specs.declared.Answer.the-variants.{Done, WrongSize, NoRoom}
-use Rattle.terminal.specs.Runs.{stepsOf, fitting, after, bytesSentBy, cellsStoredBy}
+use Rattle.terminal.specs.Runs.{stepsOf, fitting, after, bytesSentBy, cellsStoredBy, countOf, refusedBy, protectionBy}
 use Rattle.terminal.specs.Answers.{numberOf, unchanged, afterSteps, changesNothing, gives}
 use Rattle.terminal.specs.Tests.{exceedsRoom, passesLine2, startLines, hostRefusals, keyRefusals, Passes, hostLines, keyLines}
 use Rattle.terminal.specs.Calls.{unstarted, startStep, startCall, hostCall, keyCall}
@@ -33,6 +35,11 @@ is-valid t size valid = record { size = size; state = both valid .0; page = both
 pub valid-holds : (t : Terminal) → Valid t → passesLine2 t ≡ true
 unfolding passesLine2
 valid-holds t valid = both-hold _ _ (valid .state) (valid .page)
+
+pub or-false : (test : Bool) → (test or false) ≡ test
+unfolding _or_
+or-false true = refl
+or-false false = refl
 
 -- A step that fits, and one that doesn't.
 pub fits-on : (room : ℕ) (step : Stepped) (later : List Stepped) → length (bytesOf (step .transmission)) ≤ room → fitting room (step ∷ later) ≡ step ∷ fitting (room - length (bytesOf (step .transmission))) later
@@ -119,13 +126,13 @@ module _ (t : Terminal) (key : ℕ) (output : List ℕ) where
 
   -- Line 3: a key's step is done whole or not at all.
   pub key-no-room : Passes t key → length output < length (bytesOf (keyStep key t .transmission)) → keyCall t key output ≡ unchanged NoRoom t output
-  unfolding keyLines changesNothing afterSteps unchanged after bytesSentBy cellsStoredBy exceedsRoom
+  unfolding keyLines changesNothing afterSteps unchanged after bytesSentBy cellsStoredBy refusedBy protectionBy exceedsRoom
   key-no-room passes exceeds =
       let left-out = stops-there (length output) (keyStep key t) [] exceeds in
       key-gives NoRoom (through (key-passes t key passes) (this (rw left-out)))
       ∙ gives-steps NoRoom 0 t output _ refl
       ∙ ap (afterSteps NoRoom 0 t output) left-out
-      ∙ (λ i. record { number = numberOf NoRoom; taken = 0; sent = 0; stored = 0; terminal = t; output = sym (wrote-none 0 output .left) i })
+      ∙ (λ i. record { number = numberOf NoRoom; taken = 0; sent = 0; stored = 0; refused = 0; protection = false; terminal = t; output = sym (wrote-none 0 output .left) i })
 
   pub key-did : Passes t key → length (bytesOf (keyStep key t .transmission)) ≤ length output → keyCall t key output ≡ afterSteps Done 0 t output (keyStep key t ∷ [])
   unfolding keyLines changesNothing exceedsRoom fitting
@@ -133,8 +140,8 @@ module _ (t : Terminal) (key : ℕ) (output : List ℕ) where
       let all = fits-on (length output) (keyStep key t) [] fits in
       key-gives Done (through (key-passes t key passes) (past (rw all) none)) ∙ gives-steps Done 0 t output _ refl ∙ ap (afterSteps Done 0 t output) all
 
-  pub key-done : Passes t key → length (bytesOf (keyStep key t .transmission)) ≤ length output → keyCall t key output ≡ record { number = numberOf Done; taken = 0; sent = length (bytesOf (keyStep key t .transmission)); stored = length (keyStep key t .cells); terminal = keyStep key t .terminal; output = placed 0 (bytesOf (keyStep key t .transmission)) output }
-  unfolding afterSteps after bytesSentBy cellsStoredBy
+  pub key-done : Passes t key → length (bytesOf (keyStep key t .transmission)) ≤ length output → keyCall t key output ≡ record { number = numberOf Done; taken = 0; sent = length (bytesOf (keyStep key t .transmission)); stored = length (keyStep key t .cells); refused = countOf (keyStep key t .wasRefused); protection = keyStep key t .protection; terminal = keyStep key t .terminal; output = placed 0 (bytesOf (keyStep key t .transmission)) output }
+  unfolding afterSteps after bytesSentBy cellsStoredBy refusedBy protectionBy
   key-done passes fits =
       key-did passes fits
       ∙ (λ i. record {
@@ -142,6 +149,8 @@ module _ (t : Terminal) (key : ℕ) (output : List ℕ) where
         taken = 0;
         sent = length (append-nil (bytesOf (keyStep key t .transmission)) i);
         stored = length (append-nil (keyStep key t .cells) i);
+        refused = add-zero (countOf (keyStep key t .wasRefused)) i;
+        protection = or-false (keyStep key t .protection) i;
         terminal = keyStep key t .terminal;
         output = placed 0 (append-nil (bytesOf (keyStep key t .transmission)) i) output;
       })
@@ -160,8 +169,8 @@ module _ (size : Size) (page : Page) where
   start-done fits = start-gives Done (past (ap not fits) none) ∙ gives-steps Done 0 (unstarted page) [] _ refl
 
   -- A fresh page is one erased whole.
-  pub start-leaves : sizeFits size page ≡ true → startCall size page ≡ record { number = numberOf Done; taken = 0; sent = 0; stored = length (page .marks); terminal = record { state = freshState size; page = erased true 0 (length (page .marks)) page }; output = [] }
-  unfolding afterSteps after bytesSentBy cellsStoredBy startStep freshStep bytesOf placed
+  pub start-leaves : sizeFits size page ≡ true → startCall size page ≡ record { number = numberOf Done; taken = 0; sent = 0; stored = length (page .marks); refused = 0; protection = true; terminal = record { state = freshState size; page = erased true 0 (length (page .marks)) page }; output = [] }
+  unfolding afterSteps after bytesSentBy cellsStoredBy countOf refusedBy protectionBy _or_ startStep freshStep bytesOf placed
   start-leaves fits =
       let lengths = sized size page fits in
       start-done fits
@@ -170,6 +179,8 @@ module _ (size : Size) (page : Page) where
         taken = 0;
         sent = 0;
         stored = (ap (length {A = ℕ}) (append-nil (allCells page)) ∙ all-cells-count page) i;
+        refused = 0;
+        protection = true;
         terminal = record { state = freshState size; page = sym (erased-is-fresh page (lengths .marks ∙ sym (lengths .characters))) i };
         output = [];
       })

@@ -8,11 +8,10 @@ use native.Mathlib.Omega.{arith}
 use borrow.Author.Tests.{eqb-false, not-true, ne-eqb}
 use Rattle.words.specs.Choice.{_or_, _is_to_}
 use Rattle.words.proofs.Choosing.{true-is-not-false, not-both, either-way, then-case, else-case, both, both-hold, neither, one-holds, first-holds, second-decides, range-holds, range-is}
-use Rattle.page.specs.Marks.{unprotected}
 use Rattle.fields.specs.Fields.{Field}
 use Rattle.state.specs.declared.State.{State}
 use Rattle.steps.specs.Steps.{Terminal, cursorCell}
-use Rattle.steps.specs.Seen.{fieldsHere}
+use Rattle.steps.specs.Seen.{unprotectedAt, fieldsHere}
 use Rattle.keys.specs.Keys.{isTyping, isEditing, isFieldMove, isKnown, isLocked, isLockedOut, noField, lacksCell}
 use Rattle.terminal.specs.Lines.{Line4, Line5, manual-lock, soft-lock, Line7, typed-on-protected, edited-on-protected, no-field}
 
@@ -60,7 +59,7 @@ pub line-7 : (key : ℕ) (t : Terminal) → (lacksCell key t ≡ true) ↔ Line7
 unfolding lacksCell isTyping isEditing isFieldMove noField
 line-7 key t = (holds, λ line. lacks line)
   where
-    storing : (key is 32 to 126 or key is 263 to 265) ≡ true → lacksCell key t ≡ not (unprotected (t .page .marks) (cursorCell (t .state)))
+    storing : (key is 32 to 126 or key is 263 to 265) ≡ true → lacksCell key t ≡ not (unprotectedAt t (cursorCell (t .state)))
     storing stores = then-case _ _ _ stores
 
     holds : lacksCell key t ≡ true → Line7 key t

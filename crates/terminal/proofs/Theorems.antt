@@ -7,6 +7,7 @@ use Prim.Native.Nat.{ℕ}
 use native.Mathlib.Omega.{arith}
 use borrow.Author.Tests.{lt-ltb, ltb-true, not-true}
 use lib.ListN.{length, take, drop, replicate}
+use Rattle.words.specs.Choice.{_or_}
 use Rattle.words.proofs.Choosing.{either-line}
 use Rattle.words.specs.Output.{placed}
 use Rattle.words.proofs.Output.{placed-before, placed-past}
@@ -20,7 +21,7 @@ use Rattle.keys.specs.Keys.{keyStep}
 use Rattle.steps.proofs.Soundness.{sized}
 use Rattle.terminal.specs.declared.Answer.{Answer}
 use Rattle.terminal.specs.declared.Reply.{Reply}
-use Rattle.terminal.specs.Runs.{stepsOf, after, bytesSentBy, cellsStoredBy}
+use Rattle.terminal.specs.Runs.{stepsOf, after, bytesSentBy, cellsStoredBy, countOf, refusedBy, protectionBy}
 use Rattle.terminal.specs.Answers.{numberOf, Outcome, given, unchanged, afterSteps, changesNothing, gives}
 use Rattle.terminal.specs.Tests.{passesLine2, firstOf, startLines, hostRefusals, keyRefusals, hostLines, keyLines}
 use Rattle.terminal.specs.Calls.{unstarted, startStep, startCall, hostCall, keyCall}
@@ -89,6 +90,8 @@ leaves answer t lent is =
       taken = ap (λ (o : Outcome). o .taken) is;
       sent = ap (λ (o : Outcome). o .sent) is;
       stored = ap (λ (o : Outcome). o .stored) is;
+      refused = ap (λ (o : Outcome). o .refused) is;
+      protection = ap (λ (o : Outcome). o .protection) is;
       terminal = ap (λ (o : Outcome). o .terminal) is;
       output = ap (λ (o : Outcome). o .output) is;
     }
@@ -100,6 +103,8 @@ did-so answer taken t lent steps is =
       bytes-taken = ap (λ (o : Outcome). o .taken) is;
       sent = ap (λ (o : Outcome). o .sent) is;
       stored = ap (λ (o : Outcome). o .stored) is;
+      refused = ap (λ (o : Outcome). o .refused) is;
+      protection = ap (λ (o : Outcome). o .protection) is;
       terminal = ap (λ (o : Outcome). o .terminal) is;
       output = ap (λ (o : Outcome). o .output) is;
     }
@@ -123,7 +128,7 @@ start-refused size page not-done = go (start-case size page)
 
 -- Start, 0: a fresh page and state of the size asked for.
 pub start-done : (size : Size) (page : Page) → startCall size page .number ≡ 0 → Started size (startCall size page)
-unfolding numberOf after bytesSentBy cellsStoredBy startStep freshStep bytesOf placed
+unfolding numberOf after bytesSentBy cellsStoredBy countOf refusedBy protectionBy _or_ startStep freshStep bytesOf placed
 start-done size page is-done = go (start-case size page)
   where
     go : StartCase size page → Started size (startCall size page)
@@ -135,6 +140,8 @@ start-done size page is-done = go (start-case size page)
           taken = did .bytes-taken;
           sent = did .sent;
           stored = did .stored ∙ ap length (append-nil (allCells page)) ∙ run-length 0 (length (page .marks)) ∙ lengths .marks;
+          refused = did .refused;
+          protection = did .protection;
           state = ap (λ (t : Terminal). t .state) (did .terminal);
           characters = ap (λ (t : Terminal). t .page .characters) (did .terminal) ∙ ap (λ (n : ℕ). replicate n 0x20) (lengths .characters);
           marks = ap (λ (t : Terminal). t .page .marks) (did .terminal) ∙ ap (λ (n : ℕ). replicate n 0) (lengths .marks);
@@ -204,7 +211,7 @@ one-result {one} {other} a b =
     let same = a ∙ sym b in
     let answers = same-answer (one .answer) (other .answer) (ap (λ (o : Outcome). o .number) same) in
     record {
-      replies = λ i. record { answer = answers i; state = same i .terminal .state; taken = same i .taken; sent = same i .sent; stored = same i .stored };
+      replies = λ i. record { answer = answers i; state = same i .terminal .state; taken = same i .taken; sent = same i .sent; stored = same i .stored; refused = same i .refused; protection = same i .protection };
       pages = ap (λ (o : Outcome). o .terminal .page) same;
       outputs = ap (λ (o : Outcome). o .output) same;
     }

@@ -8,9 +8,10 @@ use Rattle.words.specs.Output.{placed}
 use Rattle.page.specs.Page.{Page}
 use Rattle.steps.specs.Steps.{Terminal, Stepped}
 use Rattle.terminal.specs.declared.Answer.{Answer}
-use Rattle.terminal.specs.declared.Answer.the-variants.{Done, WrongSize, WrongState, NoRoom, UnknownKey, Locked, TooLong, NoCell}
+use Rattle.terminal.specs.declared.Answer.the-variants.{Done, WrongSize, WrongState, NoRoom}
+use Rattle.terminal.specs.declared.Answer.the-variants.{UnknownKey, Locked, TooLong, NoCell}
 use Rattle.terminal.specs.declared.Reply.{Reply}
-use Rattle.terminal.specs.Runs.{after, bytesSentBy, cellsStoredBy}
+use Rattle.terminal.specs.Runs.{after, bytesSentBy, cellsStoredBy, refusedBy, protectionBy}
 
 unfoldable pub numberOf : Answer → ℕ
 numberOf Done = 0
@@ -22,12 +23,15 @@ numberOf Locked = 5
 numberOf TooLong = 6
 numberOf NoCell = 7
 
--- All that a call gives and leaves: the number, the bytes taken, the bytes sent, the cells stored; state and page; the output.
+-- All that a call gives and leaves: the number; the bytes taken, the bytes sent, the cells stored, the commands
+-- refused; whether cells may have become protected or unprotected; state and page; the output.
 pub record Outcome : Type 0 where
   pub number : ℕ
   pub taken : ℕ
   pub sent : ℕ
   pub stored : ℕ
+  pub refused : ℕ
+  pub protection : Bool
   pub terminal : Terminal
   pub output : List ℕ
 
@@ -42,13 +46,25 @@ given reply page output =
       taken = reply .taken;
       sent = reply .sent;
       stored = reply .stored;
+      refused = reply .refused;
+      protection = reply .protection;
       terminal = record { state = reply .state; page = page };
       output = output;
     }
 
 -- Nothing changed, counts 0.
 unfoldable pub unchanged : Answer → Terminal → List ℕ → Outcome
-unchanged answer t output = record { number = numberOf answer; taken = 0; sent = 0; stored = 0; terminal = t; output = output }
+unchanged answer t output =
+    record {
+      number = numberOf answer;
+      taken = 0;
+      sent = 0;
+      stored = 0;
+      refused = 0;
+      protection = false;
+      terminal = t;
+      output = output;
+    }
 
 -- Steps were done: their bytes stand at the start of the output, and what is past them is as it was.
 unfoldable pub afterSteps : Answer → ℕ → Terminal → List ℕ → List Stepped → Outcome
@@ -58,6 +74,8 @@ afterSteps answer taken t output steps =
       taken = taken;
       sent = length (bytesSentBy steps);
       stored = length (cellsStoredBy steps);
+      refused = refusedBy steps;
+      protection = protectionBy steps;
       terminal = after t steps;
       output = placed 0 (bytesSentBy steps) output;
     }

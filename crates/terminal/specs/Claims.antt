@@ -1,5 +1,6 @@
 -- What is claimed of a call: its number, that it changed nothing, that it did some steps, that two results are the
 -- same.
+use mathlib.Core.Bool.{true, false}
 use mathlib.Core.List.{List, []}
 use mathlib.Core.Logic.{_↔_}
 use mathlib.Core.Path.{_≡_}
@@ -11,7 +12,7 @@ use Rattle.state.specs.declared.Size.{Size}
 use Rattle.state.specs.State.{freshState}
 use Rattle.steps.specs.Steps.{Terminal, Stepped}
 use Rattle.terminal.specs.declared.Reply.{Reply}
-use Rattle.terminal.specs.Runs.{after, bytesSentBy, cellsStoredBy}
+use Rattle.terminal.specs.Runs.{after, bytesSentBy, cellsStoredBy, refusedBy, protectionBy}
 use Rattle.terminal.specs.Answers.{Outcome}
 use Rattle.terminal.specs.Lines.{Line3, TableLine, Decides}
 
@@ -27,19 +28,24 @@ pub record Leaves (t : Terminal) (lent : List ℕ) (outcome : Outcome) : Type 0 
   pub taken : outcome .taken ≡ 0
   pub sent : outcome .sent ≡ 0
   pub stored : outcome .stored ≡ 0
+  pub refused : outcome .refused ≡ 0
+  pub protection : outcome .protection ≡ false
   pub terminal : outcome .terminal ≡ t
   pub output : outcome .output ≡ lent
 
--- What a call that did steps gives and leaves: the bytes taken, the steps' bytes and cells, and where they led.
+-- What a call that did steps gives and leaves: the bytes taken, the steps' bytes, cells and
+-- refusals, and where they led.
 pub record Did (taken : ℕ) (t : Terminal) (lent : List ℕ) (steps : List Stepped) (outcome : Outcome) : Type 0 where
   pub bytes-taken : outcome .taken ≡ taken
   pub sent : outcome .sent ≡ length (bytesSentBy steps)
   pub stored : outcome .stored ≡ length (cellsStoredBy steps)
+  pub refused : outcome .refused ≡ refusedBy steps
+  pub protection : outcome .protection ≡ protectionBy steps
   pub terminal : outcome .terminal ≡ after t steps
   pub output : outcome .output ≡ placed 0 (bytesSentBy steps) lent
 
--- What a host call given 3 leaves: it did the steps before the one whose transmission exceeds the room left, and took their
--- bytes only.
+-- What a host call given 3 leaves: it did the steps before the one whose transmission exceeds the room left, and took
+-- their bytes only.
 abbrev pub StopsShort : Terminal → List ℕ → List Stepped → Outcome → Type 0
 StopsShort t lent steps outcome =
     (line : Line3 (length lent) steps) × Did (length (line .before)) t lent (line .before) outcome
@@ -49,6 +55,8 @@ pub record Started (size : Size) (outcome : Outcome) : Type 0 where
   pub taken : outcome .taken ≡ 0
   pub sent : outcome .sent ≡ 0
   pub stored : outcome .stored ≡ size .rows * size .columns
+  pub refused : outcome .refused ≡ 0
+  pub protection : outcome .protection ≡ true
   pub state : outcome .terminal .state ≡ freshState size
   pub characters : outcome .terminal .page .characters ≡ replicate (size .rows * size .columns) 0x20
   pub marks : outcome .terminal .page .marks ≡ replicate (size .rows * size .columns) 0

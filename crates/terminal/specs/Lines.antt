@@ -1,5 +1,5 @@
--- Document 01, "Numbers a call gives back": each line as a proposition in the table's words, and the order of each call.
--- Line 3 is about the steps of the call's bytes, or of its key: they are handed in.
+-- Document 01, "Numbers a call gives back": each line as a proposition in the table's words (1 and 2 stand in `state`),
+-- and the order of each call. Line 3 is about the steps of the call's bytes, or of its key: they are handed in.
 use mathlib.Core.Path.{_≡_}
 use mathlib.Core.Bool.{true, false}
 use mathlib.Core.List.{List, [], _∷_, _++_}
@@ -55,7 +55,8 @@ number when Holds = record { number = number; Holds = Holds }
 pub data Decides : List TableLine → ℕ → Type 1 where
   none-holds : Decides [] 0
   this-holds : (row : TableLine) (later : List TableLine) → row .Holds → Decides (row ∷ later) (row .number)
-  not-this : (row : TableLine) (later : List TableLine) (number : ℕ) → (row .Holds → ⊥) → Decides later number → Decides (row ∷ later) number
+  not-this : (row : TableLine) (later : List TableLine) (number : ℕ) → (row .Holds → ⊥)
+      → Decides later number → Decides (row ∷ later) number
 
 abbrev pub startTable : Size → Page → List TableLine
 startTable size page = 1 when Line1 size page ∷ []

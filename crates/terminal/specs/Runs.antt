@@ -1,9 +1,10 @@
 -- A call is the steps of its bytes, or of its key, as far as the output has room for their transmissions.
+use mathlib.Core.Bool.{Bool, true, false}
 use mathlib.Core.List.{List, [], _∷_, _++_}
-use Prim.Native.Nat.{ℕ, _-_}
+use Prim.Native.Nat.{ℕ, _+_, _-_}
 use lib.Dec.{leb}
 use lib.ListN.{length}
-use Rattle.words.specs.Choice.{if_then_else_}
+use Rattle.words.specs.Choice.{if_then_else_, _or_}
 use Rattle.steps.specs.Steps.{Terminal, Stepped, bytesOf}
 use Rattle.commands.specs.Host.{hostStep}
 
@@ -20,7 +21,8 @@ fitting room (step ∷ later) =
     if leb (length (bytesOf (step .transmission))) room then step ∷ further
     else []
 
--- What steps leave of a terminal; their transmissions' bytes, joined in order; the cells that they name, joined in order.
+-- What steps leave of a terminal; their transmissions' bytes, joined in order; the cells that they name, joined in
+-- order.
 unfoldable pub after : Terminal → List Stepped → Terminal
 after t [] = t
 after t (step ∷ later) = after (step .terminal) later
@@ -32,3 +34,16 @@ bytesSentBy (step ∷ later) = bytesOf (step .transmission) ++ bytesSentBy later
 unfoldable pub cellsStoredBy : List Stepped → List ℕ
 cellsStoredBy [] = []
 cellsStoredBy (step ∷ later) = step .cells ++ cellsStoredBy later
+
+-- How many of them refused a command; whether protection may have changed in one of them.
+unfoldable pub countOf : Bool → ℕ
+countOf true = 1
+countOf false = 0
+
+unfoldable pub refusedBy : List Stepped → ℕ
+refusedBy [] = 0
+refusedBy (step ∷ later) = countOf (step .wasRefused) + refusedBy later
+
+unfoldable pub protectionBy : List Stepped → Bool
+protectionBy [] = false
+protectionBy (step ∷ later) = step .protection or protectionBy later

@@ -1,4 +1,5 @@
--- The refusals of each call, as one ordered list of tests: the first that holds decides.
+-- Document 01, "Numbers a call gives back", as tests that run: the refusals of each call in one ordered list, of which
+-- the first that holds decides. Lines.antt has the same lines in the table's words.
 use mathlib.Core.Path.{_≡_}
 use mathlib.Core.Bool.{Bool, true, false, not}
 use mathlib.Core.List.{List, [], _∷_, _++_}
@@ -12,7 +13,8 @@ use Rattle.state.specs.Tests.{sizeFits, validState}
 use Rattle.steps.specs.Steps.{Terminal, Stepped, Valid}
 use Rattle.keys.specs.Keys.{isKnown, isLockedOut, lacksCell, keyStep}
 use Rattle.terminal.specs.declared.Answer.{Answer}
-use Rattle.terminal.specs.declared.Answer.the-variants.{Done, WrongSize, WrongState, NoRoom, UnknownKey, Locked, TooLong, NoCell}
+use Rattle.terminal.specs.declared.Answer.the-variants.{Done, WrongSize, WrongState, NoRoom}
+use Rattle.terminal.specs.declared.Answer.the-variants.{UnknownKey, Locked, TooLong, NoCell}
 use Rattle.terminal.specs.Runs.{stepsOf, fitting}
 
 -- A line's test, and the answer that it gives.

@@ -7,8 +7,10 @@ ghost use mathlib.Core.Path.{_≡_};
 ghost use mathlib.Core.List.{List, []};
 ghost use Prim.Native.Nat.{ℕ, _≤_};
 ghost use lib.ListN.{length};
+ghost use Rattle.words.specs.Choice.{_or_};
 ghost use Rattle.page.specs.Page.{Page, pageOf};
 ghost use Rattle.steps.specs.Steps.{Valid, terminalOf};
+ghost use Rattle.terminal.specs.Runs.{countOf};
 ghost use Rattle.terminal.specs.Answers.{numberOf, given, unchanged};
 ghost use Rattle.terminal.specs.Tests.{passesLine2, Passes};
 ghost use Rattle.terminal.specs.Calls.{StartAllows, HostAllows, KeyAllows};
@@ -28,10 +30,13 @@ pub enum Answer {
 pub struct Reply {
     pub answer: Answer,
     pub state: State,
-    // Host bytes taken; bytes sent; cells stored.
+    // Host bytes taken; bytes sent; cells stored; commands refused.
     pub taken: usize,
     pub sent: usize,
     pub stored: usize,
+    pub refused: usize,
+    // Cells may have become protected or unprotected.
+    pub protection: bool,
 }
 
 // Document 01's number.
@@ -61,9 +66,12 @@ fn refuse_call(answer: Answer, state: State) -> Reply
         taken: 0,
         sent: 0,
         stored: 0,
+        refused: 0,
+        protection: false,
     }
 }
 
+// Line 2 is not given; line 1 is tested before.
 fn is_valid(state: State, characters: &[u8], marks: &[Mark]) -> bool
     ensures { λ r. ⌜ r ≡ passesLine2 (terminalOf state (now (characters .entry)) (now (marks .entry))) ⌝ }
 {
@@ -71,6 +79,26 @@ fn is_valid(state: State, characters: &[u8], marks: &[Mark]) -> bool
         return page::is_valid_page(characters, marks);
     }
     false
+}
+
+// One where a test holds.
+fn count_of(holds: bool) -> usize
+    ensures { λ r. ⌜ r ≡ countOf holds ⌝ }
+{
+    if holds {
+        return 1;
+    }
+    0
+}
+
+// At least one of two tests holds.
+fn either(one: bool, other: bool) -> bool
+    ensures { λ r. ⌜ r ≡ (one or other) ⌝ }
+{
+    if one {
+        return true;
+    }
+    other
 }
 
 // The steps of host bytes, stopping where a transmission exceeds the room left.
@@ -91,6 +119,8 @@ fn run(
     let mut taken = 0;
     let mut sent = 0;
     let mut stored = 0;
+    let mut refused = 0;
+    let mut protection = false;
     while taken < bytes.len() {
         let step = commands::step(here, characters, marks, out, sent, bytes[taken]);
         if step.exceeds {
@@ -100,11 +130,15 @@ fn run(
                 taken,
                 sent,
                 stored,
+                refused,
+                protection,
             };
         }
         here = step.state;
         sent += step.sent;
         stored += step.stored;
+        refused += count_of(step.refused);
+        protection = either(protection, step.protection);
         taken += 1;
     }
     Reply {
@@ -113,6 +147,8 @@ fn run(
         taken,
         sent,
         stored,
+        refused,
+        protection,
     }
 }
 
@@ -140,6 +176,8 @@ fn press(
         taken: 0,
         sent: step.sent,
         stored: step.stored,
+        refused: count_of(step.refused),
+        protection: step.protection,
     }
 }
 
@@ -161,6 +199,8 @@ pub fn start(rows: usize, columns: usize, characters: &mut [u8], marks: &mut [Ma
         taken: 0,
         sent: 0,
         stored: cells,
+        refused: 0,
+        protection: true,
     }
 }
 

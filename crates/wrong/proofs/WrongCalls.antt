@@ -98,11 +98,11 @@ unfolding hostSteps stepsOf bytesSentBy
 steps-send = λ i. full-block-is "B" i ++ (full-block-is "X" i ++ [])
 
 -- Sent backwards, the one with X comes first.
-sent-backwards : sendsBackwards .host start sendTwice twoRooms ≡ record { number = 0; taken = 5; sent = 20; stored = 1; terminal = after "X" clear; output = fieldBlock "X" ++ fieldBlock "B" }
+sent-backwards : sendsBackwards .host start sendTwice twoRooms ≡ record { number = 0; taken = 5; sent = 20; stored = 1; refused = 0; protection = true; terminal = after "X" clear; output = fieldBlock "X" ++ fieldBlock "B" }
 unfolding hostSteps calls
 sent-backwards =
     ap (λ (o : Outcome). showing (placed 0 (bytesSentBy (reverse (stepsOf start (take (o .taken) sendTwice)))) twoRooms) o) (host-did start sendTwice twoRooms B-valid (omega arith) (omega (arith, ap length steps-send)))
-    ∙ (λ i. record { number = 0; taken = 5; sent = length (steps-send i); stored = 1; terminal = after "X" clear; output = placed 0 (full-block-is "X" i ++ (full-block-is "B" i ++ [])) twoRooms })
+    ∙ (λ i. record { number = 0; taken = 5; sent = length (steps-send i); stored = 1; refused = 0; protection = true; terminal = after "X" clear; output = placed 0 (full-block-is "X" i ++ (full-block-is "B" i ++ [])) twoRooms })
 
 pub sendsBackwards-breaks-copying : Copying blocksIn ourRules sendsBackwards → ⊥
 unfolding hostSteps calls streams finding HostStoresNothing blockIn blocksSent firstOf
@@ -128,11 +128,11 @@ both-send : bytesSentBy (stepsOf start askAndSend) ≡ reportBytes ++ fieldBlock
 unfolding hostSteps stepsOf bytesSentBy
 both-send = λ i. reportBytes ++ (full-block-is "B" i ++ [])
 
-both-sent : hostCall start askAndSend bothRooms ≡ record { number = 0; taken = 6; sent = 16; stored = 0; terminal = start; output = reportBytes ++ fieldBlock "B" }
+both-sent : hostCall start askAndSend bothRooms ≡ record { number = 0; taken = 6; sent = 16; stored = 0; refused = 0; protection = false; terminal = start; output = reportBytes ++ fieldBlock "B" }
 unfolding hostSteps calls
 both-sent =
     host-did start askAndSend bothRooms B-valid (omega arith) (omega (arith, ap length both-send))
-    ∙ (λ i. record { number = 0; taken = 6; sent = length (both-send i); stored = 0; terminal = start; output = placed 0 (both-send i) bothRooms })
+    ∙ (λ i. record { number = 0; taken = 6; sent = length (both-send i); stored = 0; refused = 0; protection = false; terminal = start; output = placed 0 (both-send i) bothRooms })
 
 -- So a host that finds blocks another way finds, or does not find, this block alone.
 found-alone : (finds : List ℕ → List (List ℕ)) → Copying finds ourRules ourEntries → (later : List (List ℕ)) × (finds (reportBytes ++ fieldBlock "B") ≡ firstBlock ∷ later)

@@ -1,5 +1,6 @@
 -- Contracts that leave something open allow two results for one call, which OneResult rules out.
 use mathlib.Core.Path.{refl, ap}
+use mathlib.Core.Bool.{false}
 use mathlib.Core.List.{List, [], _∷_}
 use Prim.Native.Nat.{ℕ}
 use borrow.Author.Tests.{eqb-false}
@@ -17,7 +18,7 @@ use Rattle.promises.proofs.Computing.{keySteps, calls}
 
 -- What is handed back where nothing is taken or sent.
 abbrev handing : Answer → State → ℕ → Reply
-handing answer state stored = record { answer = answer; state = state; taken = 0; sent = 0; stored = stored }
+handing answer state stored = record { answer = answer; state = state; taken = 0; sent = 0; stored = stored; refused = 0; protection = false }
 
 -- An empty host call sends nothing, and a byte of the output may then become 1.
 pub openPastSent-breaks-one-result : OneResult openPastSent → ⊥

@@ -31,22 +31,31 @@ withHost host = record { start = startCall; host = host; key = keyCall }
 abbrev pub withKey : (Terminal → ℕ → List ℕ → Outcome) → Entries
 withKey key = record { start = startCall; host = hostCall; key = key }
 
--- An outcome by its parts; one with another terminal, other bytes taken, another count, another output.
-abbrev outcomeWith : ℕ → ℕ → ℕ → ℕ → Terminal → List ℕ → Outcome
-outcomeWith number taken sent stored t output =
-    record { number = number; taken = taken; sent = sent; stored = stored; terminal = t; output = output }
+-- An outcome with other parts; one with another terminal, other bytes taken, another count, another output.
+abbrev outcomeWith : ℕ → ℕ → ℕ → ℕ → Terminal → List ℕ → Outcome → Outcome
+outcomeWith number taken sent stored t output o =
+    record {
+      number = number;
+      taken = taken;
+      sent = sent;
+      stored = stored;
+      refused = o .refused;
+      protection = o .protection;
+      terminal = t;
+      output = output;
+    }
 
 abbrev leaving : Terminal → Outcome → Outcome
-leaving t o = outcomeWith (o .number) (o .taken) (o .sent) (o .stored) t (o .output)
+leaving t o = outcomeWith (o .number) (o .taken) (o .sent) (o .stored) t (o .output) o
 
 abbrev taking : ℕ → Outcome → Outcome
-taking taken o = outcomeWith (o .number) taken (o .sent) (o .stored) (o .terminal) (o .output)
+taking taken o = outcomeWith (o .number) taken (o .sent) (o .stored) (o .terminal) (o .output) o
 
 abbrev pub counting : ℕ → Outcome → Outcome
-counting stored o = outcomeWith (o .number) (o .taken) (o .sent) stored (o .terminal) (o .output)
+counting stored o = outcomeWith (o .number) (o .taken) (o .sent) stored (o .terminal) (o .output) o
 
 abbrev pub showing : List ℕ → Outcome → Outcome
-showing output o = outcomeWith (o .number) (o .taken) (o .sent) (o .stored) (o .terminal) output
+showing output o = outcomeWith (o .number) (o .taken) (o .sent) (o .stored) (o .terminal) output o
 
 -- A terminal with another page, with nothing half read, with no cell modified.
 abbrev pub withPage : Page → Terminal → Terminal
@@ -104,7 +113,7 @@ abbrev paintedOver : Terminal → Terminal
 paintedOver t = hostStep (code "`") (hostStep 0x1B (hostStep (code "X") t .terminal) .terminal) .terminal
 
 abbrev inventing : Outcome → Outcome
-inventing o = outcomeWith (o .number) 9 9 0 (paintedOver (o .terminal)) (o .output)
+inventing o = outcomeWith (o .number) 9 9 0 (paintedOver (o .terminal)) (o .output) o
 
 abbrev pub paintsStart : Entries
 paintsStart = withStart (λ size page. on0 inventing (startCall size page))
@@ -118,7 +127,7 @@ startsOtherSize = withStart (λ size page.
 -- With the start of `paintsStart`, some keys are given what ours are given and move the cursor as ours do, and nothing
 -- is stored, counted or tagged:
 abbrev feigned : Terminal → ℕ → Outcome → Outcome
-feigned t key o = outcomeWith (o .number) 0 0 0 (withState t (keyStep key t .terminal .state)) (o .output)
+feigned t key o = outcomeWith (o .number) 0 0 0 (withState t (keyStep key t .terminal .state)) (o .output) o
 
 abbrev muting : (ℕ → Terminal → Bool) → Entries
 muting which = record {
@@ -217,7 +226,7 @@ stopsAtOnce = withHost (λ t bytes output. unchanged NoRoom t output)
 
 -- A call given 3 hides what it has sent.
 abbrev pub hidesSentOn3 : Entries
-hidesSentOn3 = changingHost (on3 (λ o. outcomeWith (o .number) (o .taken) 0 (o .stored) (o .terminal) (o .output)))
+hidesSentOn3 = changingHost (on3 (λ o. outcomeWith (o .number) (o .taken) 0 (o .stored) (o .terminal) (o .output) o))
 
 -- Calls are steps. An invented count of cells stored.
 abbrev pub inventsCount : Entries

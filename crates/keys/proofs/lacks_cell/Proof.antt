@@ -2,22 +2,18 @@ use mathlib.Core.Path.{sym, _∙_}
 use borrow.Author.Needs.{needs}
 use Rattle.words.specs.Choice.{if_then_else_, _or_}
 use Rattle.keys.specs.Keys.{lacksCell}
-use Rattle.steps.proofs.Measuring.{measured}
-use Rattle.keys.proofs.Laws.{found, asked}
 use Rattle.keys.proofs.lacks_cell.Statement.{statement}
 use Rattle.keys.proofs.lacks_cell.Tie as tie
 
 returns : tie.Need-returns
 unfolding lacksCell if_then_else_ _or_
 returns c =
-    let here = found (c .before .before .before .before .before .before .pre) (c .before .before .before .place .ensures) in
-    rw (sym (c .before .before .is-typing .ensures) ∙ c .before .if1 .taken, asked here (c .is-unprotected .ensures))
+    rw (sym (c .before .before .is-typing .ensures) ∙ c .before .if1 .taken, sym (c .stands-unprotected .ensures))
 
 returns-2 : tie.Need-returns-2
 unfolding lacksCell if_then_else_ _or_
 returns-2 c =
-    let here = found (c .before .before .before .before .before .before .before .before .pre) (c .before .before .before .before .before .place .ensures) in
-    rw (sym (c .before .before .before .before .is-typing .ensures) ∙ c .before .before .before .if1 .left, sym (c .before .before .is-editing .ensures) ∙ c .before .if2 .taken, asked here (c .is-unprotected2 .ensures))
+    rw (sym (c .before .before .before .before .is-typing .ensures) ∙ c .before .before .before .if1 .left, sym (c .before .before .is-editing .ensures) ∙ c .before .if2 .taken, sym (c .stands-unprotected2 .ensures))
 
 returns-3 : tie.Need-returns-3
 unfolding lacksCell if_then_else_ _or_
@@ -34,12 +30,11 @@ pub lacks-cell-spec : {M : Type 1} → statement M
 lacks-cell-spec =
     tie.close
     (tie.spec
-    (λ c κs. measured (c .before .before .pre) .on-page)
     (λ c κs. search needs)
-    (λ c κs. found (c .before .before .before .before .before .pre) (c .before .before .place .ensures) .inside)
+    (λ c κs. search needs)
     returns
     (λ c κs. search needs)
-    (λ c κs. found (c .before .before .before .before .before .before .before .pre) (c .before .before .before .before .place .ensures) .inside)
+    (λ c κs. search needs)
     returns-2
     (λ c κs. search needs)
     (λ c κs. search needs)

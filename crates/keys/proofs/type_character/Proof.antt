@@ -12,18 +12,16 @@ use Rattle.keys.proofs.type_character.Tie as tie
 
 returns : tie.Need-returns
 unfolding typedStep
-returns c =
-    let here = found (c .before .before .before .before .before .before .before .pre) (c .before .before .before .before .place .ensures) in
-    stays here _ (c .before .before .is-unprotected .ensures) (c .before .if1 .taken) (c .quiet .ensures _)
+returns c = stays _ _ (c .before .before .stands-unprotected .ensures) (c .before .if1 .taken) (c .quiet .ensures _)
 
 next-unprotected-requires : tie.Need-next-unprotected-requires
 next-unprotected-requires c κs =
-    let here = found (c .before .before .before .before .before .before .before .pre) (c .before .before .before .before .place .ensures) in
+    let here = found (c .before .before .before .before .before .before .before .before .pre) (c .before .place .ensures) in
     (here .counted, (here .inside, here .most))
 
 store-typed-requires : tie.Need-store-typed-requires
 store-typed-requires c κs =
-    let here = found (c .before .before .before .before .before .before .before .before .before .before .pre) (c .before .before .before .before .before .before .before .place .ensures) in
+    let here = found (c .before .before .before .before .before .before .before .before .before .before .before .pre) (c .before .before .before .before .place .ensures) in
     (omega arith, here .as-many)
 
 returns-2 : tie.Need-returns-2
@@ -31,21 +29,23 @@ unfolding typedStep if_then_else_
 returns-2 c =
     let stored = c .before .before .before .before .before .before in
     let sought = stored .before .before .before in
-    let asking = sought .before .before .before in
-    let start = asking .before .before .before .before .before in
-    let here = found (start .pre) (asking .before .before .place .ensures) in
-    let free = is-free here (asking .is-unprotected .ensures) (sought .before .before .if1 .left) in
+    let placed = sought .before .before in
+    let test = placed .before in
+    let start = test .before .before .before .before .before .before in
+    let here = found (start .pre) (placed .place .ensures) in
+    let free = is-free (test .before .stands-unprotected .ensures) (test .if1 .left) in
     rw (free, c .stored .ensures (cursorCell (start .args .state) ∷ []) _ refl, c .before .gone-to .ensures, sought .next-unprotected .ensures, stored .store-typed .ensures, here .cell)
 
 pub type-character-spec : {M : Type 1} → statement M
 type-character-spec =
     tie.close
     (tie.spec
-    (λ c κs. measured (c .before .before .pre) .on-page)
-    (λ c κs. found (c .before .before .before .before .pre) (c .before .place .ensures) .inside)
+    (λ c κs. search needs)
     (λ c κs. search needs)
     (λ c. search needs)
+    (λ c. search needs)
     returns
+    (λ c κs. measured (c .before .before .before .before .before .before .pre) .on-page)
     next-unprotected-requires
     store-typed-requires
     (λ c κs. search needs)

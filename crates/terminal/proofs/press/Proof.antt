@@ -1,4 +1,4 @@
-use mathlib.Core.Path.{sym, _∙_}
+use mathlib.Core.Path.{sym, ap, _∙_}
 use Prim.Native.Nat.{_<_, _≤_}
 use native.Mathlib.Omega.{arith}
 use borrow.Author.Needs.{needs}
@@ -7,6 +7,7 @@ use Rattle.page.specs.Page.{pageOf}
 use Rattle.steps.specs.Steps.{Terminal, bytesOf}
 use Rattle.keys.specs.Keys.{keyStep}
 use Rattle.terminal.specs.declared.Answer.the-variants.{Done, NoRoom}
+use Rattle.terminal.specs.Runs.{countOf}
 use Rattle.terminal.specs.Answers.{numberOf, unchanged}
 use Rattle.terminal.proofs.Deciding.{key-no-room, key-done}
 use Rattle.terminal.proofs.Running.{was-done, exceeded}
@@ -26,16 +27,18 @@ returns c =
 
 returns-2 : tie.Need-returns-2
 returns-2 c =
-    let did = c .before .before .before .before .before .before .before .before in
+    let did = c .before .before .before .before .before .before .before .before .before in
     let start = did .before .before .before .before .before .before .before in
     let t : Terminal = record { state = start .args .state; page = pageOf (start .args .characters .now) (start .args .marks .now) } in
-    let was = was-done 0 (start .args .out .now) t (keyStep (start .args .key) t) (did .step .result) _ _ (did .step .ensures) (c .before .if1 .left) in
+    let was = was-done 0 (start .args .out .now) t (keyStep (start .args .key) t) (did .step .result) _ _ (did .step .ensures) (c .before .before .if1 .left) in
     let fits : length (bytesOf (keyStep (start .args .key) t .transmission)) ≤ length (start .args .out .now) = omega (arith, was .fits) in
     (λ i. record {
       number = numberOf Done;
       taken = 0;
       sent = was .sent i;
       stored = was .stored i;
+      refused = (c .count-of .ensures ∙ ap countOf (was .refused)) i;
+      protection = was .protection i;
       terminal = was .terminal i;
       output = was .writes i;
     })
@@ -51,6 +54,7 @@ press-spec =
     (λ c. search needs)
     (λ c. search needs)
     returns
+    (λ c. search needs)
     (λ c. search needs)
     (λ c. search needs)
     (λ c. search needs)

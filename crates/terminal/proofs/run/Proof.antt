@@ -11,14 +11,14 @@ use Rattle.terminal.proofs.run.Tie as tie
 
 -- after `taken` bytes all is as their steps left it (`Going`); no length changes
 abbrev Inv-loop : tie.InvT-loop
-Inv-loop characters₀ marks₀ bytes out₀ here₀ taken₀ sent₀ stored₀ characters marks out here taken sent stored =
-    Going (record { state = here₀; page = pageOf characters₀ marks₀ }) bytes out₀ (record { state = here; page = pageOf characters marks }) taken sent stored out ×
+Inv-loop characters₀ marks₀ bytes out₀ here₀ taken₀ sent₀ stored₀ refused₀ protection₀ characters marks out here taken sent stored refused protection =
+    Going (record { state = here₀; page = pageOf characters₀ marks₀ }) bytes out₀ (record { state = here; page = pageOf characters marks }) taken sent stored refused protection out ×
     (length characters ≡ length characters₀) ×
     (length marks ≡ length marks₀) ×
     (length out ≡ length out₀)
 
 abbrev μ-loop : tie.MeasureT-loop
-μ-loop characters₀ marks₀ bytes out₀ here₀ taken₀ sent₀ stored₀ characters marks out here taken sent stored = length bytes - taken
+μ-loop characters₀ marks₀ bytes out₀ here₀ taken₀ sent₀ stored₀ refused₀ protection₀ characters marks out here taken sent stored refused protection = length bytes - taken
 
 loop-holds : tie.Need-loop-holds Inv-loop μ-loop
 loop-holds c = (sets-out _ _ _ (c .before .before .before .before .pre .0), refl, refl, refl)
@@ -41,6 +41,8 @@ returns c =
       taken = turn .loop .taken;
       sent = turn .loop .sent;
       stored = turn .loop .stored;
+      refused = turn .loop .refused;
+      protection = turn .loop .protection;
       terminal = record { state = turn .loop .here; page = full .same-page i };
       output = full .same-output i;
     })
@@ -62,16 +64,25 @@ add-stored c =
     let on = goes-on (turn .loop .inv .0) (did .before .before .before .before .before .loop-test .taken) (did .step .result) _ _ (did .step .ensures) (c .before .before .before .if1 .left) in
     omega (arith, on .few, on .inside, start .pre .1)
 
+add-refused : tie.Need-add-refused Inv-loop μ-loop
+add-refused c =
+    let did = c .before .before .before .before .before .before .before .before .before .before .before in
+    let turn = did .before .before .before .before .before .before in
+    let start = turn .before .before .before .before .before in
+    let on = goes-on (turn .loop .inv .0) (did .before .before .before .before .before .loop-test .taken) (did .step .result) _ _ (did .step .ensures) (c .before .before .before .before .if1 .left) in
+    omega (arith, c .count-of .ensures, on .few-refused, on .inside, start .pre .1)
+
 add-taken : tie.Need-add-taken Inv-loop μ-loop
 add-taken c =
-    let turn = c .before .before .before .before .before .before .before .before .before .before .before .before .before .before .before in
+    let turn = c .before .before .before .before .before .before .before .before .before .before .before .before .before .before .before .before .before in
     omega (arith, turn .loop-test .taken, turn .before .before .before .before .before .before .good)
 
 loop-again : tie.Need-loop-again Inv-loop μ-loop
 loop-again c =
-    let did = c .before .before .before .before .before .before .before .before .before .before in
+    let did = c .before .before .before .before .before .before .before .before .before .before .before .before in
     let turn = did .before .before .before .before .before .before in
-    (goes-on (turn .loop .inv .0) (did .before .before .before .before .before .loop-test .taken) (did .step .result) _ _ (did .step .ensures) (c .before .before .before .if1 .left), search needs, search needs, search needs)
+    let on = goes-on (turn .loop .inv .0) (did .before .before .before .before .before .loop-test .taken) (did .step .result) _ _ (did .step .ensures) (c .before .before .before .before .before .if1 .left) in
+    (rw (c .before .count-of .ensures, c .either .ensures) on, search needs, search needs, search needs)
 
 returns-2 : tie.Need-returns-2 Inv-loop μ-loop
 unfolding numberOf
@@ -95,8 +106,11 @@ run-spec =
     returns
     add-sent
     add-stored
+    (λ c. search needs)
+    add-refused
+    (λ c. search needs)
     add-taken
-    (λ c. omega (arith, c .before .before .before .before .before .before .before .before .before .before .before .before .before .before .before .loop-test .taken))
+    (λ c. omega (arith, c .before .before .before .before .before .before .before .before .before .before .before .before .before .before .before .before .before .loop-test .taken))
     loop-again
     (λ c. search needs)
     (λ c. search needs)

@@ -1,4 +1,5 @@
 use mathlib.Core.Path.{sym, _∙_}
+use mathlib.Core.Bool.{true}
 use mathlib.Core.List.{[]}
 use native.Mathlib.Omega.{arith}
 use borrow.Author.Needs.{needs}
@@ -40,6 +41,8 @@ returns-2 c =
       taken = 0;
       sent = 0;
       stored = length (page .marks);
+      refused = 0;
+      protection = true;
       terminal = record { state = c .fresh .ensures i; page = erase .erase .ensures .page i };
       output = [];
     })
