@@ -1,3 +1,2 @@
 pub mod Tables
 pub mod Walking
-pub mod Letters

@@ -2,7 +2,7 @@
 use state::State;
 use steps::Step;
 ghost use mathlib.Core.Path.{_≡_};
-ghost use mathlib.Core.Bool.{true};
+ghost use Prim.Native.Nat.{_≤_};
 ghost use Rattle.page.specs.Page.{Page};
 ghost use Rattle.state.specs.State.{OnPage};
 ghost use Rattle.steps.specs.Told.{told, tells};
@@ -76,7 +76,7 @@ pub fn is_move(letter: u8) -> bool
 // After ESC [, the moves: A to I, d, f and Z.
 pub fn move_command(state: State, letter: u8, arguments: [u16; 8]) -> Step
     requires { ⌜ OnPage state ⌝ }
-    requires { ⌜ isMove letter ≡ true ⌝ }
+    requires { ⌜ (0x40 ≤ letter) × (letter ≤ 0x7E) ⌝ }
     ensures { λ r. ⌜ ((page : Page) →
         told r page ≡ tells (moveStep letter arguments (record { state = state; page = page }))) ⌝ }
 {

@@ -104,7 +104,7 @@ bracket-step-spec =
     (λ c κs. search needs)
     returns
     (λ c κs. search needs)
-    (λ c κs. (measured (c .before .before .before .before .before .before .before .before .before .pre .0) .on-page, sym (c .before .is-move .ensures) ∙ c .if2 .taken))
+    (λ c κs. let start = c .before .before .before .before .before .before .before .before .before in (measured (start .pre .0) .on-page, (start .pre .1 .1, start .pre .1 .2)))
     returns-2
     (λ c κs. search needs)
     (λ c κs. measured (c .before .before .before .before .before .before .before .before .before .before .before .pre .0) .on-page)

@@ -1,7 +1,7 @@
 use borrow.Author.Needs.{needs}
+use borrow.Author.Tests.{ne-eqb}
 use Rattle.words.specs.Choice.{if_then_else_}
 use Rattle.table.specs.Moves.{moveStep}
-use Rattle.table.proofs.Letters.{in-table, only-z}
 use Rattle.table.proofs.moves.move_command.Statement.{statement}
 use Rattle.table.proofs.moves.move_command.Tie as tie
 
@@ -10,17 +10,29 @@ unfolding moveStep if_then_else_
 returns-12 c =
     λ page.
     let arm = c .before .before in
-    let start = arm .before .before .before in
     let other = arm .match .rest in
-    rw (c .quiet8 .ensures page, c .before .tab-back .ensures, arm .before .before .value .ensures, only-z (start .args .letter) (start .pre .1) (other .0 .0) (other .0 .1) (other .1))
+    rw (c .quiet8 .ensures page, c .before .tab-back .ensures, arm .before .before .value .ensures)
+    (simp (
+      ne-eqb _ _ (other .1),
+      ne-eqb _ _ (other .0 .1),
+      ne-eqb _ _ (other .0 .0 .1),
+      ne-eqb _ _ (other .0 .0 .0 .1),
+      ne-eqb _ _ (other .0 .0 .0 .0 .1),
+      ne-eqb _ _ (other .0 .0 .0 .0 .0 .1),
+      ne-eqb _ _ (other .0 .0 .0 .0 .0 .0 .1),
+      ne-eqb _ _ (other .0 .0 .0 .0 .0 .0 .0 .1),
+      ne-eqb _ _ (other .0 .0 .0 .0 .0 .0 .0 .0 .1),
+      ne-eqb _ _ (other .0 .0 .0 .0 .0 .0 .0 .0 .0 .1),
+      ne-eqb _ _ (other .0 .0 .0 .0 .0 .0 .0 .0 .0 .0 .1),
+    ))
 
 pub move-command-spec : {M : Type 1} → statement M
 unfolding moveStep if_then_else_
 move-command-spec =
     tie.close
     (tie.spec
-    (λ c κs. let table = in-table (c .args .letter) (c .pre .1) in (table .0, table .1, search needs))
-    (λ c κs. let table = in-table (c .before .args .letter) (c .before .pre .1) in (table .0, table .1, search needs))
+    (λ c κs. search needs)
+    (λ c κs. search needs)
     (λ c. search needs)
     (λ c. search needs)
     (λ c κs. search needs)
