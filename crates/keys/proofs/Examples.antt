@@ -3,8 +3,10 @@ use mathlib.Core.Path.{_≡_, refl}
 use mathlib.Core.List.{List, [], _∷_, map}
 use mathlib.Core.Bool.{Bool, true, false}
 use Prim.Native.Nat.{ℕ}
+use Prim.Native.Char.{code}
 use lib.ListN.{length}
 use Rattle.words.specs.Choice.{if_then_else_, _and_, _or_, _is_to_}
+use Rattle.words.specs.Text.{bytes}
 use Rattle.words.specs.Lists.{within, eachFrom, numbersFrom, onPart, selected}
 use Rattle.page.specs.Marks.{unprotected}
 use Rattle.page.specs.Page.{Page, pageOf, typed, tagged, blanked, closedUp, movedRight, markAfterBlock, modifiedCleared}
@@ -26,8 +28,7 @@ use Rattle.keys.specs.Keys.{isTyping, isEditing, isFieldMove, isKnown, i
 -- Its fields: A to E at 1;2, F at 1;8, G and H at 2;1, which the row's end parts from F, and I at 2;4.
 characters : List ℕ
 characters =
-    0x23 ∷ 0x41 ∷ 0x42 ∷ 0x43 ∷ 0x44 ∷ 0x45 ∷ 0x23 ∷ 0x46
-    ∷ 0x47 ∷ 0x48 ∷ 0x2E ∷ 0x49 ∷ 0x3A ∷ 0x4A ∷ 0x4B ∷ 0x4C ∷ []
+    bytes "#ABCDE#FGH.I:JKL"
 
 marks : List ℕ
 marks =
@@ -91,7 +92,7 @@ sent row column key bytes marksAfter =
 
 -- A page with no unprotected cell; three cells are enough.
 closed : Page
-closed = pageOf (0x41 ∷ 0x42 ∷ 0x43 ∷ []) (1 ∷ 5 ∷ 3 ∷ [])
+closed = pageOf (bytes "ABC") (1 ∷ 5 ∷ 3 ∷ [])
 
 goesOnClosed : ℕ → ℕ → ℕ → ℕ → ℕ → Example
 goesOnClosed row column key toRow toColumn =
@@ -104,48 +105,48 @@ goesOnClosed row column key toRow toColumn =
 examples : List Example
 examples =
     -- X typed on B, which is bold: bold stays, and the cell becomes modified; the same where B is typed on B
-    stored 1 3 0x58 1 4 1
-    (0x23 ∷ 0x41 ∷ 0x58 ∷ 0x43 ∷ 0x44 ∷ 0x45 ∷ 0x23 ∷ 0x46 ∷ 0x47 ∷ 0x48 ∷ 0x2E ∷ 0x49 ∷ 0x3A ∷ 0x4A ∷ 0x4B ∷ 0x4C ∷ [])
+    stored 1 3 (code "X") 1 4 1
+    (bytes "#AXCDE#FGH.I:JKL")
     (1 ∷ 0 ∷ 6 ∷ 8 ∷ 32 ∷ 0 ∷ 3 ∷ 0 ∷ 2 ∷ 16 ∷ 1 ∷ 64 ∷ 1 ∷ 1 ∷ 1 ∷ 1 ∷ [])
-    ∷ stored 1 3 0x42 1 4 1 characters
+    ∷ stored 1 3 (code "B") 1 4 1 characters
     (1 ∷ 0 ∷ 6 ∷ 8 ∷ 32 ∷ 0 ∷ 3 ∷ 0 ∷ 2 ∷ 16 ∷ 1 ∷ 64 ∷ 1 ∷ 1 ∷ 1 ∷ 1 ∷ [])
     -- on E: the cursor passes the protected cell by; on F: into the next row; on G, modified already
-    ∷ stored 1 6 0x58 1 8 1
-    (0x23 ∷ 0x41 ∷ 0x42 ∷ 0x43 ∷ 0x44 ∷ 0x58 ∷ 0x23 ∷ 0x46 ∷ 0x47 ∷ 0x48 ∷ 0x2E ∷ 0x49 ∷ 0x3A ∷ 0x4A ∷ 0x4B ∷ 0x4C ∷ [])
+    ∷ stored 1 6 (code "X") 1 8 1
+    (bytes "#ABCDX#FGH.I:JKL")
     (1 ∷ 0 ∷ 4 ∷ 8 ∷ 32 ∷ 2 ∷ 3 ∷ 0 ∷ 2 ∷ 16 ∷ 1 ∷ 64 ∷ 1 ∷ 1 ∷ 1 ∷ 1 ∷ [])
-    ∷ stored 1 8 0x58 2 1 1
-    (0x23 ∷ 0x41 ∷ 0x42 ∷ 0x43 ∷ 0x44 ∷ 0x45 ∷ 0x23 ∷ 0x58 ∷ 0x47 ∷ 0x48 ∷ 0x2E ∷ 0x49 ∷ 0x3A ∷ 0x4A ∷ 0x4B ∷ 0x4C ∷ [])
+    ∷ stored 1 8 (code "X") 2 1 1
+    (bytes "#ABCDE#XGH.I:JKL")
     (1 ∷ 0 ∷ 4 ∷ 8 ∷ 32 ∷ 0 ∷ 3 ∷ 2 ∷ 2 ∷ 16 ∷ 1 ∷ 64 ∷ 1 ∷ 1 ∷ 1 ∷ 1 ∷ [])
-    ∷ stored 2 1 0x7E 2 2 1
-    (0x23 ∷ 0x41 ∷ 0x42 ∷ 0x43 ∷ 0x44 ∷ 0x45 ∷ 0x23 ∷ 0x46 ∷ 0x7E ∷ 0x48 ∷ 0x2E ∷ 0x49 ∷ 0x3A ∷ 0x4A ∷ 0x4B ∷ 0x4C ∷ [])
+    ∷ stored 2 1 (code "~") 2 2 1
+    (bytes "#ABCDE#F~H.I:JKL")
     marks
     -- on I, the last unprotected cell: the cursor goes round the page
-    ∷ stored 2 4 0x20 1 2 1
-    (0x23 ∷ 0x41 ∷ 0x42 ∷ 0x43 ∷ 0x44 ∷ 0x45 ∷ 0x23 ∷ 0x46 ∷ 0x47 ∷ 0x48 ∷ 0x2E ∷ 0x20 ∷ 0x3A ∷ 0x4A ∷ 0x4B ∷ 0x4C ∷ [])
+    ∷ stored 2 4 (code " ") 1 2 1
+    (bytes "#ABCDE#FGH. :JKL")
     (1 ∷ 0 ∷ 4 ∷ 8 ∷ 32 ∷ 0 ∷ 3 ∷ 0 ∷ 2 ∷ 16 ∷ 1 ∷ 66 ∷ 1 ∷ 1 ∷ 1 ∷ 1 ∷ [])
     -- 263 on C: A to E become 20s, each modified, visual marks stay; the cursor goes to 1;2. On F: that cell alone
     ∷ stored 1 4 263 1 2 5
-    (0x23 ∷ 0x20 ∷ 0x20 ∷ 0x20 ∷ 0x20 ∷ 0x20 ∷ 0x23 ∷ 0x46 ∷ 0x47 ∷ 0x48 ∷ 0x2E ∷ 0x49 ∷ 0x3A ∷ 0x4A ∷ 0x4B ∷ 0x4C ∷ [])
+    (bytes "#     #FGH.I:JKL")
     (1 ∷ 2 ∷ 6 ∷ 10 ∷ 34 ∷ 2 ∷ 3 ∷ 0 ∷ 2 ∷ 16 ∷ 1 ∷ 64 ∷ 1 ∷ 1 ∷ 1 ∷ 1 ∷ [])
     ∷ stored 1 8 263 1 8 1
-    (0x23 ∷ 0x41 ∷ 0x42 ∷ 0x43 ∷ 0x44 ∷ 0x45 ∷ 0x23 ∷ 0x20 ∷ 0x47 ∷ 0x48 ∷ 0x2E ∷ 0x49 ∷ 0x3A ∷ 0x4A ∷ 0x4B ∷ 0x4C ∷ [])
+    (bytes "#ABCDE# GH.I:JKL")
     (1 ∷ 0 ∷ 4 ∷ 8 ∷ 32 ∷ 0 ∷ 3 ∷ 2 ∷ 2 ∷ 16 ∷ 1 ∷ 64 ∷ 1 ∷ 1 ∷ 1 ∷ 1 ∷ [])
     -- 264 on B: C to E close up, a 20 at the end; A is not touched, visual marks stay in their cells. On E: a 20
     ∷ stored 1 3 264 1 3 4
-    (0x23 ∷ 0x41 ∷ 0x43 ∷ 0x44 ∷ 0x45 ∷ 0x20 ∷ 0x23 ∷ 0x46 ∷ 0x47 ∷ 0x48 ∷ 0x2E ∷ 0x49 ∷ 0x3A ∷ 0x4A ∷ 0x4B ∷ 0x4C ∷ [])
+    (bytes "#ACDE #FGH.I:JKL")
     (1 ∷ 0 ∷ 6 ∷ 10 ∷ 34 ∷ 2 ∷ 3 ∷ 0 ∷ 2 ∷ 16 ∷ 1 ∷ 64 ∷ 1 ∷ 1 ∷ 1 ∷ 1 ∷ [])
     ∷ stored 1 6 264 1 6 1
-    (0x23 ∷ 0x41 ∷ 0x42 ∷ 0x43 ∷ 0x44 ∷ 0x20 ∷ 0x23 ∷ 0x46 ∷ 0x47 ∷ 0x48 ∷ 0x2E ∷ 0x49 ∷ 0x3A ∷ 0x4A ∷ 0x4B ∷ 0x4C ∷ [])
+    (bytes "#ABCD #FGH.I:JKL")
     (1 ∷ 0 ∷ 4 ∷ 8 ∷ 32 ∷ 2 ∷ 3 ∷ 0 ∷ 2 ∷ 16 ∷ 1 ∷ 64 ∷ 1 ∷ 1 ∷ 1 ∷ 1 ∷ [])
     -- 265 on B: a 20 there, B to D move right, E is lost. On G: the field is G and H alone
     ∷ stored 1 3 265 1 3 4
-    (0x23 ∷ 0x41 ∷ 0x20 ∷ 0x42 ∷ 0x43 ∷ 0x44 ∷ 0x23 ∷ 0x46 ∷ 0x47 ∷ 0x48 ∷ 0x2E ∷ 0x49 ∷ 0x3A ∷ 0x4A ∷ 0x4B ∷ 0x4C ∷ [])
+    (bytes "#A BCD#FGH.I:JKL")
     (1 ∷ 0 ∷ 6 ∷ 10 ∷ 34 ∷ 2 ∷ 3 ∷ 0 ∷ 2 ∷ 16 ∷ 1 ∷ 64 ∷ 1 ∷ 1 ∷ 1 ∷ 1 ∷ [])
     ∷ stored 2 1 265 2 1 2
-    (0x23 ∷ 0x41 ∷ 0x42 ∷ 0x43 ∷ 0x44 ∷ 0x45 ∷ 0x23 ∷ 0x46 ∷ 0x20 ∷ 0x47 ∷ 0x2E ∷ 0x49 ∷ 0x3A ∷ 0x4A ∷ 0x4B ∷ 0x4C ∷ [])
+    (bytes "#ABCDE#F G.I:JKL")
     (1 ∷ 0 ∷ 4 ∷ 8 ∷ 32 ∷ 0 ∷ 3 ∷ 0 ∷ 2 ∷ 18 ∷ 1 ∷ 64 ∷ 1 ∷ 1 ∷ 1 ∷ 1 ∷ [])
     -- on a protected cell none of these does anything
-    ∷ goes 1 1 0x58 1 1
+    ∷ goes 1 1 (code "X") 1 1
     ∷ goes 1 7 263 1 7
     ∷ goes 1 7 264 1 7
     ∷ goes 2 3 265 2 3
@@ -177,15 +178,11 @@ examples =
     ∷ goesOnClosed 1 3 262 1 1
     -- 266 sends ESC [ 2 ; 1 f G H 03, the one field with a modified cell; the protected cell stays modified
     ∷ sent 1 4 266
-    (0x1B ∷ 0x5B ∷ 0x32 ∷ 0x3B ∷ 0x31 ∷ 0x66 ∷ 0x47 ∷ 0x48 ∷ 0x03 ∷ [])
+    (bytes "\u{1b}[2;1fGH\u{3}")
     (1 ∷ 0 ∷ 4 ∷ 8 ∷ 32 ∷ 0 ∷ 3 ∷ 0 ∷ 0 ∷ 16 ∷ 1 ∷ 64 ∷ 1 ∷ 1 ∷ 1 ∷ 1 ∷ [])
     -- 267 sends all four
     ∷ sent 1 4 267
-    (0x1B ∷ 0x5B ∷ 0x31 ∷ 0x3B ∷ 0x32 ∷ 0x66 ∷ 0x41 ∷ 0x42 ∷ 0x43 ∷ 0x44 ∷ 0x45
-    ∷ 0x1B ∷ 0x5B ∷ 0x31 ∷ 0x3B ∷ 0x38 ∷ 0x66 ∷ 0x46
-    ∷ 0x1B ∷ 0x5B ∷ 0x32 ∷ 0x3B ∷ 0x31 ∷ 0x66 ∷ 0x47 ∷ 0x48
-    ∷ 0x1B ∷ 0x5B ∷ 0x32 ∷ 0x3B ∷ 0x34 ∷ 0x66 ∷ 0x49
-    ∷ 0x03 ∷ [])
+    (bytes "\u{1b}[1;2fABCDE\u{1b}[1;8fF\u{1b}[2;1fGH\u{1b}[2;4fI\u{3}")
     (1 ∷ 0 ∷ 4 ∷ 8 ∷ 32 ∷ 0 ∷ 3 ∷ 0 ∷ 0 ∷ 16 ∷ 1 ∷ 64 ∷ 1 ∷ 1 ∷ 1 ∷ 1 ∷ [])
     -- 127 and 269 are no keys
     ∷ goes 1 3 127 1 3

@@ -1,13 +1,15 @@
 -- The starred examples of document 01, computed from the definitions that the entries' contracts cite:
 -- each on a fresh 24 by 80 terminal brought there by calls.
 use mathlib.Core.Path.{_≡_, refl}
-use mathlib.Core.List.{List, [], _∷_, map}
+use mathlib.Core.List.{List, [], _∷_, _++_, map}
 use mathlib.Core.Bool.{Bool, true, false}
 use Prim.Native.Nat.{ℕ}
+use Prim.Native.String.{String}
 use lib.ListN.{take, replicate}
 use Rattle.words.specs.Choice.{if_then_else_, _and_, _or_, _is_to_}
 use Rattle.words.specs.Lists.{within, every, eachFrom, numbersFrom, selected}
 use Rattle.words.specs.Output.{placed}
+use Rattle.words.specs.Text.{bytes}
 use Rattle.sequence.specs.Record.{argumentsFit, largestArgument, validHalfRead, withDigit, withNextArgument}
 use Rattle.sequence.specs.Reading.{isControl, isCancel, outsideSequence, afterEsc, afterIntermediate, afterBracket, insideSequence, advanceOf}
 use Rattle.page.specs.Marks.{unprotected}
@@ -91,34 +93,34 @@ infix 68 _leave_
 _leave_ : List ExampleCall → Seen → Example
 calls leave given = record { calls = calls; gives = given }
 
-sequence : List ℕ → ExampleCall
-sequence bytes = host 0 (0x1B ∷ 0x5B ∷ bytes)
+sequence : String → ExampleCall
+sequence text = host 0 (bytes "\u{1b}[" ++ bytes text)
 
 at4x20 : ExampleCall
-at4x20 = sequence (0x34 ∷ 0x3B ∷ 0x32 ∷ 0x30 ∷ 0x48 ∷ [])
+at4x20 = sequence "4;20H"
 
 at24x80 : ExampleCall
-at24x80 = sequence (0x32 ∷ 0x34 ∷ 0x3B ∷ 0x38 ∷ 0x30 ∷ 0x48 ∷ [])
+at24x80 = sequence "24;80H"
 
 examples : List Example
 examples =
     -- ESC [ 24 ; 80 H and ESC [ 25 ; 1 H
     (at24x80 ∷ []) leave goes 24 80 0
-    ∷ (sequence (0x32 ∷ 0x35 ∷ 0x3B ∷ 0x31 ∷ 0x48 ∷ []) ∷ []) leave refuses 1 1
+    ∷ (sequence "25;1H" ∷ []) leave refuses 1 1
     -- ESC [ 81 G and ESC [ 25 d
-    ∷ (sequence (0x38 ∷ 0x31 ∷ 0x47 ∷ []) ∷ []) leave goes 1 1 0
-    ∷ (sequence (0x32 ∷ 0x35 ∷ 0x64 ∷ []) ∷ []) leave refuses 1 1
+    ∷ (sequence "81G" ∷ []) leave goes 1 1 0
+    ∷ (sequence "25d" ∷ []) leave refuses 1 1
     -- from 4;20: ESC [ 3 G, ESC [ 5 f, ESC [ 5 H
-    ∷ (at4x20 ∷ sequence (0x33 ∷ 0x47 ∷ []) ∷ []) leave goes 4 3 0
-    ∷ (at4x20 ∷ sequence (0x35 ∷ 0x66 ∷ []) ∷ []) leave goes 5 20 0
-    ∷ (at4x20 ∷ sequence (0x35 ∷ 0x48 ∷ []) ∷ []) leave goes 5 1 0
+    ∷ (at4x20 ∷ sequence "3G" ∷ []) leave goes 4 3 0
+    ∷ (at4x20 ∷ sequence "5f" ∷ []) leave goes 5 20 0
+    ∷ (at4x20 ∷ sequence "5H" ∷ []) leave goes 5 1 0
     -- text A at 24;80
-    ∷ (at24x80 ∷ host 0 (0x41 ∷ []) ∷ []) leave goes 1 1 1
+    ∷ (at24x80 ∷ host 0 (bytes "A") ∷ []) leave goes 1 1 1
     -- nine arguments to m
-    ∷ (sequence (0x31 ∷ 0x3B ∷ 0x31 ∷ 0x3B ∷ 0x31 ∷ 0x3B ∷ 0x31 ∷ 0x3B ∷ 0x31 ∷ 0x3B ∷ 0x31 ∷ 0x3B ∷ 0x31 ∷ 0x3B ∷ 0x31 ∷ 0x3B ∷ 0x31 ∷ 0x6D ∷ []) ∷ []) leave refuses 1 1
+    ∷ (sequence "1;1;1;1;1;1;1;1;1m" ∷ []) leave refuses 1 1
     -- 9999 to C, and 10000
-    ∷ (sequence (0x39 ∷ 0x39 ∷ 0x39 ∷ 0x39 ∷ 0x43 ∷ []) ∷ []) leave goes 1 80 0
-    ∷ (sequence (0x31 ∷ 0x30 ∷ 0x30 ∷ 0x30 ∷ 0x30 ∷ 0x43 ∷ []) ∷ []) leave refuses 1 1
+    ∷ (sequence "9999C" ∷ []) leave goes 1 80 0
+    ∷ (sequence "10000C" ∷ []) leave refuses 1 1
     -- an empty host call
     ∷ (host 0 [] ∷ []) leave goes 1 1 0
     -- key 266 with no room, and with room for one byte, nothing modified
