@@ -2,7 +2,9 @@
 use mathlib.Core.Path.{_≡_, refl}
 use mathlib.Core.List.{List, [], _∷_, _++_, map}
 use Prim.Native.Nat.{ℕ}
+use Prim.Native.String.{String}
 use Rattle.words.specs.Choice.{if_then_else_, _and_, _or_, _is_to_}
+use Rattle.words.specs.Text.{bytes}
 use Rattle.output.specs.Decimal.{decimal, placeBytes}
 use Rattle.blocks.specs.Blocks.{entryBytes, encode}
 use Rattle.blocks.specs.Decode.{inFront, split, readNumber, readEntry, decode}
@@ -22,28 +24,28 @@ unfoldable laying : Unit {0}
 unfolding tests inFront split readNumber readEntry decode samePlace laidOn lay entryBytes encode decimal placeBytes
 laying = tt
 
--- Reports: ESC [ 1 ; 4 R and ESC [ 0 n.
+-- Reports.
 abbrev cursorBytes : List ℕ
-cursorBytes = 0x1B ∷ 0x5B ∷ 0x31 ∷ 0x3B ∷ 0x34 ∷ 0x52 ∷ []
+cursorBytes = 0x1B ∷ bytes "[1;4R"
 
 abbrev readyBytes : List ℕ
-readyBytes = 0x1B ∷ 0x5B ∷ 0x30 ∷ 0x6E ∷ []
+readyBytes = 0x1B ∷ bytes "[0n"
 
--- A block with a field at 1;4 that has the two characters.
+-- A block with a field at 1;4 that has these characters.
 abbrev headAt : List ℕ
-headAt = 0x1B ∷ 0x5B ∷ 0x31 ∷ 0x3B ∷ 0x34 ∷ 0x66 ∷ []
+headAt = 0x1B ∷ bytes "[1;4f"
 
-abbrev blockOf : ℕ → ℕ → List ℕ
-blockOf a b = headAt ++ (a ∷ b ∷ 0x03 ∷ [])
+abbrev blockOf : String → List ℕ
+blockOf text = headAt ++ (bytes text ++ (0x03 ∷ []))
 
 -- A report, then a block: the block alone.
-pub after-report : blocksIn (cursorBytes ++ blockOf 0x43 0x44) ≡ blockOf 0x43 0x44 ∷ []
+pub after-report : blocksIn (cursorBytes ++ blockOf "CD") ≡ blockOf "CD" ∷ []
 unfolding finding
 after-report = refl
 
 -- Two blocks with a report between them, and one after them. n, R and f are characters too.
-pub between-blocks : blocksIn (blockOf 0x6E 0x52 ++ (readyBytes ++ (blockOf 0x66 0x44 ++ cursorBytes)))
-    ≡ blockOf 0x6E 0x52 ∷ blockOf 0x66 0x44 ∷ []
+pub between-blocks : blocksIn (blockOf "nR" ++ (readyBytes ++ (blockOf "fD" ++ cursorBytes)))
+    ≡ blockOf "nR" ∷ blockOf "fD" ∷ []
 unfolding finding
 between-blocks = refl
 
@@ -53,16 +55,16 @@ unfolding finding
 empty-block = refl
 
 -- Half a block at the end is not found.
-pub half-block : blocksIn (blockOf 0x43 0x44 ++ (headAt ++ (0x43 ∷ []))) ≡ blockOf 0x43 0x44 ∷ []
+pub half-block : blocksIn (blockOf "CD" ++ (headAt ++ bytes "C")) ≡ blockOf "CD" ∷ []
 unfolding finding
 half-block = refl
 
 -- The block found is laid over its copy; all bytes up to 03, the report with them, would lose the field's characters.
-pub found-laid : map (λ found. lay found (blockOf 0x41 0x42)) (blocksIn (cursorBytes ++ blockOf 0x43 0x44))
-    ≡ blockOf 0x43 0x44 ∷ []
+pub found-laid : map (λ found. lay found (blockOf "AB")) (blocksIn (cursorBytes ++ blockOf "CD"))
+    ≡ blockOf "CD" ∷ []
 unfolding finding laying
 found-laid = refl
 
-pub report-laid : lay (cursorBytes ++ blockOf 0x43 0x44) (blockOf 0x41 0x42) ≡ headAt ++ (0x03 ∷ [])
+pub report-laid : lay (cursorBytes ++ blockOf "CD") (blockOf "AB") ≡ headAt ++ (0x03 ∷ [])
 unfolding laying
 report-laid = refl

@@ -8,8 +8,9 @@ use lib.ListN.{getD}
 use Rattle.page.specs.Page.{Page, pageOf}
 use Rattle.places.specs.Places.{cellAt}
 use Rattle.steps.specs.Steps.{Terminal}
+use Rattle.words.specs.Text.{bytes}
 use Rattle.commands.proofs.Computing.{hostSteps}
-use Rattle.commands.proofs.Streams.{text, esc, run, terminalWith, fresh, streams}
+use Rattle.commands.proofs.Streams.{esc, run, terminalWith, fresh, streams}
 
 -- A scroll on the page of 24 by 80, of which a few cells are looked at: a row, a column, and what stands there.
 record Cell : Type 0 where
@@ -28,27 +29,27 @@ seenAt page c =
     cell (c .row) (c .column) (getD (page .characters) here 0) (getD (page .marks) here 0)
 
 record Scroll : Type 0 where
-  bytes : List ℕ
+  stream : List ℕ
   row : ℕ
   column : ℕ
   count : ℕ
   cells : List Cell
 
 scroll : List ℕ → ℕ → ℕ → ℕ → List Cell → Scroll
-scroll bytes row column count cells = record { bytes = bytes; row = row; column = column; count = count; cells = cells }
+scroll stream row column count cells = record { stream = stream; row = row; column = column; count = count; cells = cells }
 
 -- The same example, as the definitions have it.
 asRun : Scroll → Scroll
 asRun s =
-    let ran = run fresh (s .bytes) in
+    let ran = run fresh (s .stream) in
     let state = ran .terminal .state in
-    scroll (s .bytes) (state .cursor .row) (state .cursor .column) (ran .count)
+    scroll (s .stream) (state .cursor .row) (state .cursor .column) (ran .count)
     (map (seenAt (ran .terminal .page)) (s .cells))
 
 -- A at 1;1, B at 2;3, C bold and protected at 24;1: the cursor is left at 24;2, three cells are stored, and the pen
 -- stays.
 filled : List ℕ
-filled = text "A" ++ esc "[2;3H" ++ text "B" ++ esc "[24;1H" ++ esc "[1m" ++ esc "V" ++ text "C"
+filled = bytes "A" ++ esc "[2;3H" ++ bytes "B" ++ esc "[24;1H" ++ esc "[1m" ++ esc "V" ++ bytes "C"
 
 -- Each row went up: A is lost, B is in row 1, C in row 23, and the row that came in has 20 with marks 0, whatever the
 -- pen.
@@ -88,11 +89,11 @@ scrolled-as-worked-out = refl
 small : Terminal
 small =
     terminalWith 3 4 (pageOf
-    (text "ABCDEFGHIJKL")
+    (bytes "ABCDEFGHIJKL")
     (0 ∷ 1 ∷ 4 ∷ 0 ∷ 1 ∷ 2 ∷ 8 ∷ 9 ∷ 0 ∷ 0 ∷ 5 ∷ 18 ∷ []))
 
 record Example : Type 0 where
-  bytes : List ℕ
+  stream : List ℕ
   row : ℕ
   column : ℕ
   locked : Bool
@@ -101,16 +102,16 @@ record Example : Type 0 where
 
 -- A cursor, whether a command was refused, a count, and the page's characters and marks.
 leaves : List ℕ → ℕ → ℕ → Bool → ℕ → List ℕ → List ℕ → Example
-leaves bytes row column locked count characters marks =
-    record { bytes = bytes; row = row; column = column; locked = locked; count = count; page = pageOf characters marks }
+leaves stream row column locked count characters marks =
+    record { stream = stream; row = row; column = column; locked = locked; count = count; page = pageOf characters marks }
 
 -- The same example, as the definitions have it.
 asLeft : Example → Example
 asLeft e =
-    let ran = run small (e .bytes) in
+    let ran = run small (e .stream) in
     let state = ran .terminal .state in
     let page = ran .terminal .page in
-    leaves (e .bytes) (state .cursor .row) (state .cursor .column) (state .locks .soft) (ran .count)
+    leaves (e .stream) (state .cursor .row) (state .cursor .column) (state .locks .soft) (ran .count)
     (page .characters) (page .marks)
 
 at2x2 : List ℕ
@@ -124,65 +125,65 @@ examples : List Example
 examples =
     -- from 2;2, erasure mode reset: K, 1 K and 2 K pass the protected 2;1 and 2;4 by
     leaves (at2x2 ++ esc "[K") 2 2 false 2
-    (text "ABCDE  HIJKL")
+    (bytes "ABCDE  HIJKL")
     (0 ∷ 1 ∷ 4 ∷ 0 ∷ 1 ∷ 0 ∷ 0 ∷ 9 ∷ 0 ∷ 0 ∷ 5 ∷ 18 ∷ [])
     ∷ leaves (at2x2 ++ esc "[1K") 2 2 false 1
-    (text "ABCDE GHIJKL")
+    (bytes "ABCDE GHIJKL")
     (0 ∷ 1 ∷ 4 ∷ 0 ∷ 1 ∷ 0 ∷ 8 ∷ 9 ∷ 0 ∷ 0 ∷ 5 ∷ 18 ∷ [])
     ∷ leaves (at2x2 ++ esc "[2K") 2 2 false 2
-    (text "ABCDE  HIJKL")
+    (bytes "ABCDE  HIJKL")
     (0 ∷ 1 ∷ 4 ∷ 0 ∷ 1 ∷ 0 ∷ 0 ∷ 9 ∷ 0 ∷ 0 ∷ 5 ∷ 18 ∷ [])
     -- the same with erasure mode set: protected cells are erased and counted
     ∷ leaves (erasureSet ++ at2x2 ++ esc "[K") 2 2 false 3
-    (text "ABCDE   IJKL")
+    (bytes "ABCDE   IJKL")
     (0 ∷ 1 ∷ 4 ∷ 0 ∷ 1 ∷ 0 ∷ 0 ∷ 0 ∷ 0 ∷ 0 ∷ 5 ∷ 18 ∷ [])
     ∷ leaves (erasureSet ++ at2x2 ++ esc "[1K") 2 2 false 2
-    (text "ABCD  GHIJKL")
+    (bytes "ABCD  GHIJKL")
     (0 ∷ 1 ∷ 4 ∷ 0 ∷ 0 ∷ 0 ∷ 8 ∷ 9 ∷ 0 ∷ 0 ∷ 5 ∷ 18 ∷ [])
     ∷ leaves (erasureSet ++ at2x2 ++ esc "[2K") 2 2 false 4
-    (text "ABCD    IJKL")
+    (bytes "ABCD    IJKL")
     (0 ∷ 1 ∷ 4 ∷ 0 ∷ 0 ∷ 0 ∷ 0 ∷ 0 ∷ 0 ∷ 0 ∷ 5 ∷ 18 ∷ [])
     -- J, 1 J and 2 J with erasure mode reset, and 2 J with it set
     ∷ leaves (at2x2 ++ esc "[J") 2 2 false 5
-    (text "ABCDE  H  K ")
+    (bytes "ABCDE  H  K ")
     (0 ∷ 1 ∷ 4 ∷ 0 ∷ 1 ∷ 0 ∷ 0 ∷ 9 ∷ 0 ∷ 0 ∷ 5 ∷ 0 ∷ [])
     ∷ leaves (at2x2 ++ esc "[1J") 2 2 false 4
-    (text " B  E GHIJKL")
+    (bytes " B  E GHIJKL")
     (0 ∷ 1 ∷ 0 ∷ 0 ∷ 1 ∷ 0 ∷ 8 ∷ 9 ∷ 0 ∷ 0 ∷ 5 ∷ 18 ∷ [])
     ∷ leaves (at2x2 ++ esc "[2J") 2 2 false 8
-    (text " B  E  H  K ")
+    (bytes " B  E  H  K ")
     (0 ∷ 1 ∷ 0 ∷ 0 ∷ 1 ∷ 0 ∷ 0 ∷ 9 ∷ 0 ∷ 0 ∷ 5 ∷ 0 ∷ [])
     ∷ leaves (erasureSet ++ at2x2 ++ esc "[2J") 2 2 false 12
-    (text "            ")
+    (bytes "            ")
     (0 ∷ 0 ∷ 0 ∷ 0 ∷ 0 ∷ 0 ∷ 0 ∷ 0 ∷ 0 ∷ 0 ∷ 0 ∷ 0 ∷ [])
     -- text takes the pen for its marks: 7 m and ESC V, over a modified cell; in the last cell it doesn't scroll
-    ∷ leaves (at2x2 ++ esc "[7m" ++ esc "V" ++ text "Z") 2 3 false 1
-    (text "ABCDEZGHIJKL")
+    ∷ leaves (at2x2 ++ esc "[7m" ++ esc "V" ++ bytes "Z") 2 3 false 1
+    (bytes "ABCDEZGHIJKL")
     (0 ∷ 1 ∷ 4 ∷ 0 ∷ 1 ∷ 33 ∷ 8 ∷ 9 ∷ 0 ∷ 0 ∷ 5 ∷ 18 ∷ [])
-    ∷ leaves (esc "[3;4H" ++ text "Z") 1 1 false 1
-    (text "ABCDEFGHIJKZ")
+    ∷ leaves (esc "[3;4H" ++ bytes "Z") 1 1 false 1
+    (bytes "ABCDEFGHIJKZ")
     (0 ∷ 1 ∷ 4 ∷ 0 ∷ 1 ∷ 2 ∷ 8 ∷ 9 ∷ 0 ∷ 0 ∷ 5 ∷ 0 ∷ [])
     -- a plain pen's text on the protected 1;2 takes its protection away
-    ∷ leaves (esc "[1;2H" ++ text "Z") 1 3 false 1
-    (text "AZCDEFGHIJKL")
+    ∷ leaves (esc "[1;2H" ++ bytes "Z") 1 3 false 1
+    (bytes "AZCDEFGHIJKL")
     (0 ∷ 0 ∷ 4 ∷ 0 ∷ 1 ∷ 2 ∷ 8 ∷ 9 ∷ 0 ∷ 0 ∷ 5 ∷ 18 ∷ [])
     -- ESC D in the last row and ESC M in the first, protected cells and all; ESC c
     ∷ leaves (esc "[3;2H" ++ esc "D") 3 2 false 12
-    (text "EFGHIJKL    ")
+    (bytes "EFGHIJKL    ")
     (1 ∷ 2 ∷ 8 ∷ 9 ∷ 0 ∷ 0 ∷ 5 ∷ 18 ∷ 0 ∷ 0 ∷ 0 ∷ 0 ∷ [])
     ∷ leaves (esc "[1;2H" ++ esc "M") 1 2 false 12
-    (text "    ABCDEFGH")
+    (bytes "    ABCDEFGH")
     (0 ∷ 0 ∷ 0 ∷ 0 ∷ 0 ∷ 1 ∷ 4 ∷ 0 ∷ 1 ∷ 2 ∷ 8 ∷ 9 ∷ [])
     ∷ leaves (at2x2 ++ esc "c") 1 1 false 12
-    (text "            ")
+    (bytes "            ")
     (0 ∷ 0 ∷ 0 ∷ 0 ∷ 0 ∷ 0 ∷ 0 ∷ 0 ∷ 0 ∷ 0 ∷ 0 ∷ 0 ∷ [])
     -- ESC S stores nothing; it clears modified on the two cells that had it, and blinking stays
     ∷ leaves (at2x2 ++ esc "S") 2 2 false 0
-    (text "ABCDEFGHIJKL")
+    (bytes "ABCDEFGHIJKL")
     (0 ∷ 1 ∷ 4 ∷ 0 ∷ 1 ∷ 0 ∷ 8 ∷ 9 ∷ 0 ∷ 0 ∷ 5 ∷ 16 ∷ [])
     -- 3 J is refused, and no cell is touched
     ∷ leaves (at2x2 ++ esc "[3J") 2 2 true 0
-    (text "ABCDEFGHIJKL")
+    (bytes "ABCDEFGHIJKL")
     (0 ∷ 1 ∷ 4 ∷ 0 ∷ 1 ∷ 2 ∷ 8 ∷ 9 ∷ 0 ∷ 0 ∷ 5 ∷ 18 ∷ [])
     ∷ []
 

@@ -5,8 +5,9 @@ use mathlib.Core.List.{List, [], _∷_, _++_, map}
 use mathlib.Core.Bool.{Bool, true, false}
 use Prim.Native.Nat.{ℕ}
 use Rattle.words.specs.Choice.{if_then_else_}
+use Rattle.words.specs.Text.{bytes}
 use Rattle.commands.proofs.Computing.{hostSteps}
-use Rattle.commands.proofs.Streams.{text, esc, Ran, run, fresh, streams}
+use Rattle.commands.proofs.Streams.{esc, Ran, run, fresh, streams}
 
 -- What is seen of a terminal after a stream, with the cells stored and the bytes sent on the way.
 record Seen : Type 0 where
@@ -36,14 +37,14 @@ seenOf ran =
     }
 
 record Example : Type 0 where
-  bytes : List ℕ
+  stream : List ℕ
   seen : Seen
 
 -- A cursor, whether a command was refused, a pen, a count and the bytes sent; the modes are as fresh.
 gives : List ℕ → ℕ → ℕ → Bool → ℕ → ℕ → List ℕ → Example
-gives bytes row column locked pen count sent =
+gives stream row column locked pen count sent =
     record {
-      bytes = bytes;
+      stream = stream;
       seen = record {
         row = row;
         column = column;
@@ -59,9 +60,9 @@ gives bytes row column locked pen count sent =
 
 -- The locks and erasure mode: manual lock, whether a command was refused, the mode; all else is as fresh.
 sets : List ℕ → Bool → Bool → Bool → Example
-sets bytes manual locked erasure =
+sets stream manual locked erasure =
     record {
-      bytes = bytes;
+      stream = stream;
       seen = record {
         row = 1;
         column = 1;
@@ -100,7 +101,7 @@ examples =
     ∷ gives (at4x20 ++ esc "[7d") 7 20 false 0 0 []
     ∷ gives (at4x20 ++ esc "[0d") 1 20 false 0 0 []
     -- text in the last cell
-    ∷ gives (esc "[24;80H" ++ text "A") 1 1 false 0 1 []
+    ∷ gives (esc "[24;80H" ++ bytes "A") 1 1 false 0 1 []
     -- 9999 C, 10000 C, and one argument too many
     ∷ gives (esc "[9999C") 1 80 false 0 0 []
     ∷ gives (esc "[10000C") 1 1 true 0 0 []
@@ -186,6 +187,6 @@ examples =
     ∷ []
 
 -- Each stream leaves what the example says.
-as-worked-out : map (λ (e : Example). seenOf (run fresh (e .bytes))) examples ≡ map (λ (e : Example). e .seen) examples
+as-worked-out : map (λ (e : Example). seenOf (run fresh (e .stream))) examples ≡ map (λ (e : Example). e .seen) examples
 unfolding hostSteps streams seenOf gives sets at4x20 threeStops examples
 as-worked-out = refl

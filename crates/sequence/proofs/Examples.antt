@@ -3,8 +3,10 @@
 use mathlib.Core.Path.{_≡_, refl}
 use mathlib.Core.List.{List, [], _∷_, map}
 use mathlib.Core.Bool.{Bool, true, false}
+use Prim.Native.Char.{code}
 use Prim.Native.Nat.{ℕ}
 use Rattle.words.specs.Choice.{if_then_else_, _and_, _or_, _is_to_}
+use Rattle.words.specs.Text.{bytes}
 use Rattle.sequence.specs.declared.HalfRead.{HalfRead}
 use Rattle.sequence.specs.declared.Event.{Event}
 use Rattle.sequence.specs.declared.Event.the-variants.{Nothing, Text, Control, EscCommand, BracketCommand, Refused}
@@ -26,17 +28,17 @@ noted Refused later = Refused ∷ later
 
 reading : HalfRead → List ℕ → Read
 reading half [] = record { events = []; left = half }
-reading half (byte ∷ bytes) =
+reading half (byte ∷ rest) =
     let now = advanceOf half byte in
-    let later = reading (now .half) bytes in
+    let later = reading (now .half) rest in
     record { events = noted (now .event) (later .events); left = later .left }
 
 record Example : Type 0 where
-  bytes : List ℕ
+  stream : List ℕ
   read : Read
 
 gives : List ℕ → List Event → HalfRead → Example
-gives bytes events left = record { bytes = bytes; read = record { events = events; left = left } }
+gives stream events left = record { stream = stream; read = record { events = events; left = left } }
 
 bracket : List ℕ → ℕ → HalfRead
 bracket arguments count = record { kind = 3; arguments = arguments; count = count; spoilt = false }
@@ -48,32 +50,32 @@ examples =
     ∷ gives (0x08 ∷ 0x09 ∷ 0x0A ∷ 0x0D ∷ []) (Control 0x08 ∷ Control 0x09 ∷ Control 0x0A ∷ Control 0x0D ∷ []) nothingRead
     ∷ gives (0x00 ∷ 0x07 ∷ 0x0B ∷ 0x18 ∷ 0x1A ∷ 0x1F ∷ 0x7F ∷ []) [] nothingRead
     -- 18, 1A and 1B inside one
-    ∷ gives (0x1B ∷ 0x18 ∷ 0x41 ∷ []) (Text 0x41 ∷ []) nothingRead
-    ∷ gives (0x1B ∷ 0x5B ∷ 0x31 ∷ 0x1A ∷ 0x41 ∷ []) (Text 0x41 ∷ []) nothingRead
-    ∷ gives (0x1B ∷ 0x5B ∷ 0x31 ∷ 0x1B ∷ []) [] escRead
-    ∷ gives (0x1B ∷ 0x1B ∷ 0x44 ∷ []) (EscCommand 0x44 ∷ []) nothingRead
+    ∷ gives (0x1B ∷ 0x18 ∷ bytes "A") (Text (code "A") ∷ []) nothingRead
+    ∷ gives (0x1B ∷ code "[" ∷ code "1" ∷ 0x1A ∷ bytes "A") (Text (code "A") ∷ []) nothingRead
+    ∷ gives (0x1B ∷ code "[" ∷ code "1" ∷ 0x1B ∷ []) [] escRead
+    ∷ gives (0x1B ∷ 0x1B ∷ bytes "D") (EscCommand (code "D") ∷ []) nothingRead
     -- other controls and 7F inside one are not executed; 80 to FF is refused anywhere
-    ∷ gives (0x1B ∷ 0x5B ∷ 0x31 ∷ 0x0A ∷ 0x41 ∷ []) (Refused ∷ Text 0x41 ∷ []) nothingRead
+    ∷ gives (0x1B ∷ code "[" ∷ code "1" ∷ 0x0A ∷ bytes "A") (Refused ∷ Text (code "A") ∷ []) nothingRead
     ∷ gives (0x1B ∷ 0x7F ∷ []) (Refused ∷ []) nothingRead
     ∷ gives (0x80 ∷ 0x1B ∷ 0xFF ∷ []) (Refused ∷ Refused ∷ []) nothingRead
     -- ESC and intermediates
-    ∷ gives (0x1B ∷ 0x28 ∷ 0x2F ∷ []) [] intermediateRead
-    ∷ gives (0x1B ∷ 0x28 ∷ 0x2F ∷ 0x42 ∷ 0x42 ∷ []) (Refused ∷ Text 0x42 ∷ []) nothingRead
+    ∷ gives (0x1B ∷ bytes "(/") [] intermediateRead
+    ∷ gives (0x1B ∷ bytes "(/BB") (Refused ∷ Text (code "B") ∷ []) nothingRead
     -- ESC [ and arguments: omitted, 9,999 and 10,000, eight and nine
-    ∷ gives (0x1B ∷ 0x5B ∷ []) [] bracketRead
-    ∷ gives (0x1B ∷ 0x5B ∷ 0x48 ∷ []) (BracketCommand 0x48 ∷ []) nothingRead
-    ∷ gives (0x1B ∷ 0x5B ∷ 0x32 ∷ 0x34 ∷ 0x3B ∷ 0x38 ∷ 0x30 ∷ []) [] (bracket (24 ∷ 80 ∷ 0 ∷ 0 ∷ 0 ∷ 0 ∷ 0 ∷ 0 ∷ []) 2)
-    ∷ gives (0x1B ∷ 0x5B ∷ 0x30 ∷ 0x39 ∷ 0x39 ∷ 0x39 ∷ 0x39 ∷ []) [] (bracket (9999 ∷ 0 ∷ 0 ∷ 0 ∷ 0 ∷ 0 ∷ 0 ∷ 0 ∷ []) 1)
-    ∷ gives (0x1B ∷ 0x5B ∷ 0x31 ∷ 0x30 ∷ 0x30 ∷ 0x30 ∷ 0x30 ∷ []) [] spoiltRead
-    ∷ gives (0x1B ∷ 0x5B ∷ 0x3B ∷ 0x3B ∷ 0x3B ∷ 0x3B ∷ 0x3B ∷ 0x3B ∷ 0x3B ∷ 0x37 ∷ []) [] (bracket (0 ∷ 0 ∷ 0 ∷ 0 ∷ 0 ∷ 0 ∷ 0 ∷ 7 ∷ []) 8)
-    ∷ gives (0x1B ∷ 0x5B ∷ 0x3B ∷ 0x3B ∷ 0x3B ∷ 0x3B ∷ 0x3B ∷ 0x3B ∷ 0x3B ∷ 0x3B ∷ 0x6D ∷ []) (Refused ∷ []) nothingRead
+    ∷ gives (0x1B ∷ bytes "[") [] bracketRead
+    ∷ gives (0x1B ∷ bytes "[H") (BracketCommand (code "H") ∷ []) nothingRead
+    ∷ gives (0x1B ∷ bytes "[24;80") [] (bracket (24 ∷ 80 ∷ 0 ∷ 0 ∷ 0 ∷ 0 ∷ 0 ∷ 0 ∷ []) 2)
+    ∷ gives (0x1B ∷ bytes "[09999") [] (bracket (9999 ∷ 0 ∷ 0 ∷ 0 ∷ 0 ∷ 0 ∷ 0 ∷ 0 ∷ []) 1)
+    ∷ gives (0x1B ∷ bytes "[10000") [] spoiltRead
+    ∷ gives (0x1B ∷ bytes "[;;;;;;;7") [] (bracket (0 ∷ 0 ∷ 0 ∷ 0 ∷ 0 ∷ 0 ∷ 0 ∷ 7 ∷ []) 8)
+    ∷ gives (0x1B ∷ bytes "[;;;;;;;;m") (Refused ∷ []) nothingRead
     -- spoilt, and nothing adds to it
-    ∷ gives (0x1B ∷ 0x5B ∷ 0x3F ∷ 0x35 ∷ 0x3B ∷ 0x36 ∷ []) [] spoiltRead
-    ∷ gives (0x1B ∷ 0x5B ∷ 0x31 ∷ 0x20 ∷ 0x6D ∷ 0x6D ∷ []) (Refused ∷ Text 0x6D ∷ []) nothingRead
+    ∷ gives (0x1B ∷ bytes "[?5;6") [] spoiltRead
+    ∷ gives (0x1B ∷ bytes "[1 mm") (Refused ∷ Text (code "m") ∷ []) nothingRead
     ∷ []
 
 -- Each of the examples reads as it says.
-as-worked-out : map (λ (e : Example). reading nothingRead (e .bytes)) examples ≡ map (λ (e : Example). e .read) examples
+as-worked-out : map (λ (e : Example). reading nothingRead (e .stream)) examples ≡ map (λ (e : Example). e .read) examples
 unfolding if_then_else_ _and_ _or_ _is_to_ withDigit withNextArgument isControl isCancel outsideSequence afterEsc afterIntermediate afterBracket insideSequence advanceOf noted reading gives bracket examples
 as-worked-out = refl
 

@@ -3,9 +3,9 @@ use mathlib.Core.Path.{_≡_, refl, ap, _∙_}
 use mathlib.Core.Bool.{Bool, true, false, not}
 use mathlib.Core.List.{List}
 use mathlib.Core.Logic.{_⊎_, inl, inr, ⊎-elim}
-use Prim.Native.Nat.{ℕ, zero, suc, _-_, _/_, _%_, _<_, _≤_}
+use Prim.Native.Nat.{ℕ, zero, suc, _-_, _<_, _≤_}
 use native.Mathlib.Omega.{arith}
-use borrow.Author.Tests.{ltb-true, leb-true, eqb-true, eqb-false, lt-ltb, ne-eqb, not-true}
+use borrow.Author.Tests.{ltb-true, leb-true, eqb-true, lt-ltb, not-true}
 use lib.Dec.{leb, eqb}
 use lib.ListN.{set, replicate}
 use lib.Seq.{drop-set-lt}
@@ -15,6 +15,7 @@ use Rattle.words.proofs.Choosing.{either-line, both, both-hold, one-holds, rang
 use Rattle.sequence.specs.declared.HalfRead.{HalfRead}
 use Rattle.sequence.specs.Record.{validHalfRead}
 use Rattle.sequence.proofs.Keeping.{nothing-valid}
+use Rattle.page.specs.Marks.{isModified}
 use Rattle.page.proofs.Bits.{OthersStay, other-bit, set-others, cleared-others}
 use Rattle.page.proofs.Keeping.{mark-stays-valid}
 use Rattle.state.specs.declared.Size.{Size}
@@ -26,6 +27,7 @@ use Rattle.state.specs.Tabs.{stopSet, stopCleared, stopsCleared, stopsOn
 use Rattle.state.specs.Pen.{penProtected, penUnprotected, penPlain, penBold, penUnderlined, penBlinking, penReversed, penConcealed, validPen, withPen, withErasure}
 use Rattle.state.specs.Tests.{listedRows, listedColumns, listedSize, cursorFits, stopsFit, validState}
 use Rattle.state.proofs.Laws.{OneTo, right-within, left-within}
+use Rattle.state.proofs.Pens.{clears-visual}
 
 -- A listed size, number by number, and its bounds.
 one-of : (n a b c : ℕ) → (eqb n a or eqb n b or eqb n c) ≡ true → (n ≡ a) ⊎ (n ≡ b) ⊎ (n ≡ c)
@@ -135,16 +137,13 @@ no-stops-fit (suc columns) zero = refl
 no-stops-fit (suc columns) (suc n) = no-stops-fit columns n
 
 -- A pen in range, and what each command makes of it.
-pub pen-range : (pen : ℕ) → validPen pen ≡ true → (pen < 0x80) × (pen / 2 % 2 ≡ 0)
+pub pen-range : (pen : ℕ) → validPen pen ≡ true → (pen < 0x80) × (isModified pen ≡ false)
 unfolding validPen
-pen-range pen p =
-    let h = both p in
-    let clear : pen / 2 % 2 ≡ 1 → ⊥ = eqb-false (pen / 2 % 2) 1 (not-true _ (h .1)) in
-    (ltb-true pen 0x80 (h .0), omega arith)
+pen-range pen p = let h = both p in (ltb-true pen 0x80 (h .0), not-true _ (h .1))
 
-pen-in-range : (pen : ℕ) → pen < 0x80 → pen / 2 % 2 ≡ 0 → validPen pen ≡ true
+pen-in-range : (pen : ℕ) → pen < 0x80 → isModified pen ≡ false → validPen pen ≡ true
 unfolding validPen
-pen-in-range pen h k = both-hold _ _ (lt-ltb pen 0x80 h) (rw (ne-eqb (pen / 2 % 2) 1 (λ e. omega arith)))
+pen-in-range pen h k = both-hold _ _ (lt-ltb pen 0x80 h) (ap not k)
 
 module _ (pen : ℕ) (valid : validPen pen ≡ true) where
   -- a pen may have any bit below 7 changed but modified
@@ -175,7 +174,7 @@ module _ (pen : ℕ) (valid : validPen pen ≡ true) where
   concealed-keeps-pen = stays-in-range 6 _ (set-others 6 pen) (omega arith) (omega arith)
 
   pub plain-keeps-pen : validPen (penPlain pen) ≡ true
-  plain-keeps-pen = pen-in-range (penPlain pen) (omega arith) (omega arith)
+  plain-keeps-pen = pen-in-range (penPlain pen) (omega arith) (clears-visual pen .1 1 (omega arith))
 
 -- A change of the state that leaves it valid, and the page's size as it was.
 pub record KeepsValid (before after : State) : Type 0 where
@@ -311,4 +310,4 @@ fresh-valid size listed =
     let bounds = size-bounds size listed in
     whole (freshState size)
     (in-range size (record { row = 1; column = 1 }) (omega arith, bounds .some-rows) (omega arith, bounds .some-columns))
-    (no-stops-fit (size .columns) 160) (pen-in-range 0 (omega arith) (omega arith)) refl nothing-valid
+    (no-stops-fit (size .columns) 160) (pen-in-range 0 (omega arith) refl) refl nothing-valid

@@ -3,7 +3,7 @@ use mathlib.Core.Path.{_≡_, refl, sym, _∙_}
 use mathlib.Core.Bool.{Bool, true, false, not}
 use mathlib.Core.List.{List, [], _∷_}
 use mathlib.Core.Logic.{⊎-elim, _↔_}
-use Prim.Native.Nat.{ℕ, zero, suc, _+_, _-_, _/_, _%_, _<_, _≤_}
+use Prim.Native.Nat.{ℕ, zero, suc, _+_, _-_, _<_, _≤_}
 use native.Mathlib.Omega.{arith}
 use borrow.Author.Tests.{ltb-true, ltb-false, leb-true, leb-false, eqb-true, eqb-false, not-true, not-false}
 use lib.Dec.{leb, eqb}
@@ -15,7 +15,7 @@ use Rattle.words.proofs.Choosing.{true-is-not-false, both, neither, one-fails, 
 use Rattle.words.proofs.Passing.{passes}
 use Rattle.sequence.specs.Record.{validHalfRead}
 use Rattle.sequence.proofs.Range.{out-of-range}
-use Rattle.page.specs.Marks.{validCharacter, validMark}
+use Rattle.page.specs.Marks.{isModified, validCharacter, validMark}
 use Rattle.page.specs.Page.{Page, validPage}
 use Rattle.state.specs.declared.Size.{Size}
 use Rattle.state.specs.declared.State.{State}
@@ -137,7 +137,7 @@ module _ (s : State) (page : Page) (valid : validState s ≡ true) (fine : valid
   unfolding validPage
   mark-is cell here = ltb-true _ _ (passes validMark (page .marks) (both fine .1) cell here)
 
-  pen-is : (s .modes .pen < 0x80) × (s .modes .pen / 2 % 2 ≡ 0)
+  pen-is : (s .modes .pen < 0x80) × (isModified (s .modes .pen) ≡ false)
   pen-is = pen-range (s .modes .pen) (parts s valid .pen)
 
   not-line-2 : Line2 s page → ⊥
@@ -150,7 +150,7 @@ module _ (s : State) (page : Page) (valid : validState s ≡ true) (fine : valid
   not-line-2 (marks-bit-7 cell here high) = omega (arith, mark-is cell here)
   not-line-2 (stop-past-last-column column past set) = true-is-not-false (sym set ∙ no-stop-past (s .size .columns) (s .stops) (parts s valid .stops) (column - 1) (omega arith))
   not-line-2 (pen-bit-7 high) = omega (arith, pen-is .0)
-  not-line-2 (pen-modified set) = omega (arith, pen-is .1, eqb-true (s .modes .pen / 2 % 2) 1 set)
+  not-line-2 (pen-modified set) = true-is-not-false (sym set ∙ pen-is .1)
   not-line-2 (message-neither-0-nor-1 not-0 not-1) = let most = leb-true (s .locks .message) 1 (parts s valid .message) in omega arith
   not-line-2 (half-read-out-of-range out) = true-is-not-false (sym (parts s valid .half) ∙ out-of-range (s .half) .1 out)
 
