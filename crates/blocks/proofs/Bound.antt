@@ -1,5 +1,5 @@
 -- No block exceeds 35,185 bytes, and one has as many.
-use mathlib.Core.Path.{_≡_, refl, sym, ap, _∙_}
+use mathlib.Core.Path.{_≡_, refl, ap, _∙_}
 use mathlib.Core.Bool.{Bool, true, false, not}
 use Prim.Native.Nat.{ℕ, zero, suc, _+_, _-_, _*_, _<_, _≤_, max}
 use native.Mathlib.Nat.{suc-mul, zero-mul}
@@ -10,15 +10,15 @@ use lib.Dec.{eqb, eqb·suc-suc}
 use lib.ListN.{length, replicate, length-replicate}
 use Rattle.words.specs.Choice.{if_then_else_, _and_, _or_}
 use Rattle.words.proofs.Choosing.{either-line, either-way, both-hold}
-use Rattle.words.proofs.Writing.{length-each, getD-each}
+use Rattle.words.proofs.Writing.{getD-each}
 use Rattle.page.specs.Marks.{unprotected}
-use Rattle.page.specs.Page.{Page}
+use Rattle.page.specs.Page.{Page, cells}
 use Rattle.places.specs.Places.{placeOf}
 use Rattle.words.proofs.Walking.{once-more}
 use Rattle.fields.specs.Fields.{opensStretch, joined, startsField}
 use Rattle.output.specs.Decimal.{decimal}
 use Rattle.blocks.specs.Blocks.{block}
-use Rattle.blocks.proofs.Claims.{Whole, blankForm, firstAndEven}
+use Rattle.blocks.proofs.Claims.{blankForm, firstAndEven}
 use Rattle.blocks.proofs.Listing.{joined-cell-unprotected, joined-starts-not, protected-starts-not}
 use Rattle.blocks.proofs.Weighing.{total, total-append, total-same, opening, weight, block-length, no-longer}
 
@@ -168,22 +168,19 @@ below-largest : (isUnprotected : Bool) (bound : Most) → NotAbove bound largest
 unfolding mostAfter largest
 below-largest isUnprotected bound h = either-line (λ (n : ℕ). n ≤ 35184) isUnprotected _ _ (λ _. h .unprotected-case) (λ _. h .protected-case)
 
-pub bounded : (full : Bool) (rows columns : ℕ) (page : Page) → rows ≤ 48 → columns ≤ 160 → length (page .marks) ≡ rows * columns → Whole page
+pub bounded : (full : Bool) (rows columns : ℕ) (page : Page) → rows ≤ 48 → columns ≤ 160 → cells page ≡ rows * columns
     → length (block full columns page) ≤ 35185
-bounded full rows columns page few narrow size whole =
+bounded full rows columns page few narrow size =
     let isUnprotected = unprotected (page .marks) in
     let wider : columns + (160 - columns) ≡ 160 = omega arith in
     let more : rows + (48 - rows) ≡ 48 = omega arith in
     let first : 0 * columns ≡ 0 = zero-mul columns in
     let sum : total (weight isUnprotected columns) 0 (rows * columns) ≤ mostAfter (isUnprotected 0) (mostOfRows columns 0 rows) = rw first at (rows-from isUnprotected columns rows 0) in
     let bound : NotAbove (mostOfRows columns 0 rows) largest = rw (wider, more, largest-is) at (more-rows columns (160 - columns) rows (48 - rows) 0) in
-    omega (arith, no-longer full columns page, rw size at (block-length columns page whole), below-largest (isUnprotected 0) _ bound)
+    omega (arith, no-longer full columns page, rw size at (block-length columns page), below-largest (isUnprotected 0) _ bound)
 
 -- The block of a blank form, by the cells that are to be unprotected.
 module _ (isUnprotected : ℕ → Bool) (cells : ℕ) where
-  form-marks : length (blankForm isUnprotected cells .marks) ≡ cells
-  form-marks = length-each _ 0 (replicate cells 0) ∙ length-replicate cells 0
-
   form-unprotected : (cell : ℕ) → cell < cells → unprotected (blankForm isUnprotected cells .marks) cell ≡ isUnprotected cell
   unfolding unprotected if_then_else_
   form-unprotected cell h =
@@ -199,8 +196,8 @@ module _ (isUnprotected : ℕ → Bool) (cells : ℕ) where
   form-length : (columns : ℕ) → length (block true columns (blankForm isUnprotected cells)) ≡ 1 + total (weight isUnprotected columns) 0 cells
   form-length columns =
       let marks = blankForm isUnprotected cells .marks in
-      block-length columns (blankForm isUnprotected cells) (length-replicate cells 0x20 ∙ sym form-marks)
-      ∙ rw form-marks (ap (λ (sum : ℕ). 1 + sum) (total-same _ _ 0 cells (λ k l h. same-weight (unprotected marks) columns k (form-unprotected k (omega arith)) (form-unprotected (k - 1) (omega arith)))))
+      block-length columns (blankForm isUnprotected cells)
+      ∙ rw (length-replicate {A = ℕ} cells 0x20) (ap (λ (sum : ℕ). 1 + sum) (total-same _ _ 0 cells (λ k l h. same-weight (unprotected marks) columns k (form-unprotected k (omega arith)) (form-unprotected (k - 1) (omega arith)))))
 
 all-added : total (weight firstAndEven 160) 0 7680 ≡ 35184
 unfolding total weight firstAndEven startsField joined opensStretch placeOf opening decimal if_then_else_ _and_ _or_

@@ -8,7 +8,7 @@ use lib.ListN.{length, getD, replicate}
 use Rattle.words.specs.Choice.{if_then_else_, _or_}
 use Rattle.words.specs.Lists.{every, each}
 use Rattle.page.specs.Marks.{isModified, validCharacter, unprotected}
-use Rattle.page.specs.Page.{Page}
+use Rattle.page.specs.Page.{Page, cells}
 use Rattle.page.proofs.Keeping.{SameSize}
 use Rattle.places.specs.Places.{placeOf}
 use Rattle.fields.specs.Fields.{Field, fieldsOf}
@@ -19,16 +19,16 @@ use Rattle.blocks.specs.Finding.{endsReport, endsHead}
 pub record Sendable (columns : ℕ) (page : Page) : Type 0 where
   pub some-columns : 0 < columns
   pub columns-fit : columns ≤ 160
-  pub rows-fit : length (page .marks) ≤ 48 * columns
+  pub rows-fit : cells page ≤ 48 * columns
   pub characters-valid : every validCharacter (page .characters) ≡ true
 
--- A character for each cell.
+-- Marks for each cell.
 abbrev pub Whole : Page → Type 0
-Whole page = length (page .characters) ≡ length (page .marks)
+Whole page = cells page ≡ length (page .marks)
 
 -- The fields of a page.
 abbrev pub fieldsOn : ℕ → Page → List Field
-fieldsOn columns page = fieldsOf (unprotected (page .marks)) columns (length (page .marks))
+fieldsOn columns page = fieldsOf (unprotected (page .marks)) columns (cells page)
 
 -- Two pages of one size with the same unprotected cells.
 pub record SameForm (p q : Page) : Type 0 where
@@ -40,16 +40,16 @@ pub record FilledAlike (columns : ℕ) (p q : Page) : Type 0 where
   pub entries : entriesSent true columns p ≡ entriesSent true columns q
   pub fields : fieldsOn columns p ≡ fieldsOn columns q
   pub form : SameForm p q
-  pub characters : (k : ℕ) → k < length (q .marks) → unprotected (q .marks) k ≡ true → getD (p .characters) k 0 ≡ getD (q .characters) k 0
+  pub characters : (k : ℕ) → k < cells q → unprotected (q .marks) k ≡ true → getD (p .characters) k 0 ≡ getD (q .characters) k 0
 
 -- No unprotected cell of the page is modified.
 abbrev pub NothingModified : Page → Type 0
-NothingModified page = (k : ℕ) → k < length (page .marks) → unprotected (page .marks) k ≡ true → isModified (getD (page .marks) k 0) ≡ false
+NothingModified page = (k : ℕ) → k < cells page → unprotected (page .marks) k ≡ true → isModified (getD (page .marks) k 0) ≡ false
 
 -- From the page p to the page q, each unprotected cell that is not modified on q has kept its character.
 abbrev pub UnmodifiedKept : Page → Page → Type 0
 UnmodifiedKept p q =
-    (k : ℕ) → k < length (q .marks) → unprotected (q .marks) k ≡ true → isModified (getD (q .marks) k 0) ≡ false → getD (p .characters) k 0 ≡ getD (q .characters) k 0
+    (k : ℕ) → k < cells q → unprotected (q .marks) k ≡ true → isModified (getD (q .marks) k 0) ≡ false → getD (p .characters) k 0 ≡ getD (q .characters) k 0
 
 -- A page of 20s on which just these cells are unprotected.
 abbrev pub blankForm : (ℕ → Bool) → ℕ → Page

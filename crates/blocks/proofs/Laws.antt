@@ -10,12 +10,13 @@ use Rattle.words.specs.Lists.{selected}
 use Rattle.words.proofs.Choosing.{then-case, else-case, both-hold, first-fails, second-fails, first-holds, second-decides}
 use Rattle.words.proofs.Output.{length-part}
 use Rattle.page.specs.Marks.{isModified, unprotected}
-use Rattle.page.specs.Page.{Page}
+use Rattle.page.specs.Page.{Page, cells}
 use Rattle.places.specs.declared.Place.{Place}
 use Rattle.places.specs.Places.{placeOf}
 use Rattle.fields.specs.Fields.{Field, startsField, fieldEnd, fieldFrom, fieldsFrom, fieldsOf}
 use Rattle.fields.proofs.Bounds.{end-of}
 use Rattle.blocks.specs.Blocks.{headBytes, entryBytes, entryOf, encode, someModified, isInBlock, entriesSent, block, bytesAt}
+use Rattle.blocks.proofs.Claims.{Whole}
 
 -- the search for a modified cell, a turn at a time
 module _ (marks : List ℕ) (cell to : ℕ) where
@@ -45,8 +46,12 @@ module _ (full : Bool) (columns : ℕ) (page : Page) (place : Place) (right : pl
   unfolding bytesAt
   unstarted none = else-case _ _ _ (first-fails _ _ (ap (startsField (unprotected (page .marks))) (sym right) ∙ none))
 
-  module _ (end : ℕ) (is-end : end ≡ fieldEnd (unprotected (page .marks)) columns (length (page .marks)) (place .cell)) where
-    same-field : isInBlock full (page .marks) (record { start = place .cell; length = end - place .cell }) ≡ isInBlock full (page .marks) (fieldFrom (unprotected (page .marks)) columns (length (page .marks)) (place .cell))
+  -- The code asks the marks for the end of the field; the page has as many cells.
+  module _ (whole : Whole page) (end : ℕ) (found : end ≡ fieldEnd (unprotected (page .marks)) columns (length (page .marks)) (place .cell)) where
+    is-end : end ≡ fieldEnd (unprotected (page .marks)) columns (cells page) (place .cell)
+    is-end = found ∙ ap (λ (all : ℕ). fieldEnd (unprotected (page .marks)) columns all (place .cell)) (sym whole)
+
+    same-field : isInBlock full (page .marks) (record { start = place .cell; length = end - place .cell }) ≡ isInBlock full (page .marks) (fieldFrom (unprotected (page .marks)) columns (cells page) (place .cell))
     same-field = rw is-end
 
     pub unsent : isInBlock full (page .marks) (record { start = place .cell; length = end - place .cell }) ≡ false → bytesAt full columns page (place .cell) ≡ []
@@ -62,10 +67,10 @@ module _ (full : Bool) (columns : ℕ) (page : Page) (place : Place) (right : pl
         right⁻ : placeOf columns (place .cell) ≡ place
         right⁻ = sym right
 
-    pub sent-length : place .cell < length (page .marks) → length (page .characters) ≡ length (page .marks) → startsField (unprotected (page .marks)) place ≡ true → isInBlock full (page .marks) (record { start = place .cell; length = end - place .cell }) ≡ true → length (bytesAt full columns page (place .cell)) ≡ length (headBytes (place .row) (place .column)) + (end - place .cell)
-    sent-length here same starts sent =
-        let bounds = end-bounds (unprotected (page .marks)) columns (length (page .marks)) (place .cell) here in
-        let on-page : end ≤ length (page .characters) = omega arith in
+    pub sent-length : place .cell < cells page → startsField (unprotected (page .marks)) place ≡ true → isInBlock full (page .marks) (record { start = place .cell; length = end - place .cell }) ≡ true → length (bytesAt full columns page (place .cell)) ≡ length (headBytes (place .row) (place .column)) + (end - place .cell)
+    sent-length here starts sent =
+        let bounds = end-bounds (unprotected (page .marks)) columns (cells page) (place .cell) here in
+        let on-page : end ≤ cells page = omega (arith, is-end) in
         ap (length {A = ℕ}) (sent-is starts sent)
         ∙ length-append (headBytes (place .row) (place .column)) (take (end - place .cell) (drop (place .cell) (page .characters)))
         ∙ ap (λ (n : ℕ). length (headBytes (place .row) (place .column)) + n) (length-part (page .characters) (place .cell) end on-page)
@@ -75,7 +80,7 @@ abbrev pub restFrom : Bool → ℕ → Page → ℕ → ℕ → List ℕ
 restFrom full columns page n cell =
     encode
     (map (entryOf columns (page .characters))
-    (selected (isInBlock full (page .marks)) (fieldsFrom (unprotected (page .marks)) columns (length (page .marks)) cell n)))
+    (selected (isInBlock full (page .marks)) (fieldsFrom (unprotected (page .marks)) columns (cells page) cell n)))
 
 module _ (full : Bool) (columns : ℕ) (page : Page) where
   rest-suc : (n cell : ℕ) → restFrom full columns page (suc n) cell ≡ bytesAt full columns page cell ++ restFrom full columns page n (cell + 1)
@@ -83,10 +88,10 @@ module _ (full : Bool) (columns : ℕ) (page : Page) where
   rest-suc n cell = by-tests (startsField (unprotected (page .marks)) (placeOf columns cell)) (isInBlock full (page .marks) field) refl
     where
       field : Field
-      field = fieldFrom (unprotected (page .marks)) columns (length (page .marks)) cell
+      field = fieldFrom (unprotected (page .marks)) columns (cells page) cell
 
       later : List Field
-      later = fieldsFrom (unprotected (page .marks)) columns (length (page .marks)) (cell + 1) n
+      later = fieldsFrom (unprotected (page .marks)) columns (cells page) (cell + 1) n
 
       bytes : List Field → List ℕ
       bytes fields = encode (map (entryOf columns (page .characters)) (selected (isInBlock full (page .marks)) fields))
@@ -96,15 +101,15 @@ module _ (full : Bool) (columns : ℕ) (page : Page) where
       by-tests true false e = rw e
       by-tests false sent e = refl
 
-  pub rest-next : (cells cell : ℕ) → cell < cells → restFrom full columns page (cells - cell) cell ≡ bytesAt full columns page cell ++ restFrom full columns page (cells - (cell + 1)) (cell + 1)
-  rest-next cells cell h =
-      let more : cells - cell ≡ suc (cells - (cell + 1)) = omega arith in
-      ap (λ (n : ℕ). restFrom full columns page n cell) more ∙ rest-suc (cells - (cell + 1)) cell
+  pub rest-next : (cell : ℕ) → cell < cells page → restFrom full columns page (cells page - cell) cell ≡ bytesAt full columns page cell ++ restFrom full columns page (cells page - (cell + 1)) (cell + 1)
+  rest-next cell h =
+      let more : cells page - cell ≡ suc (cells page - (cell + 1)) = omega arith in
+      ap (λ (n : ℕ). restFrom full columns page n cell) more ∙ rest-suc (cells page - (cell + 1)) cell
 
-  pub rest-ends : (cells cell : ℕ) → cells ≤ cell → restFrom full columns page (cells - cell) cell ≡ 0x03 ∷ []
+  pub rest-ends : (cell : ℕ) → cells page ≤ cell → restFrom full columns page (cells page - cell) cell ≡ 0x03 ∷ []
   unfolding fieldsFrom selected encode
-  rest-ends cells cell h = let none : cells - cell ≡ 0 = omega arith in rw none
+  rest-ends cell h = let none : cells page - cell ≡ 0 = omega arith in rw none
 
-  pub whole-block : block full columns page ≡ restFrom full columns page (length (page .marks) - 0) 0
+  pub whole-block : block full columns page ≡ restFrom full columns page (cells page - 0) 0
   unfolding block entriesSent fieldsOf
-  whole-block = let all : length (page .marks) - 0 ≡ length (page .marks) = omega arith in rw all
+  whole-block = let all : cells page - 0 ≡ cells page = omega arith in rw all

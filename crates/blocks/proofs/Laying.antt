@@ -14,7 +14,7 @@ use Rattle.words.specs.Lists.{selected}
 use Rattle.words.proofs.Choosing.{true-is-not-false, either-line, either-way, both, both-hold, neither, less-or-not}
 use Rattle.words.proofs.Elements.{map-same}
 use Rattle.page.specs.Marks.{isProtected, isModified, unprotected}
-use Rattle.page.specs.Page.{Page}
+use Rattle.page.specs.Page.{Page, cells}
 use Rattle.places.specs.Places.{placeOf}
 use Rattle.fields.specs.Fields.{Field, fieldEnd, fieldsOf}
 use Rattle.blocks.specs.Blocks.{Entry, entryOf, someModified, isInBlock, entriesSent, block}
@@ -81,7 +81,7 @@ module _ (p q : Page) (same : SameForm p q) where
       (λ h. ap (λ (mark : ℕ). not (isProtected mark)) (List·getD-eq-default (p .marks) 0 (omega (arith, same .size .marks)) ∙ sym (List·getD-eq-default (q .marks) 0 h)))
 
   pub same-fields : (columns : ℕ) → fieldsOn columns p ≡ fieldsOn columns q
-  same-fields columns = λ i. fieldsOf (λ k. same-unprotected k i) columns (sym (same .size .marks) i)
+  same-fields columns = λ i. fieldsOf (λ k. same-unprotected k i) columns (sym (same .size .characters) i)
 
   -- Where each field that is not sent has kept its characters.
   module _ (full : Bool) (columns : ℕ)
@@ -89,7 +89,7 @@ module _ (p q : Page) (same : SameForm p q) where
     laid-one : (field : Field) → List·Memᴰ field (fieldsOn columns q) → laidOn (entriesSent full columns q) (entryOf columns (p .characters) field) ≡ entryOf columns (q .characters) field
     unfolding entriesSent
     laid-one field m =
-        let all = listed (unprotected (q .marks)) columns (length (q .marks)) in
+        let all = listed (unprotected (q .marks)) columns (cells q) in
         laid-field _ columns _ (p .characters) (q .characters) (isInBlock full (q .marks)) (fieldsOn columns q) all field (all field m) (λ _. m) (kept field (all field m))
 
     all-laid : map (laidOn (entriesSent full columns q)) (entriesSent true columns p) ≡ entriesSent true columns q

@@ -6,13 +6,13 @@ use Prim.Native.Nat.{ℕ, zero, suc, _+_, _/_, _%_, _<_, _≤_}
 use native.Mathlib.Nat.{mod-lt, div-lt-iff-lt-mul}
 use native.Mathlib.Omega.{arith}
 use borrow.Author.Tests.{lt-ltb}
-use lib.ListN.{length, getD}
+use lib.ListN.{getD}
 use Rattle.words.specs.Lists.{every}
 use Rattle.words.proofs.Choosing.{both-hold, first-holds, second-decides}
 use Rattle.words.proofs.Elements.{every-by-each, every-map, selected-all, selected-none, selected-from}
 use Rattle.words.proofs.Passing.{every-take, every-drop}
 use Rattle.page.specs.Marks.{isModified, validCharacter, unprotected}
-use Rattle.page.specs.Page.{Page}
+use Rattle.page.specs.Page.{Page, cells}
 use Rattle.places.specs.Places.{placeOf}
 use Rattle.fields.specs.Fields.{Field}
 use Rattle.blocks.specs.Blocks.{encode, entryOf, someModified, isInBlock, entriesSent, block}
@@ -23,7 +23,7 @@ use Rattle.blocks.proofs.Listing.{Listed, listed, field-bounds, field-u
 
 -- A field of a page's list.
 abbrev pub ListedOn : ℕ → Page → Field → Type 0
-ListedOn columns page field = Listed (unprotected (page .marks)) columns (length (page .marks)) field
+ListedOn columns page field = Listed (unprotected (page .marks)) columns (cells page) field
 
 module _ (columns : ℕ) (page : Page) (sendable : Sendable columns page) where
   valid-entry : (field : Field) → ListedOn columns page field → validEntry (entryOf columns (page .characters) field) ≡ true

@@ -12,7 +12,7 @@ use Rattle.words.proofs.Choosing.{either-way}
 use Rattle.words.proofs.Walking.{next-element}
 use Rattle.words.proofs.Elements.{map-same, map-tells, place-passes, place-listed}
 use Rattle.page.specs.Marks.{unprotected}
-use Rattle.page.specs.Page.{Page}
+use Rattle.page.specs.Page.{Page, cells}
 use Rattle.places.specs.Places.{placeOf, cellAt}
 use Rattle.fields.specs.Fields.{Field}
 use Rattle.blocks.specs.Blocks.{Entry, entryOf, entriesSent, block}
@@ -28,7 +28,7 @@ fieldTold columns entry = record { start = cellAt columns (entry .row) (entry .c
 
 -- The unprotected cells of a page, in order.
 abbrev unprotectedOn : Page → List ℕ
-unprotectedOn page = numbersFrom (unprotected (page .marks)) 0 (length (page .marks))
+unprotectedOn page = numbersFrom (unprotected (page .marks)) 0 (cells page)
 
 -- A part of a list, by its places.
 part-is : (list : List ℕ) (n i : ℕ) → i + n ≤ length list → take n (drop i list) ≡ map (λ k. getD list k 0) (numbersFrom (λ _. true) i n)
@@ -45,7 +45,7 @@ characters-told columns characters (field ∷ fields) h =
     rw (map-append, part-is characters (field .length) (field .start) (h field (List·Memᴰ·head refl)), characters-told columns characters fields (λ f m. h f (List·Memᴰ·tail m)))
 
 -- The fields and the characters of a page, from its entries.
-module _ (columns : ℕ) (page : Page) (whole : Whole page) where
+module _ (columns : ℕ) (page : Page) where
   field-told : (field : Field) → ListedOn columns page field → fieldTold columns (entryOf columns (page .characters) field) ≡ field
   unfolding fieldTold entryOf placeOf
   field-told field is =
@@ -64,7 +64,7 @@ module _ (columns : ℕ) (page : Page) (whole : Whole page) where
 
   cells-told : flatMap (λ (entry : Entry). entry .characters) (entriesSent true columns page) ≡ map (λ k. getD (page .characters) k 0) (unprotectedOn page)
   cells-told =
-      rw (all-sent columns page, unprotected-cells (unprotected (page .marks)) columns (length (page .marks)))
+      rw (all-sent columns page, unprotected-cells (unprotected (page .marks)) columns (cells page))
       (characters-told columns (page .characters) (fieldsOn columns page) (λ field m. omega (arith, field-bounds _ _ _ field (listed _ _ _ field m))))
 
 -- Two tests that list the same places agree on these.
@@ -76,12 +76,9 @@ same-places a b n m k e h l =
     either-way (a k) (λ t. t ∙ sym (passes-too a b n m k e h t)) (λ f. either-way (b k) (λ t. passes-too b a m n k (sym e) l t ∙ sym t) (λ g. f ∙ sym g))
 
 module _ (columns : ℕ) (p q : Page) (size : SameSize p q) (whole-p : Whole p) where
-  whole-q : Whole q
-  whole-q = omega arith
-
   module _ (same : entriesSent true columns p ≡ entriesSent true columns q) where
     same-fields : fieldsOn columns p ≡ fieldsOn columns q
-    same-fields = sym (fields-told columns p whole-p) ∙ ap (map (fieldTold columns)) same ∙ fields-told columns q whole-q
+    same-fields = sym (fields-told columns p) ∙ ap (map (fieldTold columns)) same ∙ fields-told columns q
 
     same-unprotected-cells : unprotectedOn p ≡ unprotectedOn q
     same-unprotected-cells = unprotected-cells _ columns _ ∙ ap (flatMap cellsOf) same-fields ∙ sym (unprotected-cells _ columns _)
@@ -89,14 +86,14 @@ module _ (columns : ℕ) (p q : Page) (size : SameSize p q) (whole-p : Whole p) 
     same-characters : map (λ k. getD (p .characters) k 0) (unprotectedOn q) ≡ map (λ k. getD (q .characters) k 0) (unprotectedOn q)
     same-characters =
         ap (map (λ k. getD (p .characters) k 0)) (sym same-unprotected-cells)
-        ∙ sym (cells-told columns p whole-p) ∙ ap (flatMap (λ (entry : Entry). entry .characters)) same ∙ cells-told columns q whole-q
+        ∙ sym (cells-told columns p) ∙ ap (flatMap (λ (entry : Entry). entry .characters)) same ∙ cells-told columns q
 
     filled-alike : FilledAlike columns p q
     filled-alike =
         record {
           entries = same;
           fields = same-fields;
-          form = record { size = size; unprotected-cells = λ k h. same-places (unprotected (p .marks)) (unprotected (q .marks)) _ _ k same-unprotected-cells (omega arith) h };
+          form = record { size = size; unprotected-cells = λ k h. same-places (unprotected (p .marks)) (unprotected (q .marks)) _ _ k same-unprotected-cells (omega arith) (omega arith) };
           characters = λ k h f. map-tells _ _ k (unprotectedOn q) same-characters (place-listed (unprotected (q .marks)) k 0 _ (omega arith) (omega arith) f);
         }
 

@@ -5,7 +5,7 @@ use mathlib.Core.List.{List, [], _∷_, _++_}
 use Prim.Native.Nat.{ℕ, _*_, _≤_}
 use lib.ListN.{length}
 use Rattle.words.specs.Lists.{every}
-use Rattle.page.specs.Page.{Page}
+use Rattle.page.specs.Page.{Page, cells}
 use Rattle.blocks.specs.Blocks.{Entry, encode, entriesSent, block}
 use Rattle.blocks.specs.Decode.{decode, validEntry}
 use Rattle.blocks.specs.Lay.{lay}
@@ -52,7 +52,7 @@ pub nothing-modified : (columns : ℕ) (page : Page) → NothingModified page �
 nothing-modified = Pages.nothing-sent
 
 -- No block of a page of up to 48 rows and 160 columns has more than 35,185 bytes,
-pub longest-block : (full : Bool) (rows columns : ℕ) (page : Page) → rows ≤ 48 → columns ≤ 160 → length (page .marks) ≡ rows * columns → Whole page → length (block full columns page) ≤ 35185
+pub longest-block : (full : Bool) (rows columns : ℕ) (page : Page) → rows ≤ 48 → columns ≤ 160 → cells page ≡ rows * columns → length (block full columns page) ≤ 35185
 longest-block = Bound.bounded
 
 -- and one has as many: 48 rows, each with a field in columns 1 and 2 and one in each even column after them.

@@ -10,12 +10,12 @@ use Rattle.words.specs.Lists.{numbersFrom, selected}
 use Rattle.words.proofs.Elements.{run-length}
 use Rattle.words.proofs.Choosing.{either-line, either-way}
 use Rattle.page.specs.Marks.{unprotected}
-use Rattle.page.specs.Page.{Page}
+use Rattle.page.specs.Page.{Page, cells}
 use Rattle.places.specs.Places.{placeOf}
 use Rattle.fields.specs.Fields.{startsField, Field, fieldsFrom, fieldsOf}
 use Rattle.output.specs.Decimal.{decimal, placeBytes}
 use Rattle.blocks.specs.Blocks.{Entry, entryBytes, encode, entryOf, isInBlock, entriesSent, block}
-use Rattle.blocks.proofs.Claims.{Whole, fieldsOn}
+use Rattle.blocks.proofs.Claims.{fieldsOn}
 use Rattle.blocks.proofs.Listing.{listed, field-bounds, cellsOf, unprotected-cells}
 use Rattle.blocks.proofs.Pages.{all-sent}
 
@@ -98,19 +98,18 @@ fewer-no-longer entry chosen (field ∷ fields) =
     (λ _. omega (arith, first (encode (map entry (selected chosen fields))), first (encode (map entry fields))))
     (λ _. omega (arith, first (encode (map entry fields))))
 
-pub block-length : (columns : ℕ) (page : Page) → Whole page → length (block true columns page) ≡ 1 + total (weight (unprotected (page .marks)) columns) 0 (length (page .marks))
+pub block-length : (columns : ℕ) (page : Page) → length (block true columns page) ≡ 1 + total (weight (unprotected (page .marks)) columns) 0 (cells page)
 unfolding block weight fieldsOf
-block-length columns page whole =
+block-length columns page =
     let isUnprotected = unprotected (page .marks) in
-    let cells = length (page .marks) in
     omega (
       arith,
       ap (λ (entries : List Entry). length (encode entries)) (all-sent columns page),
       encode-length columns (page .characters) (fieldsOn columns page) (λ field m. omega (arith, field-bounds _ _ _ field (listed _ _ _ field m))),
-      openings-total isUnprotected columns cells cells 0,
-      ap length (unprotected-cells isUnprotected columns cells),
-      places-total isUnprotected cells 0,
-      total-sum (λ k. if startsField isUnprotected (placeOf columns k) then opening columns k else 0) (λ k. if isUnprotected k then 1 else 0) 0 cells,
+      openings-total isUnprotected columns (cells page) (cells page) 0,
+      ap length (unprotected-cells isUnprotected columns (cells page)),
+      places-total isUnprotected (cells page) 0,
+      total-sum (λ k. if startsField isUnprotected (placeOf columns k) then opening columns k else 0) (λ k. if isUnprotected k then 1 else 0) 0 (cells page),
     )
 
 -- No block is longer than the full one.

@@ -9,7 +9,7 @@ use Rattle.words.specs.Choice.{if_then_else_, _and_, _or_}
 use Rattle.words.specs.Lists.{selected}
 use Rattle.words.specs.Output.{placed}
 use Rattle.page.specs.Marks.{isModified, unprotected}
-use Rattle.page.specs.Page.{Page, modifiedCleared}
+use Rattle.page.specs.Page.{Page, cells, modifiedCleared}
 use Rattle.places.specs.Places.{placeOf}
 use Rattle.output.specs.Decimal.{placeBytes}
 use Rattle.fields.specs.Fields.{Field, startsField, fieldFrom, fieldsOf}
@@ -56,7 +56,7 @@ isInBlock full marks field = full or someModified marks (field .start) (field .l
 unfoldable pub entriesSent : Bool → ℕ → Page → List Entry
 entriesSent full columns page =
     map (entryOf columns (page .characters))
-    (selected (isInBlock full (page .marks)) (fieldsOf (unprotected (page .marks)) columns (length (page .marks))))
+    (selected (isInBlock full (page .marks)) (fieldsOf (unprotected (page .marks)) columns (cells page)))
 
 unfoldable pub block : Bool → ℕ → Page → List ℕ
 block full columns page = encode (entriesSent full columns page)
@@ -65,7 +65,7 @@ block full columns page = encode (entriesSent full columns page)
 -- (The code goes by this; no rule does.)
 unfoldable pub bytesAt : Bool → ℕ → Page → ℕ → List ℕ
 bytesAt full columns page cell =
-    let field = fieldFrom (unprotected (page .marks)) columns (length (page .marks)) cell in
+    let field = fieldFrom (unprotected (page .marks)) columns (cells page) cell in
     if startsField (unprotected (page .marks)) (placeOf columns cell) and isInBlock full (page .marks) field then
     entryBytes (entryOf columns (page .characters) field)
     else []

@@ -140,7 +140,7 @@ fn put_block(
 {
     let mut next = at;
     let mut place = Place::first(columns);
-    while place.cell < marks.len() {
+    while place.cell < characters.len() {
         next = put_at(out, next, characters, marks, place, columns, full);
         place = place.next(columns);
     }

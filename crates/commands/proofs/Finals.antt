@@ -5,10 +5,11 @@ use mathlib.Core.List.{List}
 use Prim.Native.Nat.{ℕ, _+_, _<_, _≤_}
 use borrow.Author.Tests.{ne-eqb, lt-ltb, le-ltb}
 use lib.Dec.{ltb}
-use lib.ListN.{length, take}
+use lib.ListN.{take}
 use Rattle.words.specs.Choice.{if_then_else_, _and_, _or_, _is_to_}
 use Rattle.words.proofs.Choosing.{then-case, else-case}
 use Rattle.sequence.specs.declared.HalfRead.{HalfRead}
+use Rattle.page.specs.Page.{cells}
 use Rattle.steps.specs.Steps.{Terminal, refusing, rowStart}
 use Rattle.table.specs.Table.{allowed, valueOf}
 use Rattle.table.specs.Moves.{isMove, moveStep}
@@ -32,7 +33,7 @@ module _ (final what : ℕ) (arguments : List ℕ) (count : ℕ) (t : Terminal) 
   unfolding listedStep isMove if_then_else_ _and_ _or_ _is_to_
   final-W e = rw (given, e)
 
-  pub final-J : final ≡ 0x4A → listedStep final arguments count t ≡ erasePart what 0 (length (t .page .marks)) t
+  pub final-J : final ≡ 0x4A → listedStep final arguments count t ≡ erasePart what 0 (cells (t .page)) t
   unfolding listedStep isMove if_then_else_ _and_ _or_ _is_to_
   final-J e = rw (given, e)
 

@@ -1,5 +1,5 @@
 -- No transmission of a host byte exceeds the longest block: 35,185 bytes.
-use mathlib.Core.Path.{_≡_, sym, ap, _∙_}
+use mathlib.Core.Path.{_≡_, ap}
 use mathlib.Core.Bool.{Bool, true}
 use mathlib.Core.List.{List, []}
 use Prim.Native.Nat.{ℕ, _≤_}
@@ -37,7 +37,7 @@ pub block-short : (t : Terminal) → sizeFits (t .state .size) (t .page) ≡ tru
 block-short t fits full =
     let size = sized (t .state .size) (t .page) fits in
     let bounds = size-bounds (t .state .size) (size .listed) in
-    longest-block full (t .state .size .rows) (t .state .size .columns) (t .page) (bounds .rows-most) (bounds .columns-most) (size .marks) (size .characters ∙ sym (size .marks))
+    longest-block full (t .state .size .rows) (t .state .size .columns) (t .page) (bounds .rows-most) (bounds .columns-most) (size .characters)
 
 full-short : (t : Terminal) → sizeFits (t .state .size) (t .page) ≡ true → Short (sendBlock true t)
 unfolding sendBlock blockTransmission bytesOf

@@ -16,7 +16,7 @@ use Rattle.sequence.specs.declared.Event.the-variants.{Nothing, Text, Control, 
 use Rattle.sequence.specs.Reading.{advanceOf}
 use Rattle.sequence.proofs.Keeping.{advance-keeps}
 use Rattle.page.specs.Marks.{validCharacter}
-use Rattle.page.specs.Page.{Page}
+use Rattle.page.specs.Page.{Page, cells}
 use Rattle.blocks.specs.Blocks.{block}
 use Rattle.blocks.proofs.Claims.{IsReport}
 use Rattle.blocks.proofs.Finding.{ready-is-report, cursor-is-report}
@@ -103,7 +103,7 @@ module _ (Asked : Type 0) (t : Terminal) (valid : Valid t) where
   cursor : OnPage (t .state)
   cursor = on-page (t .state) (page-size .listed) (valid .state)
 
-  same-lengths : length (t .page .marks) ≡ length (t .page .characters)
+  same-lengths : length (t .page .marks) ≡ cells (t .page)
   same-lengths = let size = page-size in omega arith
 
   row-fits : t .state .size .columns ≤ length (t .page .characters)
@@ -145,7 +145,7 @@ module _ (Asked : Type 0) (t : Terminal) (valid : Valid t) where
   unfolding freshStep
   fresh-holds =
       puts all-cells (record { size = refl; valid = fresh-valid (t .state .size) (page-size .listed) })
-      (blank-stored (t .page) (valid .page))
+      (blank-stored (t .page) (valid .page) same-lengths)
 
   esc-holds : (byte : ℕ) → (byte ≡ 0x53 → Asked) → Holds (escStep byte t)
   unfolding escStep nextLine
@@ -253,7 +253,7 @@ module _ (Asked : Type 0) (t : Terminal) (valid : Valid t) where
       let n = valueOf final arguments 0 in
       line (λ _. move-holds final arguments)
       (line (λ _. tab-control-holds n)
-      (line (λ _. erase-part-holds n 0 (length (t .page .marks)) (omega arith) (cursor-on-page t valid) (omega arith))
+      (line (λ _. erase-part-holds n 0 (cells (t .page)) (omega arith) (rw (← same-lengths) (cursor-on-page t valid)) (rw same-lengths (omega arith)))
       (line (λ _. row-erased-holds n)
       (line (λ _. rendition-holds (take count arguments))
       (line (λ _. mode-holds true (take count arguments))

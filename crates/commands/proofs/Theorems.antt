@@ -9,7 +9,7 @@ use lib.Dec.{ltb}
 use lib.ListN.{length}
 use Rattle.words.specs.Choice.{if_then_else_}
 use Rattle.words.proofs.Elements.{place-passes, place-listed, run-length}
-use Rattle.page.specs.Page.{Page, erasable, cellsErased}
+use Rattle.page.specs.Page.{Page, cells, erasable, cellsErased}
 use Rattle.blocks.proofs.Claims.{IsReport}
 use Rattle.state.specs.declared.State.{State}
 use Rattle.state.specs.Moves.{toMargin}
@@ -95,7 +95,7 @@ module _ (t : Terminal) where
   -- R x C for a scroll, which is at the last row or at the first, and for ESC c.
   module _ (valid : Valid t) where
     page-count : length (allCells (t .page)) ≡ t .state .size .rows * t .state .size .columns
-    page-count = run-length 0 (length (t .page .marks)) ∙ sized (t .state .size) (t .page) (valid .size) .marks
+    page-count = run-length 0 (cells (t .page)) ∙ sized (t .state .size) (t .page) (valid .size) .characters
 
     pub line-down-count : counted (lineDown t) ≡ (if ltb (t .state .cursor .row) (t .state .size .rows) then 0 else t .state .size .rows * t .state .size .columns)
     unfolding lineDown

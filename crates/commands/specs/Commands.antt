@@ -7,7 +7,7 @@ use lib.Dec.{ltb, eqb}
 use lib.ListN.{length, take, replicate}
 use Rattle.words.specs.Choice.{if_then_else_}
 use Rattle.sequence.specs.declared.HalfRead.{HalfRead}
-use Rattle.page.specs.Page.{pageOf, erased, cellsErased}
+use Rattle.page.specs.Page.{pageOf, cells, erased, cellsErased}
 use Rattle.state.specs.State.{freshState, inputDisabled, inputEnabled}
 use Rattle.state.specs.Tabs.{stopSet}
 use Rattle.state.specs.Pen.{penProtected, penUnprotected, withPen}
@@ -60,7 +60,7 @@ listedStep final arguments count t =
     let first = valueOf final arguments 0 in
     if isMove final then moveStep final arguments t
     else if eqb final (code "W") then tabControl first t  -- CTC
-    else if eqb final (code "J") then erasePart first 0 (length (t .page .marks)) t  -- ED
+    else if eqb final (code "J") then erasePart first 0 (cells (t .page)) t  -- ED
     else if eqb final (code "K") then
     erasePart first (rowStart (t .state)) (rowStart (t .state) + t .state .size .columns) t  -- EL
     else if eqb final (code "m") then rendition (take count arguments) t  -- SGR

@@ -36,7 +36,7 @@ fn line_down(state: State, characters: &mut [u8], marks: &mut [Mark]) -> Step
     if state.cursor.row < state.size.rows {
         return steps::quiet(state.down_by(1));
     }
-    let cells = marks.len();
+    let cells = characters.len();
     page::scroll_up(characters, marks, state.size.columns);
     steps::stored(state, cells, true)
 }
@@ -51,7 +51,7 @@ fn line_up(state: State, characters: &mut [u8], marks: &mut [Mark]) -> Step
     if 1 < state.cursor.row {
         return steps::quiet(state.up_by(1));
     }
-    let cells = marks.len();
+    let cells = characters.len();
     page::scroll_down(characters, marks, state.size.columns);
     steps::stored(state, cells, true)
 }
@@ -63,7 +63,7 @@ fn fresh(state: State, characters: &mut [u8], marks: &mut [Mark]) -> Step
         told r (pageOf (now (characters .exit)) (now (marks .exit)))
         ≡ tells (freshStep (terminalOf state (now (characters .entry)) (now (marks .entry)))) ⌝ }
 {
-    let cells = marks.len();
+    let cells = characters.len();
     page::erase(characters, marks, 0, cells, true);
     steps::stored(State::fresh(state.size), cells, true)
 }
@@ -219,7 +219,7 @@ fn bracket_step(
         return table::moves::move_command(state, letter, arguments);
     }
     let what = table::value(letter, arguments, 0);
-    let cells = marks.len();
+    let cells = characters.len();
     match letter {
         b'W' => table::settings::tab_control(state, what), // CTC
         b'J' => erase_part(state, characters, marks, what, 0, cells), // ED

@@ -7,7 +7,6 @@ use mathlib.Core.Logic.{_⊎_, inl, inr}
 use Prim.Native.Nat.{ℕ, _<_, _≤_}
 use native.Mathlib.Omega.{arith}
 use borrow.Author.Tests.{eqb-true}
-use lib.ListN.{length}
 use lib.Seq.{getD-set-other}
 use Rattle.words.specs.Choice.{if_then_else_}
 use Rattle.words.proofs.Choosing.{not-both, either-line}
@@ -26,9 +25,8 @@ use Rattle.state.specs.Moves.{upBy, downBy, rightBy, leftBy}
 use Rattle.blocks.specs.Blocks.{block}
 use Rattle.steps.specs.Steps.{Terminal, Stepped, goesTo, stores, cursorCell}
 use Rattle.sending.specs.Sending.{sendBlock}
-use Rattle.steps.specs.Seen.{unprotectedAt}
 use Rattle.keys.specs.Keys.{isTyping, cellsFrom, goneTo, typedStep, toNextField, toPreviousField, toFirstUnprotected, fieldBlanked, restShifted, keyStep}
-use Rattle.steps.specs.Seen.{startHere, endHere}
+use Rattle.steps.specs.Seen.{cellsHere, unprotectedAt, startHere, endHere}
 use Rattle.steps.proofs.Transmissions.{silent-is-no-full, silent-is-no-changed, silent-is-no-report, told-full, told-changed, block-is-no-report}
 use Rattle.keys.proofs.Claims.{KeyStores, no-cell, typed-cell, whole-field, rest-of-field, KeyAlways}
 use Rattle.steps.specs.Claims.{ProtectedKept}
@@ -45,8 +43,8 @@ blockKey true = 267
 blockKey false = 266
 
 -- The cursor's field, in any state.
-pub field-unprotected : (t : Terminal) → unprotectedAt t (cursorCell (t .state)) ≡ true → UnprotectedAround (unprotectedAt t) (t .state .size .columns) (length (t .page .marks)) (cursorCell (t .state))
-field-unprotected t = unprotected-around (unprotectedAt t) (t .state .size .columns) (length (t .page .marks)) (cursorCell (t .state))
+pub field-unprotected : (t : Terminal) → unprotectedAt t (cursorCell (t .state)) ≡ true → UnprotectedAround (unprotectedAt t) (t .state .size .columns) (cellsHere t) (cursorCell (t .state))
+field-unprotected t = unprotected-around (unprotectedAt t) (t .state .size .columns) (cellsHere t) (cursorCell (t .state))
 
 module _ (key : ℕ) (t : Terminal) where
   abbrev Always : Stepped → Type 0

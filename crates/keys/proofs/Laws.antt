@@ -22,9 +22,8 @@ use Rattle.fields.proofs.Bounds.{start-of, end-of}
 use Rattle.steps.specs.declared.Step.{Step}
 use Rattle.steps.specs.Steps.{Terminal, Stepped, Valid, goesTo, stores, cursorCell}
 use Rattle.steps.specs.Told.{told, tells}
-use Rattle.steps.specs.Seen.{unprotectedAt}
 use Rattle.keys.specs.Keys.{noField, cellsFrom, ifUnprotected, restShifted}
-use Rattle.steps.specs.Seen.{startHere, endHere}
+use Rattle.steps.specs.Seen.{cellsHere, unprotectedAt, startHere, endHere}
 use Rattle.steps.proofs.Measuring.{measured}
 
 -- The cursor's place, as the code finds it on a valid terminal.
@@ -33,7 +32,7 @@ pub record Found (t : Terminal) (place : Place) : Type 0 where
   pub counted : Counted (t .state .size .columns) place
   pub inside : place .cell < length (t .page .marks)
   pub most : length (t .page .marks) ≤ 7680
-  pub as-many : length (t .page .marks) ≡ length (t .page .characters)
+  pub as-many : length (t .page .marks) ≡ cellsHere t
 
 pub found : {t : Terminal} {place : Place} → Valid t → place ≡ placeOf (t .state .size .columns) (cursorCell (t .state)) → Found t place
 found valid is =
@@ -63,15 +62,14 @@ stays t stepped told is quiet = rw (sym told ∙ not-true _ is) quiet
 -- The rest of the cursor's field stands on the page, the cursor's cell at least.
 pub record RestOnPage (t : Terminal) : Type 0 where
   pub some : cursorCell (t .state) < endHere t
-  pub on-page : endHere t ≤ length (t .page .characters)
-  pub as-many : length (t .page .marks) ≡ length (t .page .characters)
+  pub on-page : endHere t ≤ cellsHere t
+  pub as-many : length (t .page .marks) ≡ cellsHere t
 
 pub rest-on-page : {t : Terminal} → Valid t → RestOnPage t
 rest-on-page {t} valid =
     let known = measured valid in
-    let inside : cursorCell (t .state) < length (t .page .marks) = omega (arith, known .cursor-inside, known .as-many) in
-    let bounds = end-of (unprotected (t .page .marks)) (t .state .size .columns) (length (t .page .marks)) (cursorCell (t .state)) inside in
-    record { some = omega arith; on-page = omega (arith, known .as-many); as-many = known .as-many }
+    let bounds = end-of (unprotectedAt t) (t .state .size .columns) (cellsHere t) (cursorCell (t .state)) (known .cursor-inside) in
+    record { some = bounds .high; on-page = bounds .on-page; as-many = known .as-many }
 
 -- 264 and 265, whatever the change: it is made on the rest of the field, and these cells are counted.
 pub rest-shifted : (t : Terminal) (change : List ℕ → List ℕ) {step : Step} {page : Page} → unprotectedAt t (cursorCell (t .state)) ≡ true → ((cells : List ℕ) (page : Page) → length cells ≡ endHere t - cursorCell (t .state) → told step page ≡ tells (stores cells false (t .state) page)) → page ≡ partStored change (cursorCell (t .state)) (endHere t) (t .page) → told step page ≡ tells (restShifted change t)
@@ -91,10 +89,13 @@ module _ {t : Terminal} {place : Place} (here : Found t place) where
     pub start-is : start ≡ placeOf (t .state .size .columns) (startHere t)
     start-is = is ∙ ap (λ (cell : ℕ). placeOf (t .state .size .columns) (fieldStart (unprotected (t .page .marks)) (t .state .size .columns) cell)) (here .cell)
 
-  -- Its end.
+  -- Its end. The code asks the marks for it; the page has as many cells.
   module _ {end : ℕ} (is : end ≡ fieldEnd (unprotected (t .page .marks)) (t .state .size .columns) (length (t .page .marks)) (place .cell)) where
     pub end-is : end ≡ endHere t
-    end-is = is ∙ ap (fieldEnd (unprotected (t .page .marks)) (t .state .size .columns) (length (t .page .marks))) (here .cell)
+    end-is =
+        is
+        ∙ ap (λ (cells : ℕ). fieldEnd (unprotectedAt t) (t .state .size .columns) cells (place .cell)) (here .as-many)
+        ∙ ap (fieldEnd (unprotectedAt t) (t .state .size .columns) (cellsHere t)) (here .cell)
 
 -- A search of the fields, going round, finds nothing exactly where there is none.
 pub none-sought : (columns cell : ℕ) (fields : List Field) → nextField columns cell fields ≡ Nowhere → noField fields ≡ true

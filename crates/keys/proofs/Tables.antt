@@ -22,9 +22,8 @@ use Rattle.state.proofs.Keeping.{KeepsValid, up-keeps-valid, down-keeps-valid, 
 use Rattle.steps.specs.Steps.{Terminal, blockTransmission, Stepped, goesTo, stores, cursorCell, Valid}
 use Rattle.steps.specs.Claims.{markLeft}
 use Rattle.sending.specs.Sending.{sendBlock}
-use Rattle.steps.specs.Seen.{unprotectedAt}
 use Rattle.keys.specs.Keys.{isTyping, cellsFrom, goneTo, typedStep, toNextField, toPreviousField, toFirstUnprotected, fieldBlanked, restShifted, keyStep}
-use Rattle.steps.specs.Seen.{startHere, endHere}
+use Rattle.steps.specs.Seen.{cellsHere, unprotectedAt, startHere, endHere}
 use Rattle.steps.proofs.Naming.{named-between, places-rise}
 use Rattle.steps.proofs.Storing.{typed-stored, part-stored}
 use Rattle.steps.proofs.Soundness.{Sound, cursor-on-page, goes-soundly, stores-soundly, clears-soundly}
@@ -53,13 +52,13 @@ module _ (t : Terminal) (valid : Valid t) where
   on-page = cursor-on-page t valid
 
   end-on-page : endHere t ≤ length (t .page .marks)
-  end-on-page = end-of (unprotectedAt t) (t .state .size .columns) (length (t .page .marks)) (cursorCell (t .state)) on-page .on-page
+  end-on-page = rw (size .as-many) (end-of (unprotectedAt t) (t .state .size .columns) (cellsHere t) (cursorCell (t .state)) (size .cursor-inside) .on-page)
 
   -- The cursor stays on the page.
   stays : KeepsValid (t .state) (t .state)
   stays = record { size = refl; valid = valid .state }
 
-  gone-keeps-valid : {sought : Sought} → Lands (t .state .size .columns) (length (t .page .marks)) sought → KeepsValid (t .state) (goneTo sought (t .state))
+  gone-keeps-valid : {sought : Sought} → Lands (t .state .size .columns) (cellsHere t) sought → KeepsValid (t .state) (goneTo sought (t .state))
   unfolding goneTo placeOf
   gone-keeps-valid (on-cell cell here) =
       let known = size in
@@ -71,7 +70,7 @@ module _ (t : Terminal) (valid : Valid t) where
   goes : (s : State) → KeepsValid (t .state) s → Holds (goesTo s t)
   goes s keeps = (goes-soundly t valid s keeps, λ cell named. absurd (List·Memᴰ·not-nil named))
 
-  goes-to : {sought : Sought} → Lands (t .state .size .columns) (length (t .page .marks)) sought → Holds (goesTo (goneTo sought (t .state)) t)
+  goes-to : {sought : Sought} → Lands (t .state .size .columns) (cellsHere t) sought → Holds (goesTo (goneTo sought (t .state)) t)
   goes-to {sought} lands = goes (goneTo sought (t .state)) (gone-keeps-valid lands)
 
   clears : (full : Bool) → Holds (sendBlock full t)
@@ -83,7 +82,7 @@ module _ (t : Terminal) (valid : Valid t) where
   typed-holds key typing =
       line (λ here.
       let cursor = cursorCell (t .state) in (
-        stores-soundly t valid _ false _ _ (gone-keeps-valid (next-unprotected-lands (unprotectedAt t) (t .state .size .columns) (length (t .page .marks)) cursor on-page)) (typed-stored (t .page) (valid .page) cursor key on-page typing),
+        stores-soundly t valid _ false _ _ (gone-keeps-valid (next-unprotected-lands (unprotectedAt t) (t .state .size .columns) (cellsHere t) cursor (size .cursor-inside))) (typed-stored (t .page) (valid .page) cursor key on-page typing),
         λ cell named. let same = List·Memᴰ·eq-of-singleton named in (rw same here, rw same (typed-modified (t .page) cursor key on-page)),
       ))
       (goes (t .state) stays)
@@ -102,6 +101,7 @@ module _ (t : Terminal) (valid : Valid t) where
       line (λ here.
       let field = field-unprotected t here in
       let end = end-on-page in
+      let known = size in
       part-holds blanked-keeps (startHere t) (endHere t) (omega arith) end (field .all-unprotected) _ (gone-keeps-valid (on-cell (startHere t) (omega arith))))
       (goes (t .state) stays)
 
@@ -119,8 +119,8 @@ module _ (t : Terminal) (valid : Valid t) where
       let s = t .state in
       let ok = valid .state in
       let columns = s .size .columns in
-      let cells = length (t .page .marks) in
-      let here = on-page in
+      let cells = cellsHere t in
+      let here = size .cursor-inside in
       line (typed-holds key)
       (line (λ _. goes _ (up-keeps-valid s ok 1))
       (line (λ _. goes _ (down-keeps-valid s ok 1))

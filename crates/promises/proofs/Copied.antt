@@ -18,7 +18,7 @@ use Rattle.promises.specs.Rules.{Rules, stepOf}
 use Rattle.promises.specs.Copying.{blockIn, blocksSent, standings, copies}
 use Rattle.promises.proofs.Laws.{StepLaw, TagLaw, StepLaws}
 use Rattle.promises.specs.Further.{CopyingSteps}
-use Rattle.promises.proofs.Keeping.{sendable, leaves, was-on-page, same-form, same-full-block}
+use Rattle.promises.proofs.Keeping.{sendable, leaves, was-on-page, had-mark, same-form, same-full-block}
 use Rattle.promises.proofs.Following.{Follow, no-more, one-more, follow}
 
 -- The copy is the full block of an earlier page of the same form; a cell that is not modified still has that page's
@@ -56,9 +56,9 @@ module _ (copy : List ℕ) (t : Terminal) (valid : Valid t) (step : Stepped) (la
     was-sendable = rw (law .size) (copied .was-sendable);
     form = form-then (copied .form) (same-form t valid step law (tag .protection));
     kept = λ cell here cell-unprotected unmodified.
-        let on-page = was-on-page t valid step law cell here in
-        let stays = law .touches cell on-page (λ named. not-both (tag .tags cell named) unmodified) in
-        copied .kept cell on-page (sym (tag .protection cell on-page) ∙ cell-unprotected) (sym (ap isModified (stays .mark ∙ keeps _)) ∙ unmodified)
+        let marked = had-mark t valid step law cell here in
+        let stays = law .touches cell marked (λ named. not-both (tag .tags cell named) unmodified) in
+        copied .kept cell (was-on-page t valid step law cell here) (sym (tag .protection cell marked) ∙ cell-unprotected) (sym (ap isModified (stays .mark ∙ keeps _)) ∙ unmodified)
         ∙ sym (stays .character);
   }
 

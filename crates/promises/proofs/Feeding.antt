@@ -8,7 +8,7 @@ use native.Mathlib.Omega.{arith}
 use lib.ListN.{length, getD, List·getD-eq-default}
 use Rattle.words.proofs.Choosing.{not-both, either-way, less-or-not}
 use Rattle.page.specs.Marks.{isProtected, unprotected}
-use Rattle.page.specs.Page.{Page}
+use Rattle.page.specs.Page.{Page, cells}
 use Rattle.fields.proofs.Theorems.{all-fields-listed}
 use Rattle.blocks.specs.Blocks.{block, encode}
 use Rattle.blocks.proofs.Claims.{fieldsOn}
@@ -33,7 +33,7 @@ use Rattle.promises.proofs.FeedingFields.{fields-feed}
 record Fed (sender receiver : Terminal) (bytes : List ℕ) : Type 0 where
   end : Terminal
   leads : Leads receiver bytes end
-  filled : (cell : ℕ) → cell < length (sender .page .marks) → unprotected (sender .page .marks) cell ≡ true → Filled (sender .page) (end .page) cell
+  filled : (cell : ℕ) → cell < cells (sender .page) → unprotected (sender .page .marks) cell ≡ true → Filled (sender .page) (end .page) cell
   kept : (cell : ℕ) → unprotected (sender .page .marks) cell ≡ false → Kept (receiver .page) (end .page) cell
 
 module _ (sender : Terminal) (valid : Valid sender) where
@@ -41,7 +41,7 @@ module _ (sender : Terminal) (valid : Valid sender) where
   unfolding block
   fed receiver receives =
       let columns = sender .state .size .columns in
-      let lists = all-fields-listed (unprotected (sender .page .marks)) columns (length (sender .page .marks)) (measured valid .some-columns) in
+      let lists = all-fields-listed (unprotected (sender .page .marks)) columns (cells (sender .page)) (measured valid .some-columns) in
       let feeds =
       fields-feed sender valid (fieldsOn columns (sender .page)) (lists .only-fields) receiver
       (record { valid = receives .valid; size = receives .size; nothing-half-read = receives .nothing-half-read; unprotected-pen = receives .unprotected-pen }) in
@@ -78,23 +78,22 @@ module _ (sender receiver : Terminal) (asks : Input) (bytes : List ℕ) (cut : L
   end-valid : Valid (reached .end)
   end-valid = leads-validly (reached .leads) (receives .valid)
 
-  as-many-marks : length (reached .end .page .marks) ≡ length (sender .page .marks)
-  as-many-marks =
-      measured end-valid .all-cells
-      ∙ ap (λ (size : Size). size .rows * size .columns) (leads-sized (reached .leads) (receives .valid) ∙ receives .size)
-      ∙ sym (measured valid .all-cells)
+  as-many : cells (reached .end .page) ≡ cells (sender .page)
+  as-many =
+      let same-size = ap (λ (size : Size). size .rows * size .columns) (leads-sized (reached .leads) (receives .valid) ∙ receives .size) in
+      omega (arith, same-size, measured end-valid .all-cells, measured end-valid .as-many, measured valid .all-cells, measured valid .as-many)
 
   fed-characters : (cell : ℕ) → unprotectedAt sender cell ≡ true → getD (left .characters) cell 0 ≡ getD (sender .page .characters) cell 0
   fed-characters cell is-unprotected =
       left-character cell
-      ∙ less-or-not cell (length (sender .page .marks))
+      ∙ less-or-not cell (cells (sender .page))
       (λ here. reached .filled cell here is-unprotected .character)
       (λ past.
-      List·getD-eq-default (reached .end .page .characters) 0 (omega (arith, as-many-marks, measured end-valid .as-many))
-      ∙ sym (List·getD-eq-default (sender .page .characters) 0 (omega (arith, measured valid .as-many))))
+      List·getD-eq-default (reached .end .page .characters) 0 (omega (arith, as-many))
+      ∙ sym (List·getD-eq-default (sender .page .characters) 0 past))
 
   -- Since the pen is unprotected, and the two were protected at the same places, they are so still.
-  end-protection : (cell : ℕ) → cell < length (sender .page .marks) → unprotected (reached .end .page .marks) cell ≡ unprotected (sender .page .marks) cell
+  end-protection : (cell : ℕ) → cell < cells (sender .page) → unprotected (reached .end .page .marks) cell ≡ unprotected (sender .page .marks) cell
   unfolding unprotected
   end-protection cell here =
       either-way (unprotected (sender .page .marks) cell)
@@ -104,9 +103,9 @@ module _ (sender receiver : Terminal) (asks : Input) (bytes : List ℕ) (cut : L
   fed-protection : (cell : ℕ) → unprotected (left .marks) cell ≡ unprotected (sender .page .marks) cell
   fed-protection cell =
       ap (λ (t : Terminal). unprotected (t .page .marks) cell) (through .terminal)
-      ∙ less-or-not cell (length (sender .page .marks))
+      ∙ less-or-not cell (cells (sender .page))
       (λ here. end-protection cell here)
-      (λ past. past-unprotected (reached .end .page .marks) cell (omega (arith, as-many-marks)) ∙ sym (past-unprotected (sender .page .marks) cell past))
+      (λ past. past-unprotected (reached .end .page .marks) cell (omega (arith, as-many, measured end-valid .as-many)) ∙ sym (past-unprotected (sender .page .marks) cell (omega (arith, measured valid .as-many))))
 
   is-fed-back : FedBack ourRules ourEntries sender receiver bytes cut
   is-fed-back = record {

@@ -4,13 +4,13 @@ use mathlib.Core.List.{List, [], _∷_, map, List·Memᴰ, List·Memᴰ·head, L
 use mathlib.Core.Logic.{inl, inr, ⊎-elim}
 use Prim.Native.Nat.{ℕ, _+_, _-_, _*_, _/_, _%_, _<_, _≤_}
 use native.Mathlib.Omega.{arith}
-use lib.ListN.{length}
 use Rattle.words.specs.Choice.{if_then_else_, _and_, _or_, _is_to_}
 use Rattle.sequence.specs.declared.HalfRead.{HalfRead}
 use Rattle.sequence.specs.declared.Event.the-variants.{Nothing}
 use Rattle.sequence.specs.Record.{nothingRead}
 use Rattle.sequence.specs.Reading.{ends, isControl, outsideSequence, advanceOf}
 use Rattle.page.specs.Marks.{unprotected}
+use Rattle.page.specs.Page.{cells}
 use Rattle.places.specs.declared.Place.{Place}
 use Rattle.places.specs.Places.{placeOf, cellAt}
 use Rattle.places.proofs.Counting.{cell-is, counted, spelt, on-rows}
@@ -63,7 +63,7 @@ right-place size cell some inside most =
 
 module _ (sender : Terminal) (valid : Valid sender) where
   -- The head of an entry puts the cursor at its field's first cell.
-  module _ (t : Terminal) (ready : Ready sender t) (cell : ℕ) (on-page : cell < length (sender .page .marks)) where
+  module _ (t : Terminal) (ready : Ready sender t) (cell : ℕ) (on-page : cell < cells (sender .page)) where
     abbrev here : Place
     here = placeOf (sender .state .size .columns) cell
 
@@ -74,7 +74,7 @@ module _ (sender : Terminal) (valid : Valid sender) where
     right =
         let known = measured valid in
         subst (λ (size : Size). RightPlace size cell here) (sym (ready .size))
-        (right-place (sender .state .size) cell (known .some-columns) (omega (arith, known .all-cells)) (omega (arith, known .most)))
+        (right-place (sender .state .size) cell (known .some-columns) (omega (arith, known .all-cells, known .as-many)) (omega (arith, known .most, known .as-many)))
 
     head-feeds : Feeds sender t (headBytes (here .row) (here .column)) there (λ _. ⊥)
     head-feeds =
@@ -86,7 +86,7 @@ module _ (sender : Terminal) (valid : Valid sender) where
 
   -- The sender's fields, and the cells that some of them have.
   abbrev pub SendersField : Field → Type 0
-  SendersField field = IsField (unprotected (sender .page .marks)) (sender .state .size .columns) (length (sender .page .marks)) field
+  SendersField field = IsField (unprotected (sender .page .marks)) (sender .state .size .columns) (cells (sender .page)) field
 
   abbrev pub SomeHas : List Field → ℕ → Type 0
   SomeHas fields cell = (field : Field) × List·Memᴰ field fields × (field has cell)
@@ -95,12 +95,12 @@ module _ (sender : Terminal) (valid : Valid sender) where
       → (end : Terminal) × Feeds sender t (entryBytes (entryOf (sender .state .size .columns) (sender .page .characters) field)) end (λ cell. field has cell)
   unfolding entryBytes entryOf
   entry-feeds field whole t ready =
-      let on-page : field .start < length (sender .page .marks) = omega (arith, whole .on-page, whole .some-cells) in
+      let on-page : field .start < cells (sender .page) = omega (arith, whole .on-page, whole .some-cells) in
       let head = head-feeds t ready (field .start) on-page in
       let text =
       text-feeds sender valid (field .length) (field .start) (there t ready (field .start) on-page) (ready-again ready head)
       (λ _. right t ready (field .start) on-page .cell-there)
-      (omega (arith, whole .on-page, measured valid .as-many)) in
+      (whole .on-page) in
       (text .0, feeds-then head (text .1) (λ _ fed. inr fed) (λ _ none. absurd none) (λ _ fed. fed))
 
   pub fields-feed : (fields : List Field) → ((field : Field) → List·Memᴰ field fields → SendersField field) → (t : Terminal) → Ready sender t

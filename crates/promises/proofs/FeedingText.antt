@@ -18,7 +18,7 @@ use Rattle.sequence.specs.declared.Event.the-variants.{Text}
 use Rattle.sequence.specs.Record.{nothingRead}
 use Rattle.sequence.specs.Reading.{ends, outsideSequence, advanceOf}
 use Rattle.page.specs.Marks.{isProtected, validCharacter, unprotected}
-use Rattle.page.specs.Page.{validPage, textStored}
+use Rattle.page.specs.Page.{cells, validPage, textStored}
 use Rattle.state.specs.declared.State.{State}
 use Rattle.steps.specs.Steps.{Terminal, cursorCell, Valid}
 use Rattle.state.specs.Moves.{toNextCell}
@@ -46,7 +46,7 @@ next-keeps s =
     let Same : State → Type 0 = λ next. (next .half ≡ s .half) × (next .modes ≡ s .modes) in
     either-line Same _ _ _ (λ _. (refl, refl)) (λ _. either-line Same _ _ _ (λ _. (refl, refl)) (λ _. (refl, refl)))
 
-next-cell : {t : Terminal} → Valid t → cursorCell (t .state) + 1 < length (t .page .marks) → cursorCell (toNextCell (t .state)) ≡ cursorCell (t .state) + 1
+next-cell : {t : Terminal} → Valid t → cursorCell (t .state) + 1 < cells (t .page) → cursorCell (toNextCell (t .state)) ≡ cursorCell (t .state) + 1
 unfolding toNextCell
 next-cell {t} valid more =
     let s = t .state in
@@ -119,7 +119,7 @@ module _ (sender : Terminal) (valid : Valid sender) where
     next-cursor : cell + 1 < length (sender .page .characters) → cursorCell (next .state) ≡ cell + 1
     unfolding textStep
     next-cursor more =
-        let more-cells : cursorCell (t .state) + 1 < length (t .page .marks) = omega (arith, same-lengths valid ready .1, measured (ready .valid) .as-many) in
+        let more-cells : cursorCell (t .state) + 1 < cells (t .page) = omega (arith, same-lengths valid ready .1) in
         next-cell (ready .valid) more-cells ∙ ap (λ (k : ℕ). k + 1) here
 
   first-character : (n cell : ℕ) → cell < length (sender .page .characters) → take (suc n) (drop cell (sender .page .characters)) ≡ characterAt cell ∷ take n (drop (cell + 1) (sender .page .characters))

@@ -9,7 +9,7 @@ use borrow.Author.Tests.{ne-eqb, not-true, not-false}
 use lib.ListN.{length, getD, List·getD-eq-default}
 use Rattle.words.proofs.Choosing.{not-both, less-or-not, both, then-case, else-case}
 use Rattle.page.specs.Marks.{isProtected, isModified, unprotected}
-use Rattle.page.specs.Page.{Page, validPage, markAfterBlock}
+use Rattle.page.specs.Page.{Page, cells, validPage, markAfterBlock}
 use Rattle.page.proofs.Keeping.{SameSize}
 use Rattle.blocks.specs.Blocks.{encode, entryOf, block}
 use Rattle.blocks.proofs.Claims.{Sendable, SameForm, NothingModified}
@@ -33,7 +33,7 @@ sendable {t} valid =
     record {
       some-columns = bounds .some-columns;
       columns-fit = bounds .columns-most;
-      rows-fit = omega (arith, size .marks);
+      rows-fit = omega (arith, size .characters);
       characters-valid = both (valid .page) .0;
     }
 
@@ -81,8 +81,12 @@ module _ (t : Terminal) (valid : Valid t) (step : Stepped) (law : StepLaw t step
       let is = sized (t .state .size) (step .terminal .page) (rw (law .size) at (law .valid .size)) in
       record { characters = is .characters ∙ sym (was .characters); marks = is .marks ∙ sym (was .marks) }
 
-  pub was-on-page : (cell : ℕ) → cell < length (step .terminal .page .marks) → cell < length (t .page .marks)
-  was-on-page cell here = omega (arith, same-size .marks)
+  pub was-on-page : (cell : ℕ) → cell < cells (step .terminal .page) → cell < cells (t .page)
+  was-on-page cell here = omega (arith, same-size .characters)
+
+  -- Each had its mark.
+  pub had-mark : (cell : ℕ) → cell < cells (step .terminal .page) → cell < length (t .page .marks)
+  had-mark cell here = omega (arith, was-on-page cell here, was .characters, was .marks)
 
   -- A protected cell that isn't named is kept.
   pub protected-kept : (cell : ℕ) → unprotectedAt t cell ≡ false → (List·Memᴰ cell (step .cells) → ⊥) → CellKept (t .page) (step .terminal .page) cell
@@ -91,7 +95,7 @@ module _ (t : Terminal) (valid : Valid t) (step : Stepped) (law : StepLaw t step
       record { character = stays .character; mark = stays .mark ∙ left-protected (step .transmission) (t .page .marks) cell protected }
 
   pub same-form : KeepsProtection (t .page) (step .terminal .page) → SameForm (t .page) (step .terminal .page)
-  same-form protection = record { size = same-size; unprotected-cells = λ cell here. sym (protection cell (was-on-page cell here)) }
+  same-form protection = record { size = same-size; unprotected-cells = λ cell here. sym (protection cell (omega (arith, same-size .marks))) }
 
   -- A step that names no cell.
   module _ (no-cell : step .cells ≡ []) where
@@ -113,6 +117,6 @@ module _ (t : Terminal) (valid : Valid t) (step : Stepped) (law : StepLaw t step
     pub nothing-modified : ((mark : ℕ) → markLeft (step .transmission) mark ≡ markAfterBlock mark) → NothingModified (step .terminal .page)
     unfolding unprotected
     nothing-modified clears cell here cell-unprotected =
-        let on-page = was-on-page cell here in
+        let on-page = had-mark cell here in
         ap isModified (all-stay cell on-page List·Memᴰ·not-nil .mark ∙ clears _)
         ∙ sent-unmodified (getD (t .page .marks) cell 0) (not-true _ (sym (names-none .protection cell on-page) ∙ cell-unprotected))

@@ -8,7 +8,7 @@ use native.Mathlib.Omega.{arith}
 use lib.ListN.{length, getD}
 use Rattle.words.proofs.Choosing.{not-both, either-way, second-decides, neither}
 use Rattle.page.specs.Marks.{isModified, unprotected}
-use Rattle.page.specs.Page.{Page, markAfterBlock}
+use Rattle.page.specs.Page.{Page, cells, markAfterBlock}
 use Rattle.blocks.specs.Blocks.{isInBlock, block}
 use Rattle.blocks.proofs.Pages.{none-modified}
 use Rattle.blocks.proofs.Laying.{unmodified}
@@ -18,14 +18,14 @@ use Rattle.promises.specs.Rules.{Rules, stepOf}
 use Rattle.promises.specs.Copying.{OmitsExactly, storedSince, OmissionHolds}
 use Rattle.promises.proofs.Laws.{StepLaw, TagLaw, StepLaws}
 use Rattle.promises.specs.Further.{OmissionSteps}
-use Rattle.promises.proofs.Keeping.{sendable, leaves, was-on-page, nothing-modified}
+use Rattle.promises.proofs.Keeping.{sendable, leaves, was-on-page, had-mark, nothing-modified}
 use Rattle.promises.proofs.Unsent.{is-field, omitted-unsent, unsent-omitted}
 use Rattle.promises.proofs.Following.{Follow, no-more, one-more, follow}
 
 -- A cell that was stored since the block before is modified, and every other unprotected cell is not.
 record Tracks (stored : List ℕ) (page : Page) : Type 0 where
-  stored-are : (cell : ℕ) → cell < length (page .marks) → List·Memᴰ cell stored → isModified (getD (page .marks) cell 0) ≡ true
-  others-are-not : (cell : ℕ) → cell < length (page .marks) → unprotected (page .marks) cell ≡ true → (List·Memᴰ cell stored → ⊥) → isModified (getD (page .marks) cell 0) ≡ false
+  stored-are : (cell : ℕ) → cell < cells page → List·Memᴰ cell stored → isModified (getD (page .marks) cell 0) ≡ true
+  others-are-not : (cell : ℕ) → cell < cells page → unprotected (page .marks) cell ≡ true → (List·Memᴰ cell stored → ⊥) → isModified (getD (page .marks) cell 0) ≡ false
 
 -- So a changed block sends just the fields with a cell that was stored.
 omits-exactly : (t : Terminal) → Valid t → (stored : List ℕ) → Tracks stored (t .page) → OmitsExactly (changedBlock (block false (t .state .size .columns) (t .page))) t stored
@@ -67,14 +67,17 @@ module _ (t : Terminal) (valid : Valid t) (step : Stepped) (law : StepLaw t step
         (List·Memᴰ·append-cases stored was-stored);
     others-are-not = λ cell here cell-unprotected unstored.
         stays cell here (λ named. unstored (Memᴰ·append-right stored named))
-        ∙ tracks .others-are-not cell (on-page cell here) (sym (tag .protection cell (on-page cell here)) ∙ cell-unprotected) (λ before. unstored (Memᴰ·append-left (step .cells) before));
+        ∙ tracks .others-are-not cell (on-page cell here) (sym (tag .protection cell (marked cell here)) ∙ cell-unprotected) (λ before. unstored (Memᴰ·append-left (step .cells) before));
   }
     where
-      on-page : (cell : ℕ) → cell < length (step .terminal .page .marks) → cell < length (t .page .marks)
+      on-page : (cell : ℕ) → cell < cells (step .terminal .page) → cell < cells (t .page)
       on-page = was-on-page t valid step law
 
-      stays : (cell : ℕ) → cell < length (step .terminal .page .marks) → (List·Memᴰ cell (step .cells) → ⊥) → isModified (getD (step .terminal .page .marks) cell 0) ≡ isModified (getD (t .page .marks) cell 0)
-      stays cell here unnamed = ap isModified (law .touches cell (on-page cell here) unnamed .mark ∙ keeps _)
+      marked : (cell : ℕ) → cell < cells (step .terminal .page) → cell < length (t .page .marks)
+      marked = had-mark t valid step law
+
+      stays : (cell : ℕ) → cell < cells (step .terminal .page) → (List·Memᴰ cell (step .cells) → ⊥) → isModified (getD (step .terminal .page .marks) cell 0) ≡ isModified (getD (t .page .marks) cell 0)
+      stays cell here unnamed = ap isModified (law .touches cell (marked cell here) unnamed .mark ∙ keeps _)
 
   omitted-on : (transmission : Transmission) → step .transmission ≡ transmission → OmitsExactly transmission t stored × Tracks (storedSince transmission stored (step .cells)) (step .terminal .page)
   unfolding OmitsExactly storedSince markLeft

@@ -8,7 +8,7 @@ use lib.ListN.{length, getD, List·getD-eq-default}
 use Rattle.words.specs.Choice.{if_then_else_}
 use Rattle.words.proofs.Choosing.{less-or-not}
 use Rattle.page.specs.Marks.{isModified}
-use Rattle.page.specs.Page.{markAfterBlock}
+use Rattle.page.specs.Page.{cells, markAfterBlock}
 use Rattle.steps.specs.Steps.{Terminal, Transmission, bytesOf, blockTransmission, Stepped, Valid}
 use Rattle.steps.specs.Claims.{markLeft, TouchesOnly}
 use Rattle.steps.proofs.Measuring.{measured}
@@ -61,20 +61,20 @@ module _ (rules : Rules) (laws : StepLaws rules) where
       let touches : TouchesOnly [] (step .transmission) (t .page) (step .terminal .page) = rw (sent .no-cell) at (law .touches) in
       let same = same-size t valid step law in
       let clears : (mark : ℕ) → markLeft (step .transmission) mark ≡ markAfterBlock mark = λ mark. leaves step sends mark ∙ block-clears full bytes mark in
-      let cells = measured valid .as-many in
+      let as-many = measured valid .as-many in
       record {
         characters = λ cell.
             less-or-not cell (length (t .page .marks))
             (λ here. touches cell here List·Memᴰ·not-nil .character)
-            (λ past. past-alike (step .terminal .page .characters) (t .page .characters) cell (omega (arith, same .characters, cells)) (omega (arith, cells)));
+            (λ past. past-alike (step .terminal .page .characters) (t .page .characters) cell (omega (arith, same .characters, as-many)) (omega (arith, as-many)));
         marks = λ cell.
             less-or-not cell (length (t .page .marks))
             (λ here. touches cell here List·Memᴰ·not-nil .mark ∙ clears (getD (t .page .marks) cell 0))
             (λ past. past-unmarked (step .terminal .page .marks) (t .page .marks) cell (omega (arith, same .marks)) past);
         none-modified = λ cell is-unprotected.
-            less-or-not cell (length (step .terminal .page .marks))
+            less-or-not cell (cells (step .terminal .page))
             (λ here. nothing-modified t valid step law (sent .no-cell) clears cell here is-unprotected)
-            (λ past. ap isModified (List·getD-eq-default (step .terminal .page .marks) 0 past));
+            (λ past. ap isModified (List·getD-eq-default (step .terminal .page .marks) 0 (omega (arith, measured (law .valid) .as-many))));
         protected-cells = λ cell protected. protected-kept t valid step law cell protected (rw (sent .no-cell) List·Memᴰ·not-nil);
       }
 

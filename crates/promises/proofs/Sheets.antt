@@ -12,7 +12,7 @@ use Rattle.words.specs.Choice.{if_then_else_}
 use Rattle.words.specs.Lists.{selected}
 use Rattle.words.proofs.Choosing.{else-case, first-fails}
 use Rattle.page.specs.Marks.{isProtected, unprotected}
-use Rattle.page.specs.Page.{Page, pageOf}
+use Rattle.page.specs.Page.{Page, pageOf, cells}
 use Rattle.places.specs.Places.{placeOf}
 use Rattle.fields.specs.Fields.{Field, startsField, fieldFrom, fieldsFrom, fieldsOf}
 use Rattle.blocks.specs.Blocks.{encode, entryOf, isInBlock, entriesSent, block}
@@ -45,7 +45,7 @@ module _ (isUnprotected : ℕ → Bool) (columns cells : ℕ) where
       (fields-in-front front n (cell + 1) (λ k low high. protected k (omega arith) (omega arith))))
 
 -- So the fields of a sheet are those of its first five cells.
-module _ (marks : List ℕ) (five : length marks ≡ 5) where
+module _ (characters marks : List ℕ) (five : length characters ≡ 5) (five-marks : length marks ≡ 5) where
   rest-protected : (k : ℕ) → 5 ≤ k → k < 1920 → unprotected (marks ++ replicate 1915 1) k ≡ false
   unfolding unprotected
   rest-protected k low high =
@@ -53,13 +53,13 @@ module _ (marks : List ℕ) (five : length marks ≡ 5) where
       let mark : getD (marks ++ replicate 1915 1) k 0 ≡ 1 = ap (λ (n : ℕ). getD (marks ++ replicate 1915 1) n 0) (sym past) ∙ getD-append-add marks (replicate 1915 1) (k - 5) 0 ∙ getD-replicate 1915 (k - 5) 1 0 (omega arith) in
       ap (λ (m : ℕ). not (isProtected m)) mark
 
-  sheet-length : length (marks ++ replicate 1915 1) ≡ 1920
-  sheet-length = length-append marks (replicate 1915 1) ∙ omega (arith, length-replicate {A = ℕ} 1915 1)
+  sheet-cells : cells (sheet characters marks) ≡ 1920
+  sheet-cells = length-append characters (replicate 1915 0x20) ∙ omega (arith, length-replicate {A = ℕ} 1915 0x20)
 
-  pub sheet-fields : fieldsOf (unprotected (marks ++ replicate 1915 1)) 80 (length (marks ++ replicate 1915 1)) ≡ fieldsFrom (unprotected (marks ++ replicate 1915 1)) 80 1920 0 5
+  pub sheet-fields : fieldsOf (unprotected (marks ++ replicate 1915 1)) 80 (cells (sheet characters marks)) ≡ fieldsFrom (unprotected (marks ++ replicate 1915 1)) 80 1920 0 5
   unfolding fieldsOf
-  sheet-fields = rw sheet-length (fields-in-front _ 80 1920 5 1915 0 (λ k low high. rest-protected k (omega arith) (omega arith)))
+  sheet-fields = rw sheet-cells (fields-in-front _ 80 1920 5 1915 0 (λ k low high. rest-protected k (omega arith) (omega arith)))
 
-  pub sheet-block : (full : Bool) (characters : List ℕ) → block full 80 (sheet characters marks) ≡ encode (map (entryOf 80 (characters ++ replicate 1915 0x20)) (selected (isInBlock full (marks ++ replicate 1915 1)) (fieldsFrom (unprotected (marks ++ replicate 1915 1)) 80 1920 0 5)))
+  pub sheet-block : (full : Bool) → block full 80 (sheet characters marks) ≡ encode (map (entryOf 80 (characters ++ replicate 1915 0x20)) (selected (isInBlock full (marks ++ replicate 1915 1)) (fieldsFrom (unprotected (marks ++ replicate 1915 1)) 80 1920 0 5)))
   unfolding block entriesSent
-  sheet-block full characters = ap (λ (fields : List Field). encode (map (entryOf 80 (characters ++ replicate 1915 0x20)) (selected (isInBlock full (marks ++ replicate 1915 1)) fields))) sheet-fields
+  sheet-block full = ap (λ (fields : List Field). encode (map (entryOf 80 (characters ++ replicate 1915 0x20)) (selected (isInBlock full (marks ++ replicate 1915 1)) fields))) sheet-fields

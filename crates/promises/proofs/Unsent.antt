@@ -4,12 +4,11 @@ use mathlib.Core.Bool.{Bool, false}
 use mathlib.Core.List.{List·Memᴰ, Memᴰ·map, Memᴰ·of-map}
 use Prim.Native.Nat.{ℕ}
 use native.Mathlib.Omega.{arith}
-use lib.ListN.{length}
 use Rattle.words.specs.Lists.{selected}
 use Rattle.words.proofs.Choosing.{not-both, either-way}
 use Rattle.words.proofs.Elements.{selected-from, selected-passes, selected-has}
 use Rattle.page.specs.Marks.{unprotected}
-use Rattle.page.specs.Page.{Page}
+use Rattle.page.specs.Page.{Page, cells}
 use Rattle.places.specs.Places.{placeOf}
 use Rattle.fields.specs.Fields.{Field}
 use Rattle.fields.proofs.Claims.{IsField}
@@ -28,8 +27,8 @@ module _ (t : Terminal) (can-be-sent : Sendable (t .state .size .columns) (t .pa
   abbrev page : Page
   page = t .page
 
-  pub is-field : (field : Field) → List·Memᴰ field (fieldsOn columns page) → IsField (unprotected (page .marks)) columns (length (page .marks)) field
-  is-field = all-fields-listed (unprotected (page .marks)) columns (length (page .marks)) (can-be-sent .some-columns) .only-fields
+  pub is-field : (field : Field) → List·Memᴰ field (fieldsOn columns page) → IsField (unprotected (page .marks)) columns (cells page) field
+  is-field = all-fields-listed (unprotected (page .marks)) columns (cells page) (can-be-sent .some-columns) .only-fields
 
   -- A row and a column tell the field.
   same-field : (one other : Field) → List·Memᴰ one (fieldsOn columns page) → List·Memᴰ other (fieldsOn columns page)
@@ -39,7 +38,7 @@ module _ (t : Terminal) (can-be-sent : Sendable (t .state .size .columns) (t .pa
       let one-is = is-field one one-listed in
       let other-is = is-field other other-listed in
       let same-start = cell-told columns (one .start) (other .start) row column in
-      one-field (unprotected (page .marks)) columns (length (page .marks)) (can-be-sent .some-columns) one-is other-is (one .start) (omega arith) (omega arith)
+      one-field (unprotected (page .marks)) columns (cells page) (can-be-sent .some-columns) one-is other-is (one .start) (omega arith) (omega arith)
 
   module _ (full : Bool) (field : Field) (listed : List·Memᴰ field (fieldsOn columns page)) where
     pub omitted-unsent : Omitted t (block full columns page) field → isInBlock full (page .marks) field ≡ false

@@ -70,15 +70,15 @@ reportBytes = bytes "\u{1b}[1;2R"
 
 pub full-noTag : (one other : Char) → block true 80 (form one other noTag) ≡ fullBytes one other
 unfolding blockBytes
-full-noTag one other = sheet-block noTag refl true (texts one other) ∙ refl
+full-noTag one other = sheet-block (texts one other) noTag refl refl true ∙ refl
 
 full-firstTagged : block true 80 (form "X" "C" firstTagged) ≡ fullBytes "X" "C"
 unfolding blockBytes
-full-firstTagged = sheet-block firstTagged refl true (texts "X" "C") ∙ refl
+full-firstTagged = sheet-block (texts "X" "C") firstTagged refl refl true ∙ refl
 
 changed-secondTagged : block false 80 (form "X" "Y" secondTagged) ≡ changedBytes
 unfolding blockBytes
-changed-secondTagged = sheet-block secondTagged refl false (texts "X" "Y") ∙ refl
+changed-secondTagged = sheet-block (texts "X" "Y") secondTagged refl refl false ∙ refl
 
 -- The transmissions of the steps, one for each key and each host byte.
 transmissions : map (λ (step : Stepped). step .transmission) (steps ourRules start (press 267 ∷ afterFirst))

@@ -4,6 +4,7 @@ use Prim.Native.Nat.{_*_, _<_, _≤_}
 use native.Mathlib.Nat.{mul-le-mul}
 use native.Mathlib.Omega.{arith}
 use lib.ListN.{length}
+use Rattle.page.specs.Page.{cells}
 use Rattle.state.specs.State.{OnPage}
 use Rattle.state.proofs.Keeping.{on-page, size-bounds}
 use Rattle.steps.specs.Steps.{Terminal, Valid, cursorCell}
@@ -14,7 +15,7 @@ pub record Measured (t : Terminal) : Type 0 where
   pub on-page : OnPage (t .state)
   pub some-columns : 0 < t .state .size .columns
   pub all-cells : length (t .page .marks) ≡ t .state .size .rows * t .state .size .columns
-  pub as-many : length (t .page .marks) ≡ length (t .page .characters)
+  pub as-many : length (t .page .marks) ≡ cells (t .page)
   pub most : length (t .page .marks) ≤ 7680
   pub row-fits : t .state .size .columns ≤ length (t .page .characters)
   pub cursor-inside : cursorCell (t .state) < length (t .page .characters)

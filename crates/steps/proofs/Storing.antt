@@ -15,7 +15,7 @@ use Rattle.words.proofs.Writing.{each-at, outside-part}
 use Rattle.words.proofs.Passing.{every-replicate}
 use Rattle.words.proofs.Elements.{place-listed}
 use Rattle.page.specs.Marks.{withModified, validCharacter, validMark, isProtected, unprotected}
-use Rattle.page.specs.Page.{Page, pageOf, validPage, textStored, typed, erasable, erased, cellsErased, scrolledUp, scrolledDown, partStored}
+use Rattle.page.specs.Page.{Page, pageOf, cells, validPage, textStored, typed, erasable, erased, cellsErased, scrolledUp, scrolledDown, partStored}
 use Rattle.page.proofs.Keeping.{SameSize, KeepsPart, text-same-size, typed-same-size, erased-same-size, scrolled-up-same-size, scrolled-down-same-size, part-same-size, text-keeps-valid, typed-keeps-valid, erased-keeps-valid, scrolled-up-keeps-valid, scrolled-down-keeps-valid, part-keeps-valid}
 use Rattle.page.proofs.Protecting.{typed-protection, untagged, tagged-protection}
 use Rattle.steps.specs.Steps.{silent, allCells}
@@ -67,23 +67,23 @@ module _ (page : Page) (valid : validPage page ≡ true) where
     protection = λ _ other _. typed-protection page cell character other;
   }
 
-  -- all cells
-  all-stored : (after : Page) → SameSize page after → validPage after ≡ true → Stored page (allCells page) true after
-  all-stored after size p = record {
-    size = size;
-    valid = p;
-    touches = λ cell here unnamed. absurd (unnamed (place-listed (λ _. true) cell 0 (length (page .marks)) (omega arith) (omega arith) refl));
-    once = places-rise (λ _. true) (length (page .marks)) 0 (length (page .marks)) (omega arith);
-    protection = λ e. absurd (true-is-not-false e);
-  }
+  module _ (same : length (page .marks) ≡ cells page) where
+    -- all cells
+    all-stored : (after : Page) → SameSize page after → validPage after ≡ true → Stored page (allCells page) true after
+    all-stored after size p = record {
+      size = size;
+      valid = p;
+      touches = λ cell here unnamed. absurd (unnamed (place-listed (λ _. true) cell 0 (cells page) (omega arith) (omega arith) refl));
+      once = places-rise (λ _. true) (length (page .marks)) 0 (cells page) (omega arith);
+      protection = λ e. absurd (true-is-not-false e);
+    }
 
-  pub blank-stored : Stored page (allCells page) true (pageOf (replicate (length (page .characters)) 0x20) (replicate (length (page .marks)) 0))
-  blank-stored =
-      all-stored (pageOf (replicate (length (page .characters)) 0x20) (replicate (length (page .marks)) 0))
-      (record { characters = length-replicate (length (page .characters)) 0x20; marks = length-replicate (length (page .marks)) 0 })
-      (blank-page-valid (length (page .characters)) (length (page .marks)))
+    pub blank-stored : Stored page (allCells page) true (pageOf (replicate (length (page .characters)) 0x20) (replicate (length (page .marks)) 0))
+    blank-stored =
+        all-stored (pageOf (replicate (length (page .characters)) 0x20) (replicate (length (page .marks)) 0))
+        (record { characters = length-replicate (length (page .characters)) 0x20; marks = length-replicate (length (page .marks)) 0 })
+        (blank-page-valid (length (page .characters)) (length (page .marks)))
 
-  module _ (same : length (page .marks) ≡ length (page .characters)) where
     pub up-stored : (columns : ℕ) → columns ≤ length (page .characters) → Stored page (allCells page) true (scrolledUp columns page)
     up-stored columns fits = all-stored (scrolledUp columns page) (scrolled-up-same-size page columns fits same) (scrolled-up-keeps-valid page valid columns)
 

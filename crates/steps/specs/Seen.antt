@@ -3,9 +3,9 @@
 use mathlib.Core.Bool.{Bool}
 use mathlib.Core.List.{List}
 use Prim.Native.Nat.{ℕ}
-use lib.ListN.{length, getD}
+use lib.ListN.{getD}
 use Rattle.page.specs.Marks.{isModified, unprotected}
-use Rattle.page.specs.Page.{Page}
+use Rattle.page.specs.Page.{Page, cells}
 use Rattle.places.specs.declared.Place.{Place}
 use Rattle.places.specs.Places.{placeOf}
 use Rattle.fields.specs.declared.Sought.{Sought}
@@ -20,7 +20,7 @@ seen t = t .page
 
 -- How many cells it has, and the character of one.
 abbrev pub cellsHere : Terminal → ℕ
-cellsHere t = length (seen t .marks)
+cellsHere t = cells (seen t)
 
 abbrev pub characterAt : Terminal → ℕ → ℕ
 characterAt t cell = getD (seen t .characters) cell 0

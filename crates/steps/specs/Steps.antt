@@ -3,9 +3,8 @@ use mathlib.Core.Bool.{Bool, true, false}
 use mathlib.Core.List.{List, []}
 use mathlib.Core.Path.{_≡_}
 use Prim.Native.Nat.{ℕ, _-_}
-use lib.ListN.{length}
 use Rattle.words.specs.Lists.{numbersFrom}
-use Rattle.page.specs.Page.{Page, pageOf, validPage}
+use Rattle.page.specs.Page.{Page, pageOf, cells, validPage}
 use Rattle.places.specs.Places.{cellAt}
 use Rattle.state.specs.declared.State.{State}
 use Rattle.state.specs.Tests.{sizeFits, validState}
@@ -88,7 +87,7 @@ abbrev pub rowStart : State → ℕ
 rowStart s = cursorCell s - (s .cursor .column - 1)
 
 abbrev pub allCells : Page → List ℕ
-allCells page = numbersFrom (λ _. true) 0 (length (page .marks))
+allCells page = numbersFrom (λ _. true) 0 (cells page)
 
 -- A terminal that lines 1 and 2 of the table let pass.
 pub record Valid (t : Terminal) : Type 0 where

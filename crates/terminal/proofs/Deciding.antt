@@ -10,7 +10,7 @@ use Rattle.words.specs.Choice.{_or_}
 use Rattle.words.proofs.Choosing.{then-case, else-case, both, both-hold}
 use Rattle.words.specs.Output.{placed}
 use Rattle.words.proofs.Output.{wrote-none}
-use Rattle.page.specs.Page.{Page, erased}
+use Rattle.page.specs.Page.{Page, cells, erased}
 use Rattle.state.specs.declared.Size.{Size}
 use Rattle.state.specs.State.{freshState}
 use Rattle.state.specs.Tests.{sizeFits}
@@ -170,7 +170,7 @@ module _ (size : Size) (page : Page) where
   start-done fits = start-gives Done (past (ap not fits) none) ∙ gives-steps Done 0 (unstarted page) [] _ refl
 
   -- A fresh page is one erased whole.
-  pub start-leaves : sizeFits size page ≡ true → startCall size page ≡ record { number = numberOf Done; taken = 0; sent = 0; stored = length (page .marks); refused = 0; protection = true; terminal = record { state = freshState size; page = erased true 0 (length (page .marks)) page }; output = [] }
+  pub start-leaves : sizeFits size page ≡ true → startCall size page ≡ record { number = numberOf Done; taken = 0; sent = 0; stored = cells page; refused = 0; protection = true; terminal = record { state = freshState size; page = erased true 0 (cells page) page }; output = [] }
   unfolding afterSteps after bytesSentBy cellsStoredBy countOf refusedBy protectionBy _or_ startStep freshStep bytesOf placed
   start-leaves fits =
       let lengths = sized size page fits in

@@ -12,7 +12,7 @@ use Rattle.words.proofs.Choosing.{either-line}
 use Rattle.words.specs.Output.{placed}
 use Rattle.words.proofs.Output.{placed-before, placed-past}
 use Rattle.words.proofs.Elements.{run-length}
-use Rattle.page.specs.Page.{Page}
+use Rattle.page.specs.Page.{Page, cells}
 use Rattle.state.specs.declared.Size.{Size}
 use Rattle.state.proofs.Lines.{line-1, line-2}
 use Rattle.steps.specs.Steps.{Terminal, Stepped, bytesOf, allCells, Valid}
@@ -139,7 +139,7 @@ start-done size page is-done = go (start-case size page)
         record {
           taken = did .bytes-taken;
           sent = did .sent;
-          stored = did .stored ∙ ap length (append-nil (allCells page)) ∙ run-length 0 (length (page .marks)) ∙ lengths .marks;
+          stored = did .stored ∙ ap length (append-nil (allCells page)) ∙ run-length 0 (cells page) ∙ lengths .characters;
           refused = did .refused;
           protection = did .protection;
           state = ap (λ (t : Terminal). t .state) (did .terminal);

@@ -191,7 +191,7 @@ pub fn start(rows: usize, columns: usize, characters: &mut [u8], marks: &mut [Ma
     if !size.fits(characters, marks) {
         return refuse_call(Answer::WrongSize, State::zero());
     }
-    let cells = marks.len();
+    let cells = characters.len();
     page::erase(characters, marks, 0, cells, true);
     Reply {
         answer: Answer::Done,

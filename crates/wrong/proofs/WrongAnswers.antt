@@ -51,7 +51,7 @@ one-field-valid = record { size = refl; state = refl; page = refl }
 
 one-field-changed : block false 80 (oneField .page) ≡ bytes "\u{1b}[1;1fA\u{3}"
 unfolding blockBytes
-one-field-changed = sheet-block (2 ∷ 1 ∷ 1 ∷ 1 ∷ 1 ∷ []) refl false (bytes "A    ") ∙ refl
+one-field-changed = sheet-block (bytes "A    ") (2 ∷ 1 ∷ 1 ∷ 1 ∷ 1 ∷ []) refl refl false ∙ refl
 
 -- An empty host call is given 0, and not 6.
 empty-done : hostCall oneField [] [] .number ≡ 0

@@ -9,6 +9,7 @@ use borrow.Author.Tests.{eqb-false}
 use lib.ListN.{length, getD, replicate}
 use Rattle.words.specs.Lists.{selected}
 use Rattle.page.specs.Marks.{isModified, unprotected}
+use Rattle.page.specs.Page.{cells}
 use Rattle.fields.specs.Fields.{Field, fieldsFrom, fieldsOf}
 use Rattle.blocks.specs.Blocks.{Entry, encode, entryOf, block}
 use Rattle.blocks.specs.Decode.{decode}
@@ -59,19 +60,19 @@ firstBlock = block true 80 (sheet (texts "B") clear)
 
 pub full-block-is : (second : Char) → block true 80 (sheet (texts second) clear) ≡ fieldBlock second
 unfolding blockBytes
-full-block-is second = sheet-block clear refl true (texts second) ∙ refl
+full-block-is second = sheet-block (texts second) clear refl refl true ∙ refl
 
 -- With a tag on the second cell only, the block by first cells is empty; and with none so is a changed block.
 by-first-cells : (second : Char) → firstCellBlock (after second secondTagged) ≡ emptyBlock
 unfolding firstCellBlock blockBytes
 by-first-cells second =
     ap (λ (fields : List Field). encode (map (entryOf 80 (after second secondTagged .page .characters)) (selected (λ (field : Field). isModified (getD (after second secondTagged .page .marks) (field .start) 0)) fields)))
-    (sheet-fields secondTagged refl)
+    (sheet-fields (texts second) secondTagged refl refl)
     ∙ refl
 
 pub untagged-block : (second : Char) → block false 80 (sheet (texts second) clear) ≡ emptyBlock
 unfolding blockBytes
-untagged-block second = sheet-block clear refl false (texts second) ∙ refl
+untagged-block second = sheet-block (texts second) clear refl refl false ∙ refl
 
 -- The copy. After a full block with B, X is typed and a changed block sent. If that has no field, the copy has B still.
 pub copy-is-stale : {changed : List ℕ} → changed ≡ emptyBlock → lay changed firstBlock ≡ block true 80 (sheet (texts "X") clear) → ⊥
@@ -110,8 +111,8 @@ neverTags-breaks-copying-steps kept =
 abbrev threeCells : Field
 threeCells = record { start = 0; length = 3 }
 
-pub field-listed : (marks : List ℕ) → length marks ≡ 5 → fieldsFrom (unprotected (marks ++ replicate 1915 1)) 80 1920 0 5 ≡ threeCells ∷ [] → List·Memᴰ threeCells (fieldsOf (unprotected (marks ++ replicate 1915 1)) 80 (length (marks ++ replicate 1915 1)))
-field-listed marks five is = subst (List·Memᴰ threeCells) (sym (sheet-fields marks five ∙ is)) (List·Memᴰ·head refl)
+pub field-listed : (marks : List ℕ) → length marks ≡ 5 → fieldsFrom (unprotected (marks ++ replicate 1915 1)) 80 1920 0 5 ≡ threeCells ∷ [] → List·Memᴰ threeCells (fieldsOf (unprotected (marks ++ replicate 1915 1)) 80 (cells (sheet (texts "B") marks)))
+field-listed marks five is = subst (List·Memᴰ threeCells) (sym (sheet-fields (texts "B") marks refl five ∙ is)) (List·Memᴰ·head refl)
 
 pub wrongly-omitted : (marks changed : List ℕ) → List·Memᴰ threeCells (fieldsHere (after "B" marks)) → changed ≡ emptyBlock → OmitsExactly (changedBlock changed) (after "B" marks) (1 ∷ []) → ⊥
 unfolding laying OmitsExactly
@@ -139,7 +140,7 @@ tagsOnlyChanges-breaks-omission-steps kept =
 -- Where the first cell is modified before the full block, a changed block right after it is to have no field.
 first-tagged-block : block false 80 (sheet (texts "B") firstTagged) ≡ fieldBlock "B"
 unfolding blockBytes
-first-tagged-block = sheet-block firstTagged refl false (texts "B") ∙ refl
+first-tagged-block = sheet-block (texts "B") firstTagged refl refl false ∙ refl
 
 first-tagged-valid : Valid (before "B" firstTagged)
 unfolding validity

@@ -1,10 +1,10 @@
 use mathlib.Core.Path.{_≡_, sym, ap, _∙_}
 use mathlib.Core.List.{List}
-use Prim.Native.Nat.{ℕ, _+_, _-_, _*_, _≤_}
+use Prim.Native.Nat.{ℕ, _+_, _-_, _*_, _<_, _≤_}
 use native.Mathlib.Omega.{arith}
 use borrow.Author.Needs.{needs}
 use lib.ListN.{length, length-append}
-use Rattle.page.specs.Page.{pageOf}
+use Rattle.page.specs.Page.{pageOf, cells}
 use Rattle.places.specs.Places.{placeOf}
 use Rattle.places.proofs.Counting.{counted, cell-is}
 use Rattle.blocks.specs.Blocks.{block, bytesAt}
@@ -18,7 +18,7 @@ Inv-loop marks columns full total₀ place₀ total place =
     (place ≡ placeOf columns (place .cell)) ×
     (place .cell ≤ length marks) ×
     (total ≤ 1 + 7690 * place .cell) ×
-    ((characters : List ℕ) → length characters ≡ length marks → total + length (restFrom full columns (pageOf characters marks) (length marks - place .cell) (place .cell)) ≡ length (block full columns (pageOf characters marks)) + 1)
+    ((characters : List ℕ) → length characters ≡ length marks → total + length (restFrom full columns (pageOf characters marks) (length characters - place .cell) (place .cell)) ≡ length (block full columns (pageOf characters marks)) + 1)
 
 abbrev μ-loop : tie.MeasureT-loop
 μ-loop marks columns full total₀ place₀ total place = length marks - place .cell
@@ -32,7 +32,7 @@ loop-holds c =
       omega arith,
       λ characters same.
           let page = pageOf characters (start .args .marks .now) in
-          let rest : ℕ → ℕ = λ cell. length (restFrom (start .args .full) (start .args .columns) page (length (start .args .marks .now) - cell) cell) in
+          let rest : ℕ → ℕ = λ cell. length (restFrom (start .args .full) (start .args .columns) page (cells page - cell) cell) in
           omega (arith, ap rest at-first, ap (length {A = ℕ}) (whole-block (start .args .full) (start .args .columns) page)),
     )
 
@@ -67,8 +67,9 @@ loop-again c =
       omega (arith, count .1),
       λ characters same.
           let page = pageOf characters (start .args .marks .now) in
-          let rest : ℕ → List ℕ = λ cell. restFrom (start .args .full) (start .args .columns) page (length (start .args .marks .now) - cell) cell in
-          let joined = ap (length {A = ℕ}) (rest-next (start .args .full) (start .args .columns) page (length (start .args .marks .now)) cell (c .before .before .if1 .taken)) ∙ length-append (bytesAt (start .args .full) (start .args .columns) page cell) (rest (cell + 1)) in
+          let rest : ℕ → List ℕ = λ cell. restFrom (start .args .full) (start .args .columns) page (cells page - cell) cell in
+          let here : cell < cells page = omega (arith, same, c .before .before .if1 .taken) in
+          let joined = ap (length {A = ℕ}) (rest-next (start .args .full) (start .args .columns) page cell here) ∙ length-append (bytesAt (start .args .full) (start .args .columns) page cell) (rest (cell + 1)) in
           omega (arith, turn .loop .inv .3 characters same, count .0 characters same, joined, ap (λ (k : ℕ). length (rest k)) after),
     )
 
@@ -78,8 +79,8 @@ returns c =
     let turn = c .before .before in
     λ characters same.
     let page = pageOf characters (start .args .marks .now) in
-    let all : length (start .args .marks .now) ≤ turn .loop .place .cell = omega arith in
-    omega (arith, turn .loop .inv .3 characters same, ap (length {A = ℕ}) (rest-ends (start .args .full) (start .args .columns) page _ _ all))
+    let all : cells page ≤ turn .loop .place .cell = omega (arith, same) in
+    omega (arith, turn .loop .inv .3 characters same, ap (length {A = ℕ}) (rest-ends (start .args .full) (start .args .columns) page _ all))
 
 pub block-length-spec : {M : Type 1} → statement M
 block-length-spec =

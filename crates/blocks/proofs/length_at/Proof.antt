@@ -30,7 +30,7 @@ returns-2 : tie.Need-returns-2
 returns-2 c =
     let start = c .before .before .before .before .before .before in
     let none = sym (c .before .is-in-block .ensures) ∙ not-true _ (c .if2 .taken) in
-    (λ characters same. sym (ap (length {A = ℕ}) (unsent _ _ (pageOf characters (start .args .marks .now)) _ (start .pre .0 .right) _ (c .before .before .field-end .ensures) none)), omega arith)
+    (λ characters same. sym (ap (length {A = ℕ}) (unsent _ _ (pageOf characters (start .args .marks .now)) _ (start .pre .0 .right) same _ (c .before .before .field-end .ensures) none)), omega arith)
 
 sub-result : tie.Need-sub-result
 sub-result c =
@@ -58,7 +58,7 @@ returns-3 c =
     let sent = sym (c .before .before .before .is-in-block .ensures) ∙ not-false _ (c .before .before .if2 .left) in
     let head = c .before .place-length .ensures in (
       λ characters same.
-          omega (arith, head .0, place-long (place .row) (place .column) 0, place-long (place .row) (place .column) 0x66, sent-length _ _ (pageOf characters marks) _ (start .pre .0 .right) _ (c .before .before .before .before .field-end .ensures) (start .pre .1 .0) same starts sent),
+          omega (arith, head .0, place-long (place .row) (place .column) 0, place-long (place .row) (place .column) 0x66, sent-length _ _ (pageOf characters marks) _ (start .pre .0 .right) same _ (c .before .before .before .before .field-end .ensures) (rw same (start .pre .1 .0)) starts sent),
       omega (arith, head .1),
     )
 

@@ -31,7 +31,7 @@ returns-2 : tie.Need-returns-2
 returns-2 c =
     let start = c .before .before .before .before .before .before .before .before in
     let none = sym (c .before .is-in-block .ensures) ∙ not-true _ (c .if2 .taken) in
-    rw (unsent _ _ (pageOf (start .args .characters .now) (start .args .marks .now)) _ (start .pre .0 .right) _ (c .before .before .field-end .ensures) none) (wrote-none _ _)
+    rw (unsent _ _ (pageOf (start .args .characters .now) (start .args .marks .now)) _ (start .pre .0 .right) (start .pre .1 .0 .3) _ (c .before .before .field-end .ensures) none) (wrote-none _ _)
 
 put-place-requires : tie.Need-put-place-requires
 put-place-requires c κs =
@@ -40,7 +40,7 @@ put-place-requires c κs =
     let marks = start .args .marks .now in
     let starts = sym (c .before .before .before .before .before .starts-field .ensures) ∙ not-false _ (c .before .before .before .before .if1 .left) in
     let sent = sym (c .before .before .is-in-block .ensures) ∙ not-false _ (c .before .if2 .left) in
-    let size = sent-length (start .args .full) _ (pageOf (start .args .characters .now) marks) _ (start .pre .0 .right) _ (c .before .before .before .field-end .ensures) (start .pre .1 .0 .1) (start .pre .1 .0 .3) starts sent in
+    let size = sent-length (start .args .full) _ (pageOf (start .args .characters .now) marks) _ (start .pre .0 .right) (start .pre .1 .0 .3) _ (c .before .before .before .field-end .ensures) (omega arith) starts sent in
     omega (arith, on-rows 48 (start .pre .0) (omega arith))
 
 put-characters-requires : tie.Need-put-characters-requires
@@ -50,7 +50,7 @@ put-characters-requires c κs =
     let marks = start .args .marks .now in
     let starts = sym (c .before .before .before .before .before .before .before .before .before .starts-field .ensures) ∙ not-false _ (c .before .before .before .before .before .before .before .before .if1 .left) in
     let sent = sym (c .before .before .before .before .before .before .is-in-block .ensures) ∙ not-false _ (c .before .before .before .before .before .if2 .left) in
-    let size = sent-length (start .args .full) _ (pageOf (start .args .characters .now) marks) _ (start .pre .0 .right) _ (c .before .before .before .before .before .before .before .field-end .ensures) (start .pre .1 .0 .1) (start .pre .1 .0 .3) starts sent in
+    let size = sent-length (start .args .full) _ (pageOf (start .args .characters .now) marks) _ (start .pre .0 .right) (start .pre .1 .0 .3) _ (c .before .before .before .before .before .before .before .field-end .ensures) (omega arith) starts sent in
     let bounds = end-bounds (unprotected marks) (start .args .columns) (length marks) (place .cell) (start .pre .1 .0 .1) in
     omega arith
 
@@ -62,7 +62,7 @@ returns-3 c =
     let starts = sym (c .before .before .before .before .before .before .before .before .before .before .before .before .starts-field .ensures) ∙ not-false _ (c .before .before .before .before .before .before .before .before .before .before .before .if1 .left) in
     let sent = sym (c .before .before .before .before .before .before .before .before .before .is-in-block .ensures) ∙ not-false _ (c .before .before .before .before .before .before .before .before .if2 .left) in
     let room : start .args .at ≤ length (start .args .out .now) = omega arith in
-    rw (sent-is (start .args .full) _ (pageOf (start .args .characters .now) marks) _ (start .pre .0 .right) _ (c .before .before .before .before .before .before .before .before .before .before .field-end .ensures) starts sent)
+    rw (sent-is (start .args .full) _ (pageOf (start .args .characters .now) marks) _ (start .pre .0 .right) (start .pre .1 .0 .3) _ (c .before .before .before .before .before .before .before .before .before .before .field-end .ensures) starts sent)
     (wrote-then room (c .before .before .before .before .before .before .put-place .ensures) (c .before .before .put-characters .ensures))
 
 pub put-at-spec : {M : Type 1} → statement M

@@ -6,7 +6,7 @@ use borrow.Author.Needs.{needs}
 use lib.ListN.{length, length-append}
 use Rattle.words.specs.Output.{Wrote}
 use Rattle.words.proofs.Output.{wrote-none, wrote-then}
-use Rattle.page.specs.Page.{pageOf}
+use Rattle.page.specs.Page.{pageOf, cells}
 use Rattle.places.specs.Places.{placeOf}
 use Rattle.places.proofs.Counting.{counted, cell-is}
 use Rattle.blocks.specs.Blocks.{block, bytesAt}
@@ -18,21 +18,21 @@ use Rattle.blocks.proofs.put_block.Tie as tie
 abbrev Inv-loop : tie.InvT-loop
 Inv-loop out₀ at characters marks columns full next₀ place₀ out next place =
     (place ≡ placeOf columns (place .cell)) ×
-    (place .cell ≤ length marks) ×
+    (place .cell ≤ length characters) ×
     (length out ≡ length out₀) ×
     (written : List ℕ) ×
     Wrote at written out₀ next out ×
-    (written ++ restFrom full columns (pageOf characters marks) (length marks - place .cell) (place .cell) ≡ block full columns (pageOf characters marks))
+    (written ++ restFrom full columns (pageOf characters marks) (length characters - place .cell) (place .cell) ≡ block full columns (pageOf characters marks))
 
 abbrev μ-loop : tie.MeasureT-loop
-μ-loop out₀ at characters marks columns full next₀ place₀ out next place = length marks - place .cell
+μ-loop out₀ at characters marks columns full next₀ place₀ out next place = length characters - place .cell
 
 loop-holds : tie.Need-loop-holds Inv-loop μ-loop
 loop-holds c =
     let start = c .before .before .before .before in
     let page = pageOf (start .args .characters .now) (start .args .marks .now) in
     let at-first = cell-is (start .args .columns) 0 (c .first .ensures) in
-    let rest : ℕ → List ℕ = λ cell. restFrom (start .args .full) (start .args .columns) page (length (start .args .marks .now) - cell) cell in (
+    let rest : ℕ → List ℕ = λ cell. restFrom (start .args .full) (start .args .columns) page (cells page - cell) cell in (
       c .first .ensures ∙ ap (placeOf (start .args .columns)) (sym at-first),
       omega arith,
       refl,
@@ -50,10 +50,10 @@ put-at-requires c κs =
     let page = pageOf (start .args .characters .now) (start .args .marks .now) in
     let cell = turn .loop .place .cell in
     let here = c .before .if1 .taken in
-    let pieces = ap (length {A = ℕ}) (rest-next full columns page (length (start .args .marks .now)) cell here) ∙ length-append (bytesAt full columns page cell) _ in
+    let pieces = ap (length {A = ℕ}) (rest-next full columns page cell here) ∙ length-append (bytesAt full columns page cell) _ in
     let whole = sym (length-append (turn .loop .inv .3) _) ∙ ap (length {A = ℕ}) (turn .loop .inv .5) in (
       counted cell (start .pre .0 .0) (turn .loop .inv .0) (omega arith),
-      ((start .pre .0 .1, here, start .pre .0 .2, start .pre .0 .3), omega (arith, pieces, whole, turn .loop .inv .4 .next-is)),
+      ((start .pre .0 .1, omega arith, start .pre .0 .2, start .pre .0 .3), omega (arith, pieces, whole, turn .loop .inv .4 .next-is)),
     )
 
 next-requires : tie.Need-next-requires Inv-loop μ-loop
@@ -78,10 +78,10 @@ loop-again c =
     let page = pageOf (start .args .characters .now) (start .args .marks .now) in
     let cell = turn .loop .place .cell in
     let after = cell-is columns (cell + 1) (c .next .ensures) in
-    let rest : ℕ → List ℕ = λ k. restFrom full columns page (length (start .args .marks .now) - k) k in
+    let rest : ℕ → List ℕ = λ k. restFrom full columns page (cells page - k) k in
     let written : List ℕ = turn .loop .inv .3 in
     let bytes : List ℕ = bytesAt full columns page cell in
-    let joined = rest-next full columns page (length (start .args .marks .now)) cell (c .before .before .before .before .before .if1 .taken) in (
+    let joined = rest-next full columns page cell (c .before .before .before .before .before .if1 .taken) in (
       c .next .ensures ∙ ap (placeOf columns) (sym after),
       omega arith,
       search needs,
@@ -98,7 +98,7 @@ put-byte-requires c κs =
     let all = c .before .if1 .left in
     let written : List ℕ = turn .loop .inv .3 in
     let whole : written ++ (0x03 ∷ []) ≡ block (start .args .full) (start .args .columns) page =
-    ap (λ (list : List ℕ). written ++ list) (sym (rest-ends (start .args .full) (start .args .columns) page _ _ all)) ∙ turn .loop .inv .5 in
+    ap (λ (list : List ℕ). written ++ list) (sym (rest-ends (start .args .full) (start .args .columns) page _ all)) ∙ turn .loop .inv .5 in
     omega (arith, sym (length-append written (0x03 ∷ [])) ∙ ap (length {A = ℕ}) whole, turn .loop .inv .4 .next-is)
 
 returns : tie.Need-returns Inv-loop μ-loop
@@ -109,7 +109,7 @@ returns c =
     let all = c .before .before .before .before .if1 .left in
     let written : List ℕ = turn .loop .inv .3 in
     let whole : written ++ (0x03 ∷ []) ≡ block (start .args .full) (start .args .columns) page =
-    ap (λ (list : List ℕ). written ++ list) (sym (rest-ends (start .args .full) (start .args .columns) page _ _ all)) ∙ turn .loop .inv .5 in
+    ap (λ (list : List ℕ). written ++ list) (sym (rest-ends (start .args .full) (start .args .columns) page _ all)) ∙ turn .loop .inv .5 in
     let room : start .args .at ≤ length (start .args .out .now) = omega arith in
     rw (← whole) (wrote-then room (turn .loop .inv .4) (c .before .before .put-byte .ensures))
 

@@ -13,5 +13,5 @@ has-no-field-spec =
     (λ c κs. let here = found (c .before .before .before .pre) (c .place .ensures) in (here .counted, (here .inside, here .most)))
     (λ c. search needs)
     (λ c. search needs)
-    (λ c. sym (one-sought _ _ _ (sym (c .before .before .next-field .ensures) ∙ c .enum-told .given .1)))
-    (λ c. sym (none-sought _ _ _ (sym (c .before .before .next-field .ensures) ∙ c .enum-told2 .given .1))))
+    (λ c. rw (← measured (c .before .before .before .before .before .before .pre) .as-many) (sym (one-sought _ _ _ (sym (c .before .before .next-field .ensures) ∙ c .enum-told .given .1))))
+    (λ c. rw (← measured (c .before .before .before .before .before .before .pre) .as-many) (sym (none-sought _ _ _ (sym (c .before .before .next-field .ensures) ∙ c .enum-told2 .given .1)))))

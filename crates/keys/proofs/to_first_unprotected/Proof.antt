@@ -14,8 +14,9 @@ unfolding toFirstUnprotected goneTo orElse
 returns-2 c =
     let start = c .before .before .before .before .before .before .before in
     let columns = start .args .state .size .columns in
-    let first = place-is columns 0 1 1 0 0 (measured (start .pre) .some-columns) (omega (arith, zero-mul columns)) (omega arith) (omega arith) in
-    rw (c .quiet2 .ensures _, c .before .moved-to2 .ensures, sym (c .before .before .before .before .first-unprotected .ensures) ∙ c .before .before .enum-told .given .1, ← first)
+    let known = measured (start .pre) in
+    let first = place-is columns 0 1 1 0 0 (known .some-columns) (omega (arith, zero-mul columns)) (omega arith) (omega arith) in
+    rw (c .quiet2 .ensures _, c .before .moved-to2 .ensures, ← known .as-many, sym (c .before .before .before .before .first-unprotected .ensures) ∙ c .before .before .enum-told .given .1, ← first)
 
 pub to-first-unprotected-spec : {M : Type 1} → statement M
 unfolding toFirstUnprotected goneTo orElse
@@ -29,5 +30,5 @@ to-first-unprotected-spec =
     (λ c. search needs)
     (λ c κs. search needs)
     (λ c κs. search needs)
-    (λ c. rw (c .quiet .ensures _, c .before .moved-to .ensures, sym (c .before .before .before .before .before .first-unprotected .ensures) ∙ c .before .before .before .sought .given .1))
+    (λ c. rw (c .quiet .ensures _, c .before .moved-to .ensures, ← measured (c .before .before .before .before .before .before .before .before .pre) .as-many, sym (c .before .before .before .before .before .first-unprotected .ensures) ∙ c .before .before .before .sought .given .1))
     returns-2)

@@ -15,4 +15,4 @@ to-next-field-spec =
     (λ c κs. let here = found (c .before .before .before .pre) (c .place .ensures) in (here .counted, (here .inside, here .most)))
     (λ c κs. search needs)
     (λ c κs. search needs)
-    (λ c. rw (c .quiet .ensures _, c .before .gone-to .ensures, c .before .before .next-field .ensures, cell-is _ _ (c .before .before .before .place .ensures))))
+    (λ c. rw (c .quiet .ensures _, c .before .gone-to .ensures, c .before .before .next-field .ensures, measured (c .before .before .before .before .before .before .pre) .as-many, cell-is _ _ (c .before .before .before .place .ensures))))

@@ -21,4 +21,4 @@ to-previous-field-spec =
     previous-field-requires
     (λ c κs. search needs)
     (λ c κs. search needs)
-    (λ c. rw (c .quiet .ensures _, c .before .gone-to .ensures, c .before .before .previous-field .ensures, cell-is _ _ (c .before .before .before .place .ensures))))
+    (λ c. rw (c .quiet .ensures _, c .before .gone-to .ensures, c .before .before .previous-field .ensures, measured (c .before .before .before .before .before .before .pre) .as-many, cell-is _ _ (c .before .before .before .place .ensures))))

@@ -34,7 +34,7 @@ returns-2 c =
     let start = test .before .before .before .before .before .before in
     let here = found (start .pre) (placed .place .ensures) in
     let cell-unprotected = is-unprotected (test .before .stands-unprotected .ensures) (test .if1 .left) in
-    rw (cell-unprotected, c .stored .ensures (cursorCell (start .args .state) ∷ []) _ refl, c .before .gone-to .ensures, sought .next-unprotected .ensures, stored .store-typed .ensures, here .cell)
+    rw (cell-unprotected, c .stored .ensures (cursorCell (start .args .state) ∷ []) _ refl, c .before .gone-to .ensures, sought .next-unprotected .ensures, here .as-many, stored .store-typed .ensures, here .cell)
 
 pub type-character-spec : {M : Type 1} → statement M
 type-character-spec =

@@ -4,8 +4,7 @@ use mathlib.Core.List.{[]}
 use native.Mathlib.Omega.{arith}
 use borrow.Author.Needs.{needs}
 use borrow.Author.Tests.{not-true, not-false}
-use lib.ListN.{length}
-use Rattle.page.specs.Page.{pageOf}
+use Rattle.page.specs.Page.{pageOf, cells}
 use Rattle.steps.proofs.Soundness.{sized}
 use Rattle.terminal.specs.declared.Answer.the-variants.{WrongSize, Done}
 use Rattle.terminal.specs.Answers.{numberOf, unchanged}
@@ -40,7 +39,7 @@ returns-2 c =
       number = numberOf Done;
       taken = 0;
       sent = 0;
-      stored = length (page .marks);
+      stored = cells page;
       refused = 0;
       protection = true;
       terminal = record { state = c .fresh .ensures i; page = erase .erase .ensures .page i };
