@@ -70,7 +70,7 @@ module _ (size : Size) (page : Page) (sizes : Sizes size page) where
         number = 0;
         taken = 0;
         sent = 0;
-        stored = marks i;
+        stored = characters i;
         refused = 0;
         protection = true;
         terminal = record { state = freshState size; page = (erased-is-fresh page (marks ∙ sym characters) ∙ (λ j. pageOf (replicate (characters j) 0x20) (replicate (marks j) 0))) i };
