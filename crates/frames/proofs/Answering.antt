@@ -64,7 +64,7 @@ goes-on held cells before enough going is =
 
 -- The session after a call, with its line, the bytes it sent and those it took.
 abbrev pub calledWith : Outcome → ℕ → Bool → FrameCall
-calledWith one taken more = record { after = session (one .terminal); text = printed one; sent = bytesSent one; taken = taken; more = more }
+calledWith one taken more = record { after = session (one .terminal); text = printed one; bytesSent = bytesSent one; taken = taken; more = more }
 
 module _ (one : Outcome) (reply : Reply) (characters marks out text : List ℕ) (cells from end : ℕ) (before : Lent)
     (alike : Alike one (given reply (pageOf characters marks) out) (before .out))

@@ -95,7 +95,7 @@ pub record CallDone (call : FrameCall) (from : ℕ) (before : Lent) (r : Printed
   pub held : r .held ≡ kept (call .after)
   pub characters : after .characters ≡ placed 0 (charactersOf (call .after)) (before .characters)
   pub marks : after .marks ≡ placed 0 (marksOf (call .after)) (before .marks)
-  pub out : after .out ≡ placed 0 (call .sent) (before .out)
+  pub out : after .out ≡ placed 0 (call .bytesSent) (before .out)
   pub text : Wrote 0 (call .text) (before .text) (r .end) (after .text)
   pub from-on : r .from ≡ from + call .taken
   pub more : r .more ≡ call .more

@@ -30,7 +30,7 @@ output = replicate 65536 0
 pub record FrameCall : Type 0 where
   pub after : Session
   pub text : List ℕ
-  pub sent : List ℕ
+  pub bytesSent : List ℕ
   pub taken : ℕ
   pub more : Bool
 
@@ -40,7 +40,7 @@ started outcome =
     record {
       after = if eqb (outcome .number) 0 then session (outcome .terminal) else noSession;
       text = printed outcome;
-      sent = [];
+      bytesSent = [];
       taken = 0;
       more = false;
     }
@@ -51,7 +51,7 @@ hosted outcome =
     record {
       after = session (outcome .terminal);
       text = printed outcome;
-      sent = bytesSent outcome;
+      bytesSent = bytesSent outcome;
       taken = outcome .taken;
       more = eqb (outcome .number) 3;
     }
@@ -61,13 +61,13 @@ keyed outcome =
     record {
       after = session (outcome .terminal);
       text = printed outcome;
-      sent = bytesSent outcome;
+      bytesSent = bytesSent outcome;
       taken = 0;
       more = false;
     }
 
 unfoldable pub uncalled : Session → FrameCall
-uncalled before = record { after = before; text = refusal; sent = []; taken = 0; more = false }
+uncalled before = record { after = before; text = refusal; bytesSent = []; taken = 0; more = false }
 
 unfoldable pub callOf : Frame → Session → FrameCall
 callOf (start rows columns) before =

@@ -22,7 +22,7 @@ abbrev inFront : Outcome → Total → Total
 inFront outcome rest =
     record {
       terminal = rest .terminal;
-      sent = bytesSent outcome ++ rest .sent;
+      bytesSent = bytesSent outcome ++ rest .bytesSent;
       stored = outcome .stored + rest .stored;
       refused = outcome .refused + rest .refused;
       protection = outcome .protection or rest .protection;

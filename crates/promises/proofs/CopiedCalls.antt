@@ -36,7 +36,7 @@ module _ (rules : Rules) (laws : StepLaws rules) (entries : Entries) (kept : Kee
 
   pub finding-of : Finding blocksIn rules entries
   finding-of t calls =
-      ap (λ (all : Total). blocksIn (all .sent)) (calls-are-steps-of rules entries kept t calls) ∙ found-by t calls (inputsDone entries t calls) refl
+      ap (λ (all : Total). blocksIn (all .bytesSent)) (calls-are-steps-of rules entries kept t calls) ∙ found-by t calls (inputsDone entries t calls) refl
 
   pub copying-calls-of : Copying blocksIn rules entries
   copying-calls-of t calls before asks later block did sends nothing =

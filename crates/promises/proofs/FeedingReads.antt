@@ -44,7 +44,7 @@ read-answered {t} {bytes} way valid short output =
 -- All reads of a stream.
 pub record ReadThrough (t : Terminal) (cut : List Read) (end : Terminal) : Type 0 where
   pub answered : AllDone (outcomes ourEntries t (reads cut))
-  pub nothing-sent : readAll ourEntries t cut .sent ≡ []
+  pub nothing-sent : readAll ourEntries t cut .bytesSent ≡ []
   pub terminal : readAll ourEntries t cut .terminal ≡ end
 
 pub read-through : {t end : Terminal} (cut : List Read) → Leads t (joinedBytes cut) end → Valid t → length (joinedBytes cut) ≤ 65536 → ReadThrough t cut end

@@ -236,6 +236,6 @@ blocks-found = refl
 
 -- So demand 3 speaks of this session: the copy is right after each of the three blocks that follow, and the changed one
 -- omits what was not stored.
-session-copied : CopyHolds blocksIn ourRules start (callAll ourEntries start session .sent) [] (fullBytes "A" "C") (stepOf ourRules (press 267) start .terminal) afterFirst
+session-copied : CopyHolds blocksIn ourRules start (callAll ourEntries start session .bytesSent) [] (fullBytes "A" "C") (stepOf ourRules (press 267) start .terminal) afterFirst
 unfolding keySteps streams after
 session-copied = demand-3 .copying start session [] (press 267) afterFirst (fullBytes "A" "C") (session-told .inputs-are) (ap fullBlock (full-noTag "A" "C")) stores-nothing

@@ -81,7 +81,7 @@ pub record Demand2 (rules : Rules) (entries : Entries) : Type 0 where
 -- Demand 3. What the host gets is one stream of bytes: it finds in it (`finds`) the blocks that were sent, in order.
 abbrev pub Finding : (List ℕ → List (List ℕ)) → Rules → Entries → Type 0
 Finding finds rules entries = (t : Terminal) (calls : List Call) →
-    finds (callAll entries t calls .sent) ≡ blocksSent (steps rules t (inputsDone entries t calls))
+    finds (callAll entries t calls .bytesSent) ≡ blocksSent (steps rules t (inputsDone entries t calls))
 
 -- The calls did some inputs, then one that had a full block sent, then keys and host bytes that store in no cell. The
 -- host lays each later block that it finds over its copy: right after each block the copy is the full block of the
@@ -92,7 +92,7 @@ Copying finds rules entries =
     inputsDone entries t calls ≡ before ++ (asks ∷ later) →
     let step = stepOf rules asks (after t (steps rules t before)) in
     step .transmission ≡ fullBlock block → HostStoresNothing rules (step .terminal) later →
-    CopyHolds finds rules t (callAll entries t calls .sent) before block (step .terminal) later
+    CopyHolds finds rules t (callAll entries t calls .bytesSent) before block (step .terminal) later
 
 pub record Demand3 (rules : Rules) (entries : Entries) : Type 0 where
   pub finding : Finding blocksIn rules entries

@@ -40,12 +40,12 @@ outcomes entries t (call ∷ later) =
 
 -- What calls leave together.
 unfoldable pub total : Terminal → List Outcome → Total
-total t [] = record { terminal = t; sent = []; stored = 0; refused = 0; protection = false }
+total t [] = record { terminal = t; bytesSent = []; stored = 0; refused = 0; protection = false }
 total t (outcome ∷ later) =
     let rest = total (outcome .terminal) later in
     record {
       terminal = rest .terminal;
-      sent = bytesSent outcome ++ rest .sent;
+      bytesSent = bytesSent outcome ++ rest .bytesSent;
       stored = outcome .stored + rest .stored;
       refused = outcome .refused + rest .refused;
       protection = outcome .protection or rest .protection;

@@ -25,7 +25,7 @@ pub record Receives (sender receiver : Terminal) : Type 0 where
 pub record FedBack (rules : Rules) (entries : Entries) (sender receiver : Terminal) (block : List ℕ) (cut : List Read)
     : Type 0 where
   pub answered : AllDone (outcomes entries receiver (reads cut))
-  pub nothing-sent : readAll entries receiver cut .sent ≡ []
+  pub nothing-sent : readAll entries receiver cut .bytesSent ≡ []
   pub nothing-refused : (step : Stepped) → List·Memᴰ step (byteSteps rules receiver block) → step .wasRefused ≡ false
   pub characters : (cell : ℕ) → unprotectedAt sender cell ≡ true →
       characterAt (readAll entries receiver cut .terminal) cell ≡ characterAt sender cell

@@ -38,7 +38,7 @@ byteSteps rules t bytes = steps rules t (map byte bytes)
 -- how many commands refused; whether protection may have changed.
 pub record Total : Type 0 where
   pub terminal : Terminal
-  pub sent : List ℕ
+  pub bytesSent : List ℕ
   pub stored : ℕ
   pub refused : ℕ
   pub protection : Bool
@@ -47,7 +47,7 @@ abbrev pub totalOf : Terminal → List Stepped → Total
 totalOf t run =
     record {
       terminal = after t run;
-      sent = bytesSentBy run;
+      bytesSent = bytesSentBy run;
       stored = length (cellsStoredBy run);
       refused = refusedBy run;
       protection = protectionBy run;

@@ -50,7 +50,7 @@ abbrev together : Outcome → Outcome → Total
 together first second =
     record {
       terminal = second .terminal;
-      sent = bytesSent first ++ bytesSent second;
+      bytesSent = bytesSent first ++ bytesSent second;
       stored = first .stored + second .stored;
       refused = first .refused + second .refused;
       protection = first .protection or second .protection;

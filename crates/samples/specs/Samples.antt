@@ -33,7 +33,7 @@ pub record InTwoReads
   pub as-one : numberOf (replies .first .answer) ≡ 0 → numberOf (replies .second .answer) ≡ 0 →
       record {
         terminal = record { state = replies .second .state; page = page };
-        sent = take (replies .first .sent) output ++ take (replies .second .sent) outputLater;
+        bytesSent = take (replies .first .sent) output ++ take (replies .second .sent) outputLater;
         stored = replies .first .stored + replies .second .stored;
         refused = replies .first .refused + replies .second .refused;
         protection = replies .first .protection or replies .second .protection;

@@ -68,7 +68,7 @@ pub takesLastByteOn3-breaks-continuing : Continuing ourRules takesLastByteOn3 �
 unfolding calls hostSteps streams
 takesLastByteOn3-breaks-continuing kept =
     let same = kept form textAndAsk _ (stopped noRoom [] refl ended) in
-    eqb-false 0 4 refl (ap (λ (left : Total). length (left .sent)) same)
+    eqb-false 0 4 refl (ap (λ (left : Total). length (left .bytesSent)) same)
 
 -- An empty host call stores nothing.
 pub inventsCount-breaks-calls-are-steps : CallsAreSteps ourRules inventsCount → ⊥
@@ -83,4 +83,4 @@ pub sendsBackwards-breaks-calls-are-steps : CallsAreSteps ourRules sendsBackward
 unfolding calls hostSteps streams
 sendsBackwards-breaks-calls-are-steps kept =
     let same = kept form (read askTwice (replicate 10 0) ∷ []) in
-    eqb-false (code ";") (code "n") refl (ap (λ (left : Total). getD (left .sent) 3 0) same)
+    eqb-false (code ";") (code "n") refl (ap (λ (left : Total). getD (left .bytesSent) 3 0) same)
