@@ -1,10 +1,11 @@
 -- What a call given 0 did besides, or left undone, is caught by demand 2, Follows.
-use mathlib.Core.Path.{refl, ap}
-use mathlib.Core.List.{List, []}
+use mathlib.Core.Path.{refl, sym, ap}
+use mathlib.Core.List.{List, [], _∷_}
 use Prim.Native.Nat.{ℕ}
 use Prim.Native.Char.{code}
 use borrow.Author.Tests.{eqb-false}
 use lib.ListN.{getD, replicate}
+use Rattle.words.proofs.Choosing.{true-is-not-false}
 use Rattle.page.specs.Page.{Page, pageOf}
 use Rattle.state.specs.declared.Size.{Size}
 use Rattle.state.specs.declared.State.{State}
@@ -14,6 +15,7 @@ use Rattle.terminal.specs.Calls.{startStep}
 use Rattle.promises.specs.Rules.{ourRules}
 use Rattle.promises.specs.Demands.{Follows}
 use Rattle.wrong.specs.Entries.{paintsStart, startsOtherSize, skipsSameCharacter, deadKeys, takesMore, writesPast}
+use Rattle.wrong.specs.Entries.{hidesRefusals, deniesProtection}
 use Rattle.wrong.proofs.WrongCopies.{clear, before}
 use Rattle.promises.proofs.Computing.{hostSteps, keySteps, calls, streams}
 
@@ -56,3 +58,12 @@ pub writesPast-breaks-follows : Follows ourRules writesPast → ⊥
 unfolding calls hostSteps streams
 writesPast-breaks-follows kept =
     eqb-false 1 0 refl (ap (λ (output : List ℕ). getD output 9 0) (kept .of-host onB [] (replicate 10 0) refl .output))
+
+-- A byte of 80 is one refused command, and host text may change protection.
+pub hidesRefusals-breaks-follows : Follows ourRules hidesRefusals → ⊥
+unfolding calls hostSteps streams
+hidesRefusals-breaks-follows kept = eqb-false 0 1 refl (kept .of-host onB (0x80 ∷ []) [] refl .refused)
+
+pub deniesProtection-breaks-follows : Follows ourRules deniesProtection → ⊥
+unfolding calls hostSteps streams
+deniesProtection-breaks-follows kept = true-is-not-false (sym (kept .of-host onB (code "X" ∷ []) [] refl .protection))

@@ -57,6 +57,20 @@ counting stored o = outcomeWith (o .number) (o .taken) (o .sent) stored (o .term
 abbrev pub showing : List ℕ → Outcome → Outcome
 showing output o = outcomeWith (o .number) (o .taken) (o .sent) (o .stored) (o .terminal) output o
 
+-- One that tells otherwise of refused commands and of protection.
+abbrev telling : ℕ → Bool → Outcome → Outcome
+telling refused protection o =
+    record {
+      number = o .number;
+      taken = o .taken;
+      sent = o .sent;
+      stored = o .stored;
+      refused = refused;
+      protection = protection;
+      terminal = o .terminal;
+      output = o .output;
+    }
+
 -- A terminal with another page, with nothing half read, with no cell modified.
 abbrev pub withPage : Page → Terminal → Terminal
 withPage page t = record { state = t .state; page = page }
@@ -151,6 +165,13 @@ takesMore = changingHost (on0 (λ o. taking (o .taken + 1) o))
 -- It writes a 1 past the bytes sent, at the output's tenth place.
 abbrev pub writesPast : Entries
 writesPast = changingHost (on0 (λ o. showing (set (o .output) 9 1) o))
+
+-- It tells of no refused command; it denies that protection may have changed.
+abbrev pub hidesRefusals : Entries
+hidesRefusals = changingHost (λ o. telling 0 (o .protection) o)
+
+abbrev pub deniesProtection : Entries
+deniesProtection = changingHost (λ o. telling (o .refused) false o)
 
 -- Demand 2, cutting. What is half read is lost when a call ends.
 abbrev pub dropsHalfRead : Entries
