@@ -6,25 +6,24 @@ use Prim.Native.Nat.{ℕ, zero, suc, _+_, _-_, _<_, _≤_}
 use native.Mathlib.Nat.{eq-or-lt-of-le}
 use native.Mathlib.Omega.{arith}
 use Rattle.words.proofs.Choosing.{either-line, le-or-lt, not-both}
-use Rattle.places.specs.Places.{placeOf}
 use Rattle.fields.specs.Fields.{Field, joined, fieldStart, endFrom, fieldEnd}
 use Rattle.fields.proofs.Claims.{IsField, endOf, _has_, fieldAround, IsAround, UnprotectedAround}
-use Rattle.fields.proofs.Laws.{first-opens, none-opens, one-row, are-joined, are-apart, why-apart, joined-unprotected, joined-within}
+use Rattle.fields.proofs.Laws.{are-joined, are-apart, why-apart, joined-unprotected}
 
 -- What is known of the start and of the end that are found from a cell.
-module _ (isUnprotected : ℕ → Bool) (columns : ℕ) where
+module _ (isUnprotected : ℕ → Bool) where
   pub record IsStart (cell start : ℕ) : Type 0 where
     pub low : start ≤ cell
-    pub inside : (k : ℕ) → start < k → k ≤ cell → joined isUnprotected (placeOf columns k) ≡ true
-    pub before : joined isUnprotected (placeOf columns start) ≡ false
+    pub inside : (k : ℕ) → start < k → k ≤ cell → joined isUnprotected k ≡ true
+    pub before : joined isUnprotected start ≡ false
 
-  pub start-of : (cell : ℕ) → IsStart cell (fieldStart isUnprotected columns cell)
+  pub start-of : (cell : ℕ) → IsStart cell (fieldStart isUnprotected cell)
   unfolding fieldStart
   start-of zero =
       record {
         low = omega arith;
         inside = λ k over under. absurd (omega arith);
-        before = are-apart isUnprotected (placeOf columns zero) (inl (first-opens columns));
+        before = are-apart isUnprotected zero (inl refl);
       }
   start-of (suc cell) =
       let further = start-of cell in
@@ -39,10 +38,10 @@ module _ (isUnprotected : ℕ → Bool) (columns : ℕ) where
   pub record IsEnd (cells cell end : ℕ) : Type 0 where
     pub high : cell < end
     pub on-page : end ≤ cells
-    pub inside : (k : ℕ) → cell < k → k < end → joined isUnprotected (placeOf columns k) ≡ true
-    pub after : (end ≡ cells) ⊎ (joined isUnprotected (placeOf columns end) ≡ false)
+    pub inside : (k : ℕ) → cell < k → k < end → joined isUnprotected k ≡ true
+    pub after : (end ≡ cells) ⊎ (joined isUnprotected end ≡ false)
 
-  end-from : (cells more cell : ℕ) → cells ≡ cell + 1 + more → IsEnd cells cell (endFrom isUnprotected columns cell more)
+  end-from : (cells more cell : ℕ) → cells ≡ cell + 1 + more → IsEnd cells cell (endFrom isUnprotected cell more)
   unfolding endFrom
   end-from cells zero cell all =
       record { high = omega arith; on-page = omega arith; inside = λ k over under. absurd (omega arith); after = inl (omega arith) }
@@ -58,56 +57,55 @@ module _ (isUnprotected : ℕ → Bool) (columns : ℕ) where
       (λ j. record { high = omega arith; on-page = omega arith; inside = λ k over under. absurd (omega arith); after = inr j })
 
   -- the page has so many cells, or the cell is past it
-  pub end-anywhere : (cells cell : ℕ) → IsEnd (cell + 1 + (cells - (cell + 1))) cell (fieldEnd isUnprotected columns cells cell)
+  pub end-anywhere : (cells cell : ℕ) → IsEnd (cell + 1 + (cells - (cell + 1))) cell (fieldEnd isUnprotected cells cell)
   unfolding fieldEnd
   end-anywhere cells cell = end-from (cell + 1 + (cells - (cell + 1))) (cells - (cell + 1)) cell refl
 
-  pub end-of : (cells cell : ℕ) → cell < cells → IsEnd cells cell (fieldEnd isUnprotected columns cells cell)
+  pub end-of : (cells cell : ℕ) → cell < cells → IsEnd cells cell (fieldEnd isUnprotected cells cell)
   end-of cells cell here = let all : cell + 1 + (cells - (cell + 1)) ≡ cells = omega arith in rw all at (end-anywhere cells cell)
 
-  joined-around : (cells cell k : ℕ) → fieldStart isUnprotected columns cell < k → k < fieldEnd isUnprotected columns cells cell → joined isUnprotected (placeOf columns k) ≡ true
+  joined-around : (cells cell k : ℕ) → fieldStart isUnprotected cell < k → k < fieldEnd isUnprotected cells cell → joined isUnprotected k ≡ true
   joined-around cells cell k over under =
       ⊎-elim (λ back. start-of cell .inside k over back) (λ on. end-anywhere cells cell .inside k on under) (le-or-lt k cell)
 
   -- cells that are joined, each to the one before it, are unprotected if one of them is
-  run-unprotected : (first end : ℕ) → ((k : ℕ) → first < k → k < end → joined isUnprotected (placeOf columns k) ≡ true) → (cell : ℕ) → first ≤ cell → cell < end → isUnprotected cell ≡ true → (k : ℕ) → first ≤ k → k < end → isUnprotected k ≡ true
-  unfolding placeOf
+  run-unprotected : (first end : ℕ) → ((k : ℕ) → first < k → k < end → joined isUnprotected k ≡ true) → (cell : ℕ) → first ≤ cell → cell < end → isUnprotected cell ≡ true → (k : ℕ) → first ≤ k → k < end → isUnprotected k ≡ true
   run-unprotected first end inside cell from to is-unprotected k low high =
       ⊎-elim
       (λ back. ⊎-elim (λ same. rw same is-unprotected)
-      (λ less. let again : k + 1 - 1 ≡ k = omega arith in rw (← again) (joined-unprotected isUnprotected (placeOf columns (k + 1)) (inside (k + 1) (omega arith) (omega arith)) .0))
+      (λ less. let again : k + 1 - 1 ≡ k = omega arith in rw (← again) (joined-unprotected isUnprotected (k + 1) (inside (k + 1) (omega arith) (omega arith)) .0))
       (eq-or-lt-of-le back))
-      (λ on. joined-unprotected isUnprotected (placeOf columns k) (inside k (omega arith) high) .1)
+      (λ on. joined-unprotected isUnprotected k (inside k (omega arith) high) .1)
       (le-or-lt k cell)
 
-  pub all-unprotected-around : (cells cell : ℕ) → isUnprotected cell ≡ true → UnprotectedAround isUnprotected columns cells cell
+  pub all-unprotected-around : (cells cell : ℕ) → isUnprotected cell ≡ true → UnprotectedAround isUnprotected cells cell
   all-unprotected-around cells cell is-unprotected =
       let low = start-of cell .low in
       let high = end-anywhere cells cell .high in
       record {
         low = low;
         high = high;
-        all-unprotected = run-unprotected (fieldStart isUnprotected columns cell) (fieldEnd isUnprotected columns cells cell) (joined-around cells cell) cell low high is-unprotected;
+        all-unprotected = run-unprotected (fieldStart isUnprotected cell) (fieldEnd isUnprotected cells cell) (joined-around cells cell) cell low high is-unprotected;
       }
 
 -- A longest run of joined cells.
-module _ (isUnprotected : ℕ → Bool) (columns cells : ℕ) where
+module _ (isUnprotected : ℕ → Bool) (cells : ℕ) where
   record IsRun (field : Field) : Type 0 where
     pub some-cells : field .start < endOf field
     pub on-page : endOf field ≤ cells
-    pub inside : (k : ℕ) → field .start < k → k < endOf field → joined isUnprotected (placeOf columns k) ≡ true
-    pub before : joined isUnprotected (placeOf columns (field .start)) ≡ false
-    pub after : (endOf field ≡ cells) ⊎ (joined isUnprotected (placeOf columns (endOf field)) ≡ false)
+    pub inside : (k : ℕ) → field .start < k → k < endOf field → joined isUnprotected k ≡ true
+    pub before : joined isUnprotected (field .start) ≡ false
+    pub after : (endOf field ≡ cells) ⊎ (joined isUnprotected (endOf field) ≡ false)
 
-  run-around : (cell : ℕ) → cell < cells → IsRun (fieldAround isUnprotected columns cells cell)
+  run-around : (cell : ℕ) → cell < cells → IsRun (fieldAround isUnprotected cells cell)
   run-around cell here =
-      let left = start-of isUnprotected columns cell in
-      let right = end-of isUnprotected columns cells cell here in
-      let end : endOf (fieldAround isUnprotected columns cells cell) ≡ fieldEnd isUnprotected columns cells cell = omega arith in
+      let left = start-of isUnprotected cell in
+      let right = end-of isUnprotected cells cell here in
+      let end : endOf (fieldAround isUnprotected cells cell) ≡ fieldEnd isUnprotected cells cell = omega arith in
       record {
         some-cells = omega arith;
         on-page = omega arith;
-        inside = λ k over under. joined-around isUnprotected columns cells cell k over (omega arith);
+        inside = λ k over under. joined-around isUnprotected cells cell k over (omega arith);
         before = left .before;
         after = rw end (right .after);
       }
@@ -134,57 +132,54 @@ module _ (isUnprotected : ℕ → Bool) (columns cells : ℕ) where
   -- a run that has a unprotected cell is a field, and a field is a run
   module _ {field : Field} (run : IsRun field) (cell : ℕ) (here : field has cell) (is-unprotected : isUnprotected cell ≡ true) where
     all-unprotected : (k : ℕ) → field has k → isUnprotected k ≡ true
-    all-unprotected k within = run-unprotected isUnprotected columns (field .start) (endOf field) (run .inside) cell (here .0) (here .1) is-unprotected k (within .0) (within .1)
+    all-unprotected k within = run-unprotected isUnprotected (field .start) (endOf field) (run .inside) cell (here .0) (here .1) is-unprotected k (within .0) (within .1)
 
-    field-of : 0 < columns → IsField isUnprotected columns cells field
-    unfolding placeOf
-    field-of some =
+    field-of : IsField isUnprotected cells field
+    field-of =
         record {
           some-cells = omega (arith, run .some-cells);
           on-page = run .on-page;
           all-unprotected = all-unprotected;
-          one-row = one-row columns some (field .start) (endOf field - 1) (omega arith) (λ k over under. joined-within isUnprotected (placeOf columns k) (run .inside k over (omega arith)));
           none-before =
               ⊎-elim inl (⊎-elim inr (λ right. absurd (not-both (all-unprotected (field .start) (omega arith)) right)))
-              (why-apart isUnprotected (placeOf columns (field .start)) (run .before));
+              (why-apart isUnprotected (field .start) (run .before));
           none-after =
               ⊎-elim inl
-              (λ apart. inr (⊎-elim inl (⊎-elim (λ left. absurd (not-both (all-unprotected (endOf field - 1) (omega arith)) left)) inr)
-              (why-apart isUnprotected (placeOf columns (endOf field)) apart)))
+              (λ apart. inr (⊎-elim (λ first. absurd (omega (arith, run .some-cells)))
+              (⊎-elim (λ left. absurd (not-both (all-unprotected (endOf field - 1) (omega arith)) left)) (λ right. right))
+              (why-apart isUnprotected (endOf field) apart)))
               (run .after);
         }
 
-  run-of : {field : Field} → 0 < columns → IsField isUnprotected columns cells field → IsRun field
-  unfolding placeOf
-  run-of {field} some is =
+  run-of : {field : Field} → IsField isUnprotected cells field → IsRun field
+  run-of {field} is =
       record {
         some-cells = omega (arith, is .some-cells);
         on-page = is .on-page;
         inside = λ k over under.
-            are-joined isUnprotected (placeOf columns k)
-            (none-opens columns some (field .start) (endOf field - 1) k (is .one-row) over (omega arith))
+            are-joined isUnprotected k
+            (omega arith)
             (is .all-unprotected (k - 1) (omega arith))
             (is .all-unprotected k (omega arith));
-        before = are-apart isUnprotected (placeOf columns (field .start)) (⊎-elim inl (λ left. inr (inl left)) (is .none-before));
-        after = ⊎-elim inl (λ apart. inr (are-apart isUnprotected (placeOf columns (endOf field)) (⊎-elim inl (λ right. inr (inr right)) apart))) (is .none-after);
+        before = are-apart isUnprotected (field .start) (⊎-elim inl (λ left. inr (inl left)) (is .none-before));
+        after = ⊎-elim inl (λ apart. inr (are-apart isUnprotected (endOf field) (inr (inr apart)))) (is .none-after);
       }
 
-  module _ (some : 0 < columns) where
-    pub same-field : {one other : Field} → IsField isUnprotected columns cells one → IsField isUnprotected columns cells other → (cell : ℕ) → one has cell → other has cell → one ≡ other
-    same-field is is′ = one-run (run-of some is) (run-of some is′)
+  pub same-field : {one other : Field} → IsField isUnprotected cells one → IsField isUnprotected cells other → (cell : ℕ) → one has cell → other has cell → one ≡ other
+  same-field is is′ = one-run (run-of is) (run-of is′)
 
-    pub around : (cell : ℕ) → cell < cells → isUnprotected cell ≡ true → IsAround isUnprotected columns cells cell
-    around cell here is-unprotected =
-        let start = fieldStart isUnprotected columns cell in
-        let left = start-of isUnprotected columns cell in
-        let right = end-of isUnprotected columns cells cell here in
-        let left′ = start-of isUnprotected columns start in
-        let right′ = end-of isUnprotected columns cells start (omega arith) in
-        let run = run-around cell here in
-        let same : fieldAround isUnprotected columns cells start ≡ fieldAround isUnprotected columns cells cell =
-        one-run (run-around start (omega arith)) run start (omega arith) (omega arith) in
-        record {
-          is-field = field-of run cell (omega arith) is-unprotected some;
-          has-cell = (left .low, right .high);
-          one-end = omega (arith, ap (λ (f : Field). f .start) same, ap (λ (f : Field). f .length) same);
-        }
+  pub around : (cell : ℕ) → cell < cells → isUnprotected cell ≡ true → IsAround isUnprotected cells cell
+  around cell here is-unprotected =
+      let start = fieldStart isUnprotected cell in
+      let left = start-of isUnprotected cell in
+      let right = end-of isUnprotected cells cell here in
+      let left′ = start-of isUnprotected start in
+      let right′ = end-of isUnprotected cells start (omega arith) in
+      let run = run-around cell here in
+      let same : fieldAround isUnprotected cells start ≡ fieldAround isUnprotected cells cell =
+      one-run (run-around start (omega arith)) run start (omega arith) (omega arith) in
+      record {
+        is-field = field-of run cell (omega arith) is-unprotected;
+        has-cell = (left .low, right .high);
+        one-end = omega (arith, ap (λ (f : Field). f .start) same, ap (λ (f : Field). f .length) same);
+      }

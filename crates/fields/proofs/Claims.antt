@@ -4,11 +4,11 @@ use mathlib.Core.Path.{_≡_}
 use mathlib.Core.Bool.{Bool, true, false}
 use mathlib.Core.List.{List, [], _∷_, List·Memᴰ}
 use mathlib.Core.Logic.{_⊎_}
-use Prim.Native.Nat.{ℕ, _+_, _-_, _/_, _<_, _≤_}
+use Prim.Native.Nat.{ℕ, _+_, _-_, _<_, _≤_}
 use Rattle.places.specs.Places.{placeOf}
 use Rattle.fields.specs.declared.Sought.{Sought}
 use Rattle.fields.specs.declared.Sought.the-variants.{At, Nowhere}
-use Rattle.fields.specs.Fields.{Field, opensStretch, fieldStart, fieldEnd}
+use Rattle.fields.specs.Fields.{Field, fieldStart, fieldEnd}
 
 -- The cell after a field's last.
 abbrev pub endOf : Field → ℕ
@@ -19,36 +19,33 @@ infix 20 _has_
 abbrev pub _has_ : Field → ℕ → Type 0
 field has cell = (field .start ≤ cell) × (cell < endOf field)
 
--- A field can't be made longer: no cell can be added before it, nor after it.
--- Cell / columns is the row, counted from 0.
--- A stretch opens at the left margin, so a cell there does not follow on the one before.
-pub record IsField (isUnprotected : ℕ → Bool) (columns cells : ℕ) (field : Field) : Type 0 where
+-- A field can't be made longer: no cell can be added before it, nor after it. The page's ends are not joined.
+pub record IsField (isUnprotected : ℕ → Bool) (cells : ℕ) (field : Field) : Type 0 where
   pub some-cells : 1 ≤ field .length
   pub on-page : endOf field ≤ cells
   pub all-unprotected : (cell : ℕ) → field has cell → isUnprotected cell ≡ true
-  pub one-row : field .start / columns ≡ (endOf field - 1) / columns
-  pub none-before : (opensStretch (placeOf columns (field .start)) ≡ true) ⊎ (isUnprotected (field .start - 1) ≡ false)
-  pub none-after : (endOf field ≡ cells) ⊎ ((opensStretch (placeOf columns (endOf field)) ≡ true) ⊎ (isUnprotected (endOf field) ≡ false))
+  pub none-before : (field .start ≡ 0) ⊎ (isUnprotected (field .start - 1) ≡ false)
+  pub none-after : (endOf field ≡ cells) ⊎ (isUnprotected (endOf field) ≡ false)
 
 -- The field around a cell, by its two bounds.
-abbrev pub fieldAround : (ℕ → Bool) → ℕ → ℕ → ℕ → Field
-fieldAround isUnprotected columns cells cell =
+abbrev pub fieldAround : (ℕ → Bool) → ℕ → ℕ → Field
+fieldAround isUnprotected cells cell =
     record {
-      start = fieldStart isUnprotected columns cell;
-      length = fieldEnd isUnprotected columns cells cell - fieldStart isUnprotected columns cell;
+      start = fieldStart isUnprotected cell;
+      length = fieldEnd isUnprotected cells cell - fieldStart isUnprotected cell;
     }
 
-pub record IsAround (isUnprotected : ℕ → Bool) (columns cells cell : ℕ) : Type 0 where
-  pub is-field : IsField isUnprotected columns cells (fieldAround isUnprotected columns cells cell)
-  pub has-cell : (fieldStart isUnprotected columns cell ≤ cell) × (cell < fieldEnd isUnprotected columns cells cell)
-  pub one-end : fieldEnd isUnprotected columns cells (fieldStart isUnprotected columns cell) ≡ fieldEnd isUnprotected columns cells cell
+pub record IsAround (isUnprotected : ℕ → Bool) (cells cell : ℕ) : Type 0 where
+  pub is-field : IsField isUnprotected cells (fieldAround isUnprotected cells cell)
+  pub has-cell : (fieldStart isUnprotected cell ≤ cell) × (cell < fieldEnd isUnprotected cells cell)
+  pub one-end : fieldEnd isUnprotected cells (fieldStart isUnprotected cell) ≡ fieldEnd isUnprotected cells cell
 
 -- From the one bound to the other all cells are unprotected.
 -- This asks nothing of the numbers: the cell may be past the page.
-pub record UnprotectedAround (isUnprotected : ℕ → Bool) (columns cells cell : ℕ) : Type 0 where
-  pub low : fieldStart isUnprotected columns cell ≤ cell
-  pub high : cell < fieldEnd isUnprotected columns cells cell
-  pub all-unprotected : (k : ℕ) → fieldStart isUnprotected columns cell ≤ k → k < fieldEnd isUnprotected columns cells cell → isUnprotected k ≡ true
+pub record UnprotectedAround (isUnprotected : ℕ → Bool) (cells cell : ℕ) : Type 0 where
+  pub low : fieldStart isUnprotected cell ≤ cell
+  pub high : cell < fieldEnd isUnprotected cells cell
+  pub all-unprotected : (k : ℕ) → fieldStart isUnprotected cell ≤ k → k < fieldEnd isUnprotected cells cell → isUnprotected k ≡ true
 
 -- Page order: each field ends at or before the start of every later one.
 -- (By membership: no claim needs a field's index in the list.)
@@ -56,11 +53,18 @@ pub data InOrder : List Field → Type 0 where
   none : InOrder []
   one-more : {field : Field} {later : List Field} → ((other : Field) → List·Memᴰ other later → endOf field ≤ other .start) → InOrder later → InOrder (field ∷ later)
 
--- The list has the page's fields and no others, they have every unprotected cell, and it is in page order.
-pub record Lists (isUnprotected : ℕ → Bool) (columns cells : ℕ) (fields : List Field) : Type 0 where
-  pub only-fields : (field : Field) → List·Memᴰ field fields → IsField isUnprotected columns cells field
-  pub every-field : (field : Field) → IsField isUnprotected columns cells field → List·Memᴰ field fields
-  pub every-cell : (cell : ℕ) → cell < cells → isUnprotected cell ≡ true → (field : Field) × List·Memᴰ field fields × (field has cell)
+-- The cell is in exactly one field of the list.
+pub record InOneField (fields : List Field) (cell : ℕ) : Type 0 where
+  pub field : Field
+  pub listed : List·Memᴰ field fields
+  pub has-cell : field has cell
+  pub no-other : (other : Field) → List·Memᴰ other fields → other has cell → other ≡ field
+
+-- The list has the page's fields and no others, each unprotected cell in exactly one, in page order.
+pub record Lists (isUnprotected : ℕ → Bool) (cells : ℕ) (fields : List Field) : Type 0 where
+  pub only-fields : (field : Field) → List·Memᴰ field fields → IsField isUnprotected cells field
+  pub every-field : (field : Field) → IsField isUnprotected cells field → List·Memᴰ field fields
+  pub every-cell : (cell : ℕ) → cell < cells → isUnprotected cell ≡ true → InOneField fields cell
   pub in-order : InOrder fields
 
 -- A field of the list starts at the cell.

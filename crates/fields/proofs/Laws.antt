@@ -1,91 +1,77 @@
--- Laws of stretches and of joined cells, over any test `unprotected` of which cells are unprotected.
-use mathlib.Core.Path.{_≡_, refl, ap, _∙_}
+-- Laws of joined cells, over any test `isUnprotected` of which cells are unprotected.
+use mathlib.Core.Path.{_≡_, refl, sym, ap, _∙_}
 use mathlib.Core.Bool.{Bool, true, false, not}
 use mathlib.Core.Logic.{_⊎_, inl, inr, ⊎-elim}
-use Prim.Native.Nat.{ℕ, zero, suc, _+_, _-_, _*_, _/_, _%_, _<_, _≤_}
-use native.Mathlib.Nat.{eq-or-lt-of-le, zero-mod, mod-lt, div-add-mod', div-eq-of-lt-le, lt-div-mul-add}
+use Prim.Native.Nat.{ℕ, zero, suc, _-_, _<_}
+use native.Mathlib.Numerals.{sub-one}
 use native.Mathlib.Omega.{arith}
-use borrow.Author.Tests.{eq-eqb, ne-eqb, eqb-false, not-true, not-false}
+use borrow.Author.Tests.{not-true}
+use Rattle.words.specs.Choice.{_and_}
 use Rattle.words.proofs.Choosing.{else-case, both, both-hold, first-fails, second-fails, one-fails}
-use Rattle.places.specs.declared.Place.{Place}
-use Rattle.places.specs.Places.{placeOf}
-use Rattle.words.proofs.Walking.{once-more}
-use Rattle.fields.specs.Fields.{opensStretch, joined, startsField, fieldStart}
+use Rattle.fields.specs.Fields.{joined, startsField, fieldStart}
 
--- Where stretches open. Only this section looks into `opensStretch`.
-pub first-opens : (columns : ℕ) → opensStretch (placeOf columns 0) ≡ true
-unfolding opensStretch placeOf
-first-opens columns = eq-eqb (0 % columns + 1) 1 (omega (arith, zero-mod columns))
+is-first-or-later : (cell : ℕ) → (cell ≡ 0) ⊎ (0 < cell)
+is-first-or-later zero = inl refl
+is-first-or-later (suc before) = inr (omega arith)
 
-module _ (columns : ℕ) (some : 0 < columns) where
-  -- none opens at a cell that has one of its row before it
-  pub none-opens : (start last cell : ℕ) → start / columns ≡ last / columns → start < cell → cell ≤ last → opensStretch (placeOf columns cell) ≡ false
-  unfolding opensStretch placeOf
-  none-opens start last cell row after before =
-      let from : start / columns * columns + start % columns ≡ start = div-add-mod' start columns in
-      let to : last < last / columns * columns + columns = lt-div-mul-add some in
-      let same : start / columns * columns ≡ last / columns * columns = ap (λ (n : ℕ). n * columns) row in
-      let more = once-more (start / columns) columns in
-      let here : cell / columns ≡ start / columns = div-eq-of-lt-le columns (omega arith) (omega arith) in
-      let again : cell / columns * columns ≡ start / columns * columns = ap (λ (n : ℕ). n * columns) here in
-      let spelt = div-add-mod' cell columns in
-      ne-eqb (cell % columns + 1) 1 (λ margin. omega arith)
-
-  next-in-row : (cell : ℕ) → opensStretch (placeOf columns (suc cell)) ≡ false → cell / columns ≡ suc cell / columns
-  unfolding opensStretch placeOf
-  next-in-row cell closed =
-      let spelt : suc cell / columns * columns + suc cell % columns ≡ suc cell = div-add-mod' (suc cell) columns in
-      let off : suc cell % columns + 1 ≡ 1 → ⊥ = eqb-false _ _ closed in
-      let small = mod-lt (suc cell) some in
-      div-eq-of-lt-le columns (omega arith) (omega (arith, once-more (suc cell / columns) columns))
-
-  -- cells between which none opens stand in one row
-  pub one-row : (start last : ℕ) → start ≤ last → ((cell : ℕ) → start < cell → cell ≤ last → opensStretch (placeOf columns cell) ≡ false) → start / columns ≡ last / columns
-  one-row start zero low closed = let same : start ≡ zero = omega arith in ap (λ (n : ℕ). n / columns) same
-  one-row start (suc last) low closed =
-      ⊎-elim (ap (λ (n : ℕ). n / columns))
-      (λ less. one-row start last (omega arith) (λ cell after before. closed cell after (omega arith)) ∙ next-in-row last (closed (suc last) less (omega arith)))
-      (eq-or-lt-of-le low)
-
--- Two cells are joined, or there is a reason why not.
-module _ (isUnprotected : ℕ → Bool) (place : Place) where
-  pub joined-within : joined isUnprotected place ≡ true → opensStretch place ≡ false
+-- Two cells are joined, or there is a reason why not. Only this section looks into `joined`.
+module _ (isUnprotected : ℕ → Bool) where
+  pub joined-later : (cell : ℕ) → 0 < cell → joined isUnprotected cell ≡ (isUnprotected (cell - 1) and isUnprotected cell)
   unfolding joined
-  joined-within j = not-true _ (both j .0)
+  joined-later zero late = absurd (omega arith)
+  joined-later (suc before) late = rw (sub-one (suc before))
 
-  pub joined-unprotected : joined isUnprotected place ≡ true → (isUnprotected (place .cell - 1) ≡ true) × (isUnprotected (place .cell) ≡ true)
+  pub first-apart : joined isUnprotected 0 ≡ false
   unfolding joined
-  joined-unprotected j = both (both j .1)
+  first-apart = refl
 
-  pub are-joined : opensStretch place ≡ false → isUnprotected (place .cell - 1) ≡ true → isUnprotected (place .cell) ≡ true → joined isUnprotected place ≡ true
+  pub joined-has-before : (cell : ℕ) → joined isUnprotected cell ≡ true → 0 < cell
   unfolding joined
-  are-joined closed left right = both-hold _ _ (ap not closed) (both-hold _ _ left right)
+  joined-has-before zero j = let z : _≡_ {A = ℕ} 0 1 = cc in absurd (omega arith)
+  joined-has-before (suc before) j = omega arith
 
-  abbrev pub Apart : Type 0
-  Apart = (opensStretch place ≡ true) ⊎ ((isUnprotected (place .cell - 1) ≡ false) ⊎ (isUnprotected (place .cell) ≡ false))
+  module _ (cell : ℕ) where
+    pub joined-unprotected : joined isUnprotected cell ≡ true → (isUnprotected (cell - 1) ≡ true) × (isUnprotected cell ≡ true)
+    joined-unprotected j = both (sym (joined-later cell (joined-has-before cell j)) ∙ j)
 
-  pub are-apart : Apart → joined isUnprotected place ≡ false
-  unfolding joined
-  are-apart (inl opens) = first-fails _ _ (ap not opens)
-  are-apart (inr (inl left)) = second-fails _ _ (first-fails _ _ left)
-  are-apart (inr (inr right)) = second-fails _ _ (second-fails _ _ right)
+    pub are-joined : 0 < cell → isUnprotected (cell - 1) ≡ true → isUnprotected cell ≡ true → joined isUnprotected cell ≡ true
+    are-joined late left right = joined-later cell late ∙ both-hold _ _ left right
 
-  pub why-apart : joined isUnprotected place ≡ false → Apart
-  unfolding joined
-  why-apart j = ⊎-elim (λ opens. inl (not-false _ opens)) (λ rest. inr (one-fails rest)) (one-fails j)
+    apart-unless-first : (isUnprotected (cell - 1) and isUnprotected cell) ≡ false → joined isUnprotected cell ≡ false
+    apart-unless-first fails =
+        ⊎-elim (λ first. ap (joined isUnprotected) first ∙ first-apart) (λ late. joined-later cell late ∙ fails) (is-first-or-later cell)
+
+    -- after an unprotected cell it is the cell itself that counts
+    pub joined-if-unprotected : 0 < cell → isUnprotected (cell - 1) ≡ true → joined isUnprotected cell ≡ isUnprotected cell
+    unfolding _and_
+    joined-if-unprotected late left = joined-later cell late ∙ ap (λ (b : Bool). b and isUnprotected cell) left
+
+    abbrev pub Apart : Type 0
+    Apart = (cell ≡ 0) ⊎ ((isUnprotected (cell - 1) ≡ false) ⊎ (isUnprotected cell ≡ false))
+
+    pub are-apart : Apart → joined isUnprotected cell ≡ false
+    are-apart (inl first) = ap (joined isUnprotected) first ∙ first-apart
+    are-apart (inr (inl left)) = apart-unless-first (first-fails _ _ left)
+    are-apart (inr (inr right)) = apart-unless-first (second-fails _ _ right)
+
+    pub why-apart : joined isUnprotected cell ≡ false → Apart
+    why-apart j =
+        ⊎-elim inl
+        (λ late. inr (one-fails (sym (joined-later cell late) ∙ j)))
+        (is-first-or-later cell)
 
 -- A field starts at a cell that is unprotected and not joined to the one before.
-module _ (isUnprotected : ℕ → Bool) (columns cell : ℕ) where
-  pub start-is : startsField isUnprotected (placeOf columns cell) ≡ true → (isUnprotected cell ≡ true) × (joined isUnprotected (placeOf columns cell) ≡ false)
-  unfolding startsField placeOf
+module _ (isUnprotected : ℕ → Bool) (cell : ℕ) where
+  pub start-is : startsField isUnprotected cell ≡ true → (isUnprotected cell ≡ true) × (joined isUnprotected cell ≡ false)
+  unfolding startsField
   start-is s = let is = both s in (is .0, not-true _ (is .1))
 
-  pub is-start : isUnprotected cell ≡ true → joined isUnprotected (placeOf columns cell) ≡ false → startsField isUnprotected (placeOf columns cell) ≡ true
-  unfolding startsField placeOf
+  pub is-start : isUnprotected cell ≡ true → joined isUnprotected cell ≡ false → startsField isUnprotected cell ≡ true
+  unfolding startsField
   is-start here apart = both-hold _ _ here (ap not apart)
 
 -- Where the cell is not joined to the one before, its field starts there.
-pub start-here : (isUnprotected : ℕ → Bool) (columns cell : ℕ) → joined isUnprotected (placeOf columns cell) ≡ false → fieldStart isUnprotected columns cell ≡ cell
+pub start-here : (isUnprotected : ℕ → Bool) (cell : ℕ) → joined isUnprotected cell ≡ false → fieldStart isUnprotected cell ≡ cell
 unfolding fieldStart
-start-here isUnprotected columns zero j = refl
-start-here isUnprotected columns (suc cell) j = else-case _ _ _ j
+start-here isUnprotected zero j = refl
+start-here isUnprotected (suc cell) j = else-case _ _ _ j

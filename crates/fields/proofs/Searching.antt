@@ -11,10 +11,10 @@ use Rattle.words.proofs.Choosing.{either-line, not-both}
 use Rattle.places.specs.Places.{placeOf}
 use Rattle.fields.specs.declared.Sought.{Sought}
 use Rattle.fields.specs.declared.Sought.the-variants.{At, Nowhere}
-use Rattle.fields.specs.Fields.{Field, fieldFrom, fieldsFrom, fieldsOf}
+use Rattle.fields.specs.Fields.{Field, startsField, fieldFrom, fieldsFrom, fieldsOf}
 use Rattle.fields.specs.Searches.{orElse, firstField, lastField, firstAfter, lastBefore, firstUnprotectedFrom}
 use Rattle.fields.proofs.Claims.{endOf, InOrder, none, one-more, StartsAt, Passes, First, Last, Finds, found, nothing, GoesRound, Lands, on-cell, not-found}
-use Rattle.fields.proofs.Listing.{startsAt, listed-starts, start-listed, in-order}
+use Rattle.fields.proofs.Listing.{listed-starts, start-listed, in-order}
 
 module _ (columns : ℕ) where
   -- A search has one answer.
@@ -141,35 +141,35 @@ module _ (columns : ℕ) where
       (first-unprotected isUnprotected n (from + 1) to (omega arith)))
 
   module _ (isUnprotected : ℕ → Bool) (cells n from to : ℕ) (all : to ≡ from + n) where
-    by-cell : (k : ℕ) → StartsAt (fieldsFrom isUnprotected columns cells from n) k → Passes (startsAt isUnprotected columns) from to k
-    by-cell k s = rw (← s .here) (listed-starts isUnprotected columns cells n from to all (s .listed) .0)
+    by-cell : (k : ℕ) → StartsAt (fieldsFrom isUnprotected cells from n) k → Passes (startsField isUnprotected) from to k
+    by-cell k s = rw (← s .here) (listed-starts isUnprotected cells n from to all (s .listed) .0)
 
-    by-field : (k : ℕ) → Passes (startsAt isUnprotected columns) from to k → StartsAt (fieldsFrom isUnprotected columns cells from n) k
-    by-field k w = record { field = fieldFrom isUnprotected columns cells k; listed = start-listed isUnprotected columns cells n from to all k w; here = refl }
+    by-field : (k : ℕ) → Passes (startsField isUnprotected) from to k → StartsAt (fieldsFrom isUnprotected cells from n) k
+    by-field k w = record { field = fieldFrom isUnprotected cells k; listed = start-listed isUnprotected cells n from to all k w; here = refl }
 
-    pub first-start : to ≤ cells → Finds columns First (Passes (startsAt isUnprotected columns) from to) (firstField columns (fieldsFrom isUnprotected columns cells from n))
-    first-start fits = in-other-words by-cell by-field (first-of (in-order isUnprotected columns cells n from (omega arith)))
+    pub first-start : to ≤ cells → Finds columns First (Passes (startsField isUnprotected) from to) (firstField columns (fieldsFrom isUnprotected cells from n))
+    first-start fits = in-other-words by-cell by-field (first-of (in-order isUnprotected cells n from (omega arith)))
 
-    pub last-start : to ≤ cells → Finds columns Last (Passes (startsAt isUnprotected columns) from to) (lastField columns (fieldsFrom isUnprotected columns cells from n))
-    last-start fits = in-other-words by-cell by-field (last-of (in-order isUnprotected columns cells n from (omega arith)))
+    pub last-start : to ≤ cells → Finds columns Last (Passes (startsField isUnprotected) from to) (lastField columns (fieldsFrom isUnprotected cells from n))
+    last-start fits = in-other-words by-cell by-field (last-of (in-order isUnprotected cells n from (omega arith)))
 
   -- The first field that starts after a cell is the first that starts from the next one on;
   -- and so for the last before a cell.
   module _ (isUnprotected : ℕ → Bool) (cells cell : ℕ) where
-    pub after-is : (next : ℕ) → next ≡ cell + 1 → next ≤ cells → firstField columns (fieldsFrom isUnprotected columns cells next (cells - next)) ≡ firstAfter columns cell (fieldsOf isUnprotected columns cells)
+    pub after-is : (next : ℕ) → next ≡ cell + 1 → next ≤ cells → firstField columns (fieldsFrom isUnprotected cells next (cells - next)) ≡ firstAfter columns cell (fieldsOf isUnprotected cells)
     unfolding fieldsOf
     after-is next one fits =
         one-first (first-start isUnprotected cells (cells - next) next cells (omega arith) (omega arith))
         (in-other-words
         (λ k s. let w = by-cell isUnprotected cells cells 0 cells (omega arith) k (s .0) in (omega (arith, s .1), w .1, w .2))
         (λ k w. (by-field isUnprotected cells cells 0 cells (omega arith) k (omega arith, w .1, w .2), omega (arith, w .0)))
-        (first-after cell (in-order isUnprotected columns cells cells 0 (omega arith))))
+        (first-after cell (in-order isUnprotected cells cells 0 (omega arith))))
 
-    pub before-is : cell ≤ cells → lastField columns (fieldsFrom isUnprotected columns cells 0 cell) ≡ lastBefore columns cell (fieldsOf isUnprotected columns cells)
+    pub before-is : cell ≤ cells → lastField columns (fieldsFrom isUnprotected cells 0 cell) ≡ lastBefore columns cell (fieldsOf isUnprotected cells)
     unfolding fieldsOf
     before-is fits =
         one-last (last-start isUnprotected cells cell 0 cell (omega arith) fits)
         (in-other-words
         (λ k s. let w = by-cell isUnprotected cells cells 0 cells (omega arith) k (s .0) in (w .0, s .1, w .2))
         (λ k w. (by-field isUnprotected cells cells 0 cells (omega arith) k (w .0, omega (arith, w .1), w .2), w .1))
-        (last-before cell (in-order isUnprotected columns cells cells 0 (omega arith))))
+        (last-before cell (in-order isUnprotected cells cells 0 (omega arith))))

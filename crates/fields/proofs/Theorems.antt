@@ -15,30 +15,30 @@ use Rattle.fields.proofs.Bounds.{around, same-field, all-unprotected-ar
 use Rattle.fields.proofs.Listing.{in-order, lists-fields, listed-starts}
 use Rattle.fields.proofs.Searching.{in-other-words, goes-round, finds-something, first-of, last-of, first-after, last-before, first-unprotected, finds-on-page, either-lands}
 
-module _ (isUnprotected : ℕ → Bool) (columns cells : ℕ) (some-columns : 0 < columns) where
+module _ (isUnprotected : ℕ → Bool) (cells : ℕ) where
   -- Around an unprotected cell there is a field, and `fieldStart` and `fieldEnd` are its bounds.
-  pub field-around : (cell : ℕ) → cell < cells → isUnprotected cell ≡ true → IsAround isUnprotected columns cells cell
-  field-around = around isUnprotected columns cells some-columns
+  pub field-around : (cell : ℕ) → cell < cells → isUnprotected cell ≡ true → IsAround isUnprotected cells cell
+  field-around = around isUnprotected cells
 
   -- Two fields that share a cell are one.
-  pub one-field : {one other : Field} → IsField isUnprotected columns cells one → IsField isUnprotected columns cells other → (cell : ℕ) → one has cell → other has cell → one ≡ other
-  one-field = same-field isUnprotected columns cells some-columns
+  pub one-field : {one other : Field} → IsField isUnprotected cells one → IsField isUnprotected cells other → (cell : ℕ) → one has cell → other has cell → one ≡ other
+  one-field = same-field isUnprotected cells
 
-  -- `fieldsOf` lists the page's fields, all of them and nothing else, in page order.
-  pub all-fields-listed : Lists isUnprotected columns cells (fieldsOf isUnprotected columns cells)
-  all-fields-listed = lists-fields isUnprotected columns cells some-columns
+  -- `fieldsOf` lists the page's fields, all of them and nothing else, each unprotected cell in exactly one, in page order.
+  pub all-fields-listed : Lists isUnprotected cells (fieldsOf isUnprotected cells)
+  all-fields-listed = lists-fields isUnprotected cells
 
--- Whatever the page and the columns, no bound reaches over a protected cell.
-pub unprotected-around : (isUnprotected : ℕ → Bool) (columns cells cell : ℕ) → isUnprotected cell ≡ true → UnprotectedAround isUnprotected columns cells cell
+-- Whatever the page, no bound reaches over a protected cell.
+pub unprotected-around : (isUnprotected : ℕ → Bool) (cells cell : ℕ) → isUnprotected cell ≡ true → UnprotectedAround isUnprotected cells cell
 unprotected-around = all-unprotected-around
 
 module _ (isUnprotected : ℕ → Bool) (columns cells : ℕ) where
   abbrev fields : List Field
-  fields = fieldsOf isUnprotected columns cells
+  fields = fieldsOf isUnprotected cells
 
   fields-in-order : InOrder fields
   unfolding fieldsOf
-  fields-in-order = in-order isUnprotected columns cells cells 0 (omega arith)
+  fields-in-order = in-order isUnprotected cells cells 0 (omega arith)
 
   -- The page's first field, and its last.
   pub first-found : Finds columns First (StartsAt fields) (firstField columns fields)
@@ -91,7 +91,7 @@ module _ (isUnprotected : ℕ → Bool) (columns cells : ℕ) where
   -- All that these searches find is on the page.
   starts-on-page : (k : ℕ) → StartsAt fields k → k < cells
   unfolding fieldsOf
-  starts-on-page k s = rw (← s .here) (listed-starts isUnprotected columns cells cells 0 cells (omega arith) (s .listed) .0 .1)
+  starts-on-page k s = rw (← s .here) (listed-starts isUnprotected cells cells 0 cells (omega arith) (s .listed) .0 .1)
 
   pub next-field-lands : (cell : ℕ) → Lands columns cells (nextField columns cell fields)
   unfolding nextField

@@ -11,48 +11,33 @@ use Rattle.places.specs.Places.{placeOf, Counted}
 use Rattle.places.proofs.Counting.{cell-is, counted}
 use Rattle.fields.specs.declared.Sought.{Sought}
 use Rattle.fields.specs.declared.Sought.the-variants.{At, Nowhere}
-use Rattle.fields.specs.Fields.{opensStretch, joined, fieldStart, endFrom, fieldEnd, fieldsFrom, fieldsOf}
+use Rattle.fields.specs.Fields.{joined, fieldStart, endFrom, fieldEnd, fieldsFrom, fieldsOf}
 use Rattle.fields.specs.Searches.{orElse, firstUnprotectedFrom, firstUnprotected}
 use Rattle.fields.proofs.Claims.{Finds, found, nothing, First, Last, Passes}
-use Rattle.fields.proofs.Laws.{first-opens, joined-within, start-here}
+use Rattle.fields.proofs.Laws.{joined-has-before}
 
--- The first cell opens a stretch.
-pub at-first-opens : {columns : ℕ} {place : Place} → Counted columns place → place .cell ≡ 0 → opensStretch place ≡ true
-at-first-opens {columns} known first = ap opensStretch (known .right ∙ ap (placeOf columns) first) ∙ first-opens columns
-
--- where no stretch opens there is a cell before
-pub has-before : (place : Place) → (place .cell ≡ 0 → opensStretch place ≡ true) → opensStretch place ≡ false → 0 < place .cell
-has-before place opens closed = let late : place .cell ≡ 0 → ⊥ = λ first. not-both (opens first) closed in omega arith
-
--- A turn of the walk to a field's start, and the walk's end.
-start-before : (isUnprotected : ℕ → Bool) (columns cell : ℕ) → 0 < cell → joined isUnprotected (placeOf columns cell) ≡ true → fieldStart isUnprotected columns cell ≡ fieldStart isUnprotected columns (cell - 1)
+-- A turn of the walk to a field's start.
+pub start-on : (isUnprotected : ℕ → Bool) (cell : ℕ) → joined isUnprotected cell ≡ true → fieldStart isUnprotected cell ≡ fieldStart isUnprotected (cell - 1)
 unfolding fieldStart
-start-before isUnprotected columns zero h j = absurd (omega arith)
-start-before isUnprotected columns (suc cell) h j = rw (sub-one (suc cell)) (then-case _ _ _ j)
+start-on isUnprotected zero j = absurd (omega (arith, joined-has-before isUnprotected zero j))
+start-on isUnprotected (suc cell) j = rw (sub-one (suc cell)) (then-case _ _ _ j)
 
-module _ (isUnprotected : ℕ → Bool) {columns : ℕ} {here : Place} (known : Counted columns here) where
-  pub joined-has-before : joined isUnprotected here ≡ true → 0 < here .cell
-  joined-has-before j = has-before here (at-first-opens known) (joined-within isUnprotected here j)
+-- A turn of the walk to a field's end, and the walk's two ends. The walk has come to `end`, from the cell before it on.
+module _ (isUnprotected : ℕ → Bool) (cells end : ℕ) (some : 0 < end) where
+  here : end - 1 + 1 ≡ end
+  here = omega arith
 
-  pub start-on : joined isUnprotected here ≡ true → fieldStart isUnprotected columns (here .cell) ≡ fieldStart isUnprotected columns (here .cell - 1)
-  start-on j = start-before isUnprotected columns (here .cell) (joined-has-before j) (ap (joined isUnprotected) (sym (known .right)) ∙ j)
-
-  pub start-stops : joined isUnprotected here ≡ false → fieldStart isUnprotected columns (here .cell) ≡ here .cell
-  start-stops j = start-here isUnprotected columns (here .cell) (ap (joined isUnprotected) (sym (known .right)) ∙ j)
-
--- A turn of the walk to a field's end, and the walk's two ends.
-module _ (isUnprotected : ℕ → Bool) (columns cells cell : ℕ) where
-  pub end-on : cell + 1 < cells → joined isUnprotected (placeOf columns (cell + 1)) ≡ true → fieldEnd isUnprotected columns cells cell ≡ fieldEnd isUnprotected columns cells (cell + 1)
+  pub end-on : end < cells → joined isUnprotected end ≡ true → fieldEnd isUnprotected cells (end - 1) ≡ fieldEnd isUnprotected cells end
   unfolding fieldEnd endFrom
-  end-on h j = let more : cells - (cell + 1) ≡ suc (cells - (cell + 1 + 1)) = omega arith in rw more (then-case _ _ _ j)
+  end-on h j = let more : cells - end ≡ suc (cells - (end + 1)) = omega arith in rw (here, more) (then-case _ _ _ (ap (joined isUnprotected) here ∙ j) ∙ ap (λ (cell : ℕ). endFrom isUnprotected cell (cells - (end + 1))) here)
 
-  pub end-stops : cell + 1 < cells → joined isUnprotected (placeOf columns (cell + 1)) ≡ false → fieldEnd isUnprotected columns cells cell ≡ cell + 1
+  pub end-stops : end < cells → joined isUnprotected end ≡ false → fieldEnd isUnprotected cells (end - 1) ≡ end
   unfolding fieldEnd endFrom
-  end-stops h j = let more : cells - (cell + 1) ≡ suc (cells - (cell + 1 + 1)) = omega arith in rw more (else-case _ _ _ j)
+  end-stops h j = let more : cells - end ≡ suc (cells - (end + 1)) = omega arith in rw (here, more) (else-case _ _ _ (ap (joined isUnprotected) here ∙ j) ∙ here)
 
-  pub end-at-last : cells ≤ cell + 1 → fieldEnd isUnprotected columns cells cell ≡ cell + 1
+  pub end-at-last : cells ≤ end → fieldEnd isUnprotected cells (end - 1) ≡ end
   unfolding fieldEnd endFrom
-  end-at-last h = let no-more : cells - (cell + 1) ≡ 0 = omega arith in rw no-more
+  end-at-last h = let no-more : cells - end ≡ 0 = omega arith in rw (here, no-more) here
 
 -- A search onward that has come from one place to another, and found nothing on the way.
 pub record Onward (test : ℕ → Bool) (columns cells : ℕ) (from here : Place) : Type 0 where
@@ -121,14 +106,14 @@ module _ {test : ℕ → Bool} {columns : ℕ} {from : Place} where
     comes-back-to-nothing no-more = nothing (λ k w. way .passed k (omega arith, w .1, w .2))
 
 -- A search from the first cell is one of the whole page.
-module _ (isUnprotected : ℕ → Bool) (columns cells first : ℕ) (is : first ≡ 0) where
-  pub all-fields : fieldsFrom isUnprotected columns cells first (cells - first) ≡ fieldsOf isUnprotected columns cells
+module _ (isUnprotected : ℕ → Bool) (cells first : ℕ) (is : first ≡ 0) where
+  pub all-fields : fieldsFrom isUnprotected cells first (cells - first) ≡ fieldsOf isUnprotected cells
   unfolding fieldsOf
   all-fields = let all : cells - 0 ≡ cells = omega arith in rw (is, all)
 
-  pub all-cells : firstUnprotectedFrom isUnprotected columns first (cells - first) ≡ firstUnprotected isUnprotected columns cells
+  pub all-cells : (columns : ℕ) → firstUnprotectedFrom isUnprotected columns first (cells - first) ≡ firstUnprotected isUnprotected columns cells
   unfolding firstUnprotected
-  all-cells = let all : cells - 0 ≡ cells = omega arith in rw (is, all)
+  all-cells columns = let all : cells - 0 ≡ cells = omega arith in rw (is, all)
 
 -- A key's two searches.
 module _ {one : Sought} (other : Sought) where

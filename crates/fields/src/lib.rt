@@ -1,4 +1,4 @@
-// Fields: longest runs of unprotected cells within one row, and the searches of the keys.
+// Fields: longest runs of unprotected cells in page order, and the searches of the keys.
 // What each function gives is defined in specs/Fields.antt and specs/Searches.antt.
 use page::Mark;
 use places::Place;
@@ -8,7 +8,7 @@ ghost use Prim.Native.Nat.{_-_, _*_, _<_, _≤_};
 ghost use lib.ListN.{length};
 ghost use Rattle.places.specs.Places.{placeOf, Counted};
 ghost use Rattle.page.specs.Marks.{unprotected};
-ghost use Rattle.fields.specs.Fields.{opensStretch, joined, startsField, fieldStart, fieldEnd};
+ghost use Rattle.fields.specs.Fields.{joined, startsField, fieldStart, fieldEnd};
 ghost use Rattle.fields.specs.Fields.{fieldsOf, fieldsFrom};
 ghost use Rattle.fields.specs.Searches.{firstField, lastField, nextField, previousField};
 ghost use Rattle.fields.specs.Searches.{firstUnprotectedFrom, firstUnprotected, nextUnprotected};
@@ -19,36 +19,27 @@ pub enum Sought {
     Nowhere,
 }
 
-// Whether a stretch of cells in which a field may run begins here.
-fn opens_stretch(place: Place) -> bool
-    ensures { λ r. ⌜ r ≡ opensStretch place ⌝ }
+// Whether the cell and the one before it belong to one field; before the first there is none.
+fn is_joined(marks: &[Mark], cell: usize) -> bool
+    requires { ⌜ cell < length (now marks) ⌝ }
+    ensures { λ r. ⌜ r ≡ joined (unprotected (now (marks .entry))) cell ⌝ }
 {
-    place.column == 1
-}
-
-// Whether the cell and the one before it belong to one field.
-fn is_joined(marks: &[Mark], place: Place) -> bool
-    requires { ⌜ place .cell < length (now marks) ⌝ }
-    requires { ⌜ (place .cell ≡ 0 → opensStretch place ≡ true) ⌝ }
-    ensures { λ r. ⌜ r ≡ joined (unprotected (now (marks .entry))) place ⌝ }
-{
-    if opens_stretch(place) {
+    if cell == 0 {
         return false;
     }
-    if page::is_unprotected(marks, place.cell - 1) {
-        return page::is_unprotected(marks, place.cell);
+    if page::is_unprotected(marks, cell - 1) {
+        return page::is_unprotected(marks, cell);
     }
     false
 }
 
-// Whether a field starts at the place.
-pub fn starts_field(marks: &[Mark], place: Place) -> bool
-    requires { ⌜ place .cell < length (now marks) ⌝ }
-    requires { ⌜ (place .cell ≡ 0 → opensStretch place ≡ true) ⌝ }
-    ensures { λ r. ⌜ r ≡ startsField (unprotected (now (marks .entry))) place ⌝ }
+// Whether a field starts at the cell.
+pub fn starts_field(marks: &[Mark], cell: usize) -> bool
+    requires { ⌜ cell < length (now marks) ⌝ }
+    ensures { λ r. ⌜ r ≡ startsField (unprotected (now (marks .entry))) cell ⌝ }
 {
-    if page::is_unprotected(marks, place.cell) {
-        return !is_joined(marks, place);
+    if page::is_unprotected(marks, cell) {
+        return !is_joined(marks, cell);
     }
     false
 }
@@ -57,32 +48,28 @@ pub fn starts_field(marks: &[Mark], place: Place) -> bool
 pub fn field_start(marks: &[Mark], place: Place, columns: usize) -> Place
     requires { ⌜ Counted columns place ⌝ }
     requires { ⌜ place .cell < length (now marks) ⌝ }
-    ensures { λ r. ⌜ r ≡ placeOf columns (fieldStart (unprotected (now (marks .entry))) columns (place .cell)) ⌝ }
+    ensures { λ r. ⌜ r ≡ placeOf columns (fieldStart (unprotected (now (marks .entry))) (place .cell)) ⌝ }
 {
     let mut here = place;
-    while is_joined(marks, here) {
+    while is_joined(marks, here.cell) {
         here = here.back(columns);
     }
     here
 }
 
 // The cell after the last of the field that has the cell.
-pub fn field_end(marks: &[Mark], place: Place, columns: usize) -> usize
-    requires { ⌜ Counted columns place ⌝ }
-    requires { ⌜ place .cell < length (now marks) ⌝ }
-    requires { ⌜ length (now marks) ≤ 7680 ⌝ }
-    ensures { λ r. ⌜ r
-        ≡ fieldEnd (unprotected (now (marks .entry))) columns (length (now (marks .entry))) (place .cell) ⌝ }
+pub fn field_end(marks: &[Mark], cell: usize) -> usize
+    requires { ⌜ cell < length (now marks) ⌝ }
+    ensures { λ r. ⌜ r ≡ fieldEnd (unprotected (now (marks .entry))) (length (now (marks .entry))) cell ⌝ }
 {
-    let mut last = place;
-    while last.cell + 1 < marks.len() {
-        let next = last.next(columns);
-        if !is_joined(marks, next) {
-            return next.cell;
+    let mut end = cell + 1;
+    while end < marks.len() {
+        if !is_joined(marks, end) {
+            return end;
         }
-        last = next;
+        end += 1;
     }
-    last.cell + 1
+    end
 }
 
 // The first field that starts at the place or after it; the place may be one past the page.
@@ -90,12 +77,12 @@ fn seek_field(marks: &[Mark], place: Place, columns: usize) -> Sought
     requires { ⌜ Counted columns place ⌝ }
     requires { ⌜ (place .cell ≤ length (now marks)) × (length (now marks) ≤ 7680) ⌝ }
     ensures { λ r. ⌜ r ≡ firstField columns
-        (fieldsFrom (unprotected (now (marks .entry))) columns (length (now (marks .entry)))
+        (fieldsFrom (unprotected (now (marks .entry))) (length (now (marks .entry)))
         (place .cell) (length (now (marks .entry)) - place .cell)) ⌝ }
 {
     let mut here = place;
     while here.cell < marks.len() {
-        if starts_field(marks, here) {
+        if starts_field(marks, here.cell) {
             return Sought::At(here);
         }
         here = here.next(columns);
@@ -108,12 +95,12 @@ fn seek_field_back(marks: &[Mark], place: Place, columns: usize) -> Sought
     requires { ⌜ Counted columns place ⌝ }
     requires { ⌜ (place .cell ≤ length (now marks)) × (length (now marks) ≤ 7680) ⌝ }
     ensures { λ r. ⌜ r ≡ lastField columns
-        (fieldsFrom (unprotected (now (marks .entry))) columns (length (now (marks .entry))) 0 (place .cell)) ⌝ }
+        (fieldsFrom (unprotected (now (marks .entry))) (length (now (marks .entry))) 0 (place .cell)) ⌝ }
 {
     let mut here = place;
     while 0 < here.cell {
         here = here.back(columns);
-        if starts_field(marks, here) {
+        if starts_field(marks, here.cell) {
             return Sought::At(here);
         }
     }
@@ -142,7 +129,7 @@ pub fn next_field(marks: &[Mark], place: Place, columns: usize) -> Sought
     requires { ⌜ Counted columns place ⌝ }
     requires { ⌜ (place .cell < length (now marks)) × (length (now marks) ≤ 7680) ⌝ }
     ensures { λ r. ⌜ r ≡ nextField columns (place .cell)
-        (fieldsOf (unprotected (now (marks .entry))) columns (length (now (marks .entry)))) ⌝ }
+        (fieldsOf (unprotected (now (marks .entry))) (length (now (marks .entry)))) ⌝ }
 {
     let after = seek_field(marks, place.next(columns), columns);
     match after {
@@ -157,7 +144,7 @@ pub fn previous_field(marks: &[Mark], place: Place, rows: usize, columns: usize)
     requires { ⌜ (place .cell < length (now marks)) × (rows ≤ 48) × (columns ≤ 160) ×
         (length (now marks) ≡ rows * columns) ⌝ }
     ensures { λ r. ⌜ r ≡ previousField columns (place .cell)
-        (fieldsOf (unprotected (now (marks .entry))) columns (length (now (marks .entry)))) ⌝ }
+        (fieldsOf (unprotected (now (marks .entry))) (length (now (marks .entry)))) ⌝ }
 {
     let before = seek_field_back(marks, place, columns);
     match before {

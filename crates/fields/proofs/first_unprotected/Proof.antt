@@ -18,4 +18,4 @@ first-unprotected-spec =
     (tie.spec
     (λ c κs. search needs)
     seek-unprotected-requires
-    (λ c. c .seek-unprotected .ensures ∙ all-cells _ _ _ _ (cell-is _ _ (c .before .first .ensures))))
+    (λ c. c .seek-unprotected .ensures ∙ all-cells _ _ _ (cell-is _ _ (c .before .first .ensures)) _))

@@ -33,7 +33,7 @@ returns-2 c =
     let at = c .before .before .before .before in
     let next = cell-is _ _ (at .before .next .ensures) in
     let first = cell-is _ _ (c .before .first .ensures) in
-    c .seek-field2 .ensures ∙ ap (firstField _) (all-fields _ _ _ _ first) ∙ found-round _ (sym (at .seek-field .ensures ∙ after-is _ _ _ _ _ next (omega arith)) ∙ c .before .before .enum-told .given .1)
+    c .seek-field2 .ensures ∙ ap (firstField _) (all-fields _ _ _ first) ∙ found-round _ (sym (at .seek-field .ensures ∙ after-is _ _ _ _ _ next (omega arith)) ∙ c .before .before .enum-told .given .1)
 
 pub next-field-spec : {M : Type 1} → statement M
 next-field-spec =

@@ -31,7 +31,7 @@ unfolding nextUnprotected
 returns-2 c =
     let at = c .before .before .before .before in
     let next = cell-is _ _ (at .before .next .ensures) in
-    c .seek-unprotected2 .ensures ∙ all-cells _ _ _ _ (cell-is _ _ (c .before .first .ensures)) ∙ found-round _ (rw (← next) (sym (at .seek-unprotected .ensures)) ∙ c .before .before .enum-told .given .1)
+    c .seek-unprotected2 .ensures ∙ all-cells _ _ _ (cell-is _ _ (c .before .first .ensures)) _ ∙ found-round _ (rw (← next) (sym (at .seek-unprotected .ensures)) ∙ c .before .before .enum-told .given .1)
 
 pub next-unprotected-spec : {M : Type 1} → statement M
 next-unprotected-spec =

@@ -7,15 +7,14 @@ use lib.ListN.{length}
 use Rattle.page.specs.Marks.{unprotected}
 use Rattle.fields.specs.Fields.{startsField}
 use Rattle.places.proofs.Counting.{cell-is}
-use Rattle.fields.proofs.Walks.{at-first-opens, Onward, sets-out, goes-on, comes-to, comes-to-nothing}
-use Rattle.fields.proofs.Listing.{startsAt}
+use Rattle.fields.proofs.Walks.{Onward, sets-out, goes-on, comes-to, comes-to-nothing}
 use Rattle.fields.proofs.Searching.{one-first, first-start}
 use Rattle.fields.proofs.seek_field.Statement.{statement}
 use Rattle.fields.proofs.seek_field.Tie as tie
 
 -- no cell at which a field starts has been passed
 abbrev Inv-loop : tie.InvT-loop
-Inv-loop marks columns here₀ here = Onward (startsAt (unprotected marks) columns) columns (length marks) here₀ here
+Inv-loop marks columns here₀ here = Onward (startsField (unprotected marks)) columns (length marks) here₀ here
 
 abbrev μ-loop : tie.MeasureT-loop
 μ-loop marks columns here₀ here = length marks - here .cell
@@ -23,13 +22,13 @@ abbrev μ-loop : tie.MeasureT-loop
 returns : tie.Need-returns Inv-loop μ-loop
 returns c =
     let way = c .before .before .before .before .loop .inv in
-    let starts = ap (startsField _) (sym (way .known .right)) ∙ sym (c .before .starts-field .ensures) ∙ c .if2 .taken in
+    let starts = sym (c .before .starts-field .ensures) ∙ c .if2 .taken in
     one-first _ (comes-to way (c .before .before .if1 .taken) starts) (first-start _ _ _ _ _ _ (omega arith) (le-refl _))
 
 loop-again : tie.Need-loop-again Inv-loop μ-loop
 loop-again c =
     let way = c .before .before .before .before .before .loop .inv in
-    let none-starts = ap (startsField _) (sym (way .known .right)) ∙ sym (c .before .before .starts-field .ensures) ∙ c .before .if2 .left in
+    let none-starts = sym (c .before .before .starts-field .ensures) ∙ c .before .if2 .left in
     goes-on way (c .before .before .before .if1 .taken) (omega arith) none-starts (c .next .ensures)
 
 returns-2 : tie.Need-returns-2 Inv-loop μ-loop
@@ -42,7 +41,7 @@ seek-field-spec =
     Inv-loop
     μ-loop
     (λ c. sets-out (c .before .pre .0) (c .before .pre .1 .0))
-    (λ c κs. (c .if1 .taken, at-first-opens (c .before .before .loop .inv .known)))
+    (λ c κs. search needs)
     returns
     (λ c κs. search needs)
     (λ c. omega (arith, cell-is _ _ (c .next .ensures)))
