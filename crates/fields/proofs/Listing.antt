@@ -1,15 +1,15 @@
 -- The list of a page's fields: which fields it has, by the cells at which they start, and in which order.
 use mathlib.Core.Path.{_≡_, refl, sym, ap, _∙_}
-use mathlib.Core.Bool.{Bool, true}
-use mathlib.Core.List.{List, List·Memᴰ, List·Memᴰ·head, List·Memᴰ·tail, List·Memᴰ·cases-cons, List·Memᴰ·not-nil, Memᴰ·cast}
-use mathlib.Core.Logic.{⊎-elim}
-use Prim.Native.Nat.{ℕ, zero, suc, _+_, _<_, _≤_}
+use mathlib.Core.Bool.{Bool, true, false}
+use mathlib.Core.List.{List, [], _∷_, List·Memᴰ, List·Memᴰ·head, List·Memᴰ·tail, List·Memᴰ·cases-cons, List·Memᴰ·not-nil, Memᴰ·cast}
+use mathlib.Core.Logic.{inl, ⊎-elim}
+use Prim.Native.Nat.{ℕ, zero, suc, _+_, _-_, _<_, _≤_}
 use native.Mathlib.Nat.{eq-or-lt-of-le}
 use native.Mathlib.Omega.{arith}
-use Rattle.words.proofs.Choosing.{either-line, not-both}
-use Rattle.fields.specs.Fields.{Field, startsField, fieldStart, fieldEnd, fieldFrom, fieldsFrom, fieldsOf}
+use Rattle.words.proofs.Choosing.{then-case, else-case, either-line, either-way, not-both}
+use Rattle.fields.specs.Fields.{Field, joined, startsField, fieldStart, fieldEnd, fieldFrom, fieldsFrom, fieldsOf}
 use Rattle.fields.proofs.Claims.{IsField, endOf, _has_, InOrder, none, one-more, InOneField, Lists, Passes}
-use Rattle.fields.proofs.Laws.{start-is, is-start, start-here}
+use Rattle.fields.proofs.Laws.{are-joined, are-apart, start-is, is-start, start-here}
 use Rattle.fields.proofs.Bounds.{start-of, end-of, same-field, around}
 
 -- The fields that start at one of the n cells from `from` to before `to`.
@@ -93,3 +93,36 @@ module _ (isUnprotected : ℕ → Bool) (cells : ℕ) where
   unfolding fieldsOf
   lists-fields =
       record { only-fields = only-fields; every-field = every-field; every-cell = every-cell; in-order = in-order cells 0 (omega arith) }
+
+  -- Where no field starts none is listed.
+  none-listed : (n from : ℕ) → ((cell : ℕ) → from ≤ cell → cell < from + n → startsField isUnprotected cell ≡ false) → fieldsFrom isUnprotected cells from n ≡ []
+  unfolding fieldsFrom
+  none-listed zero from none-starts = refl
+  none-listed (suc n) from none-starts =
+      else-case _ _ _ (none-starts from (omega arith) (omega arith)) ∙ none-listed n (from + 1) (λ cell low high. none-starts cell (omega arith) (omega arith))
+
+  -- Where all cells are unprotected, each but the first is joined to the one before it.
+  module _ (some : 0 < cells) (all : (cell : ℕ) → cell < cells → isUnprotected cell ≡ true) where
+    joined-later : (cell : ℕ) → 0 < cell → cell < cells → joined isUnprotected cell ≡ true
+    joined-later cell late here = are-joined isUnprotected cell late (all (cell - 1) (omega arith)) (all cell here)
+
+    starts-not : (cell : ℕ) → 0 < cell → cell < cells → startsField isUnprotected cell ≡ false
+    starts-not cell late here =
+        either-way (startsField isUnprotected cell) (λ starts. absurd (not-both (joined-later cell late here) (start-is isUnprotected cell starts .1))) (λ s. s)
+
+    ends-with-page : fieldEnd isUnprotected cells 0 ≡ cells
+    ends-with-page =
+        let end = end-of isUnprotected cells 0 some in
+        ⊎-elim (λ same. same)
+        (λ apart. ⊎-elim (λ same. same) (λ less. absurd (not-both (joined-later _ (end .high) less) apart)) (eq-or-lt-of-le (end .on-page)))
+        (end .after)
+
+    pub one-whole-field : fieldsOf isUnprotected cells ≡ record { start = 0; length = cells } ∷ []
+    unfolding fieldsOf fieldsFrom
+    one-whole-field =
+        let count : cells ≡ suc (cells - 1) = omega arith in
+        let starts = is-start isUnprotected 0 (all 0 some) (are-apart isUnprotected 0 (inl refl)) in
+        let size : fieldEnd isUnprotected cells 0 - 0 ≡ cells = omega (arith, ends-with-page) in
+        ap (fieldsFrom isUnprotected cells 0) count
+        ∙ then-case _ _ _ starts
+        ∙ (λ i. record { start = 0; length = size i } ∷ none-listed (cells - 1) 1 (λ cell low high. starts-not cell low (omega arith)) i)

@@ -4,7 +4,7 @@
 -- The contracts in src/lib.rt say that the code gives what is spoken of here.
 use mathlib.Core.Path.{_≡_}
 use mathlib.Core.Bool.{Bool, true}
-use mathlib.Core.List.{List}
+use mathlib.Core.List.{List, [], _∷_}
 use Prim.Native.Nat.{ℕ, _+_, _-_, _<_}
 use native.Mathlib.Omega.{arith}
 use Rattle.fields.specs.declared.Sought.the-variants.{Nowhere}
@@ -12,7 +12,7 @@ use Rattle.fields.specs.Fields.{Field, fieldsOf}
 use Rattle.fields.specs.Searches.{firstField, lastField, firstAfter, lastBefore, nextField, previousField, firstUnprotectedFrom, firstUnprotected, nextUnprotected}
 use Rattle.fields.proofs.Claims.{IsField, _has_, IsAround, InOrder, Lists, StartsAt, Passes, First, Last, Finds, GoesRound, UnprotectedAround, Lands}
 use Rattle.fields.proofs.Bounds.{around, same-field, all-unprotected-around}
-use Rattle.fields.proofs.Listing.{in-order, lists-fields, listed-starts}
+use Rattle.fields.proofs.Listing.{in-order, lists-fields, listed-starts, one-whole-field}
 use Rattle.fields.proofs.Searching.{in-other-words, goes-round, finds-something, first-of, last-of, first-after, last-before, first-unprotected, finds-on-page, either-lands}
 
 module _ (isUnprotected : ℕ → Bool) (cells : ℕ) where
@@ -27,6 +27,10 @@ module _ (isUnprotected : ℕ → Bool) (cells : ℕ) where
   -- `fieldsOf` lists the page's fields, all of them and nothing else, each unprotected cell in exactly one, in page order.
   pub all-fields-listed : Lists isUnprotected cells (fieldsOf isUnprotected cells)
   all-fields-listed = lists-fields isUnprotected cells
+
+  -- Where all cells are unprotected, as on a fresh page, there is one field, which has them all.
+  pub all-one-field : 0 < cells → ((cell : ℕ) → cell < cells → isUnprotected cell ≡ true) → fieldsOf isUnprotected cells ≡ record { start = 0; length = cells } ∷ []
+  all-one-field = one-whole-field isUnprotected cells
 
 -- Whatever the page, no bound reaches over a protected cell.
 pub unprotected-around : (isUnprotected : ℕ → Bool) (cells cell : ℕ) → isUnprotected cell ≡ true → UnprotectedAround isUnprotected cells cell

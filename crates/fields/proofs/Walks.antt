@@ -22,22 +22,19 @@ unfolding fieldStart
 start-on isUnprotected zero j = absurd (omega (arith, joined-has-before isUnprotected zero j))
 start-on isUnprotected (suc cell) j = rw (sub-one (suc cell)) (then-case _ _ _ j)
 
--- A turn of the walk to a field's end, and the walk's two ends. The walk has come to `end`, from the cell before it on.
-module _ (isUnprotected : ℕ → Bool) (cells end : ℕ) (some : 0 < end) where
-  here : end - 1 + 1 ≡ end
-  here = omega arith
-
-  pub end-on : end < cells → joined isUnprotected end ≡ true → fieldEnd isUnprotected cells (end - 1) ≡ fieldEnd isUnprotected cells end
+-- A turn of the walk to a field's end, and the walk's two ends.
+module _ (isUnprotected : ℕ → Bool) (cells cell : ℕ) where
+  pub end-on : cell + 1 < cells → joined isUnprotected (cell + 1) ≡ true → fieldEnd isUnprotected cells cell ≡ fieldEnd isUnprotected cells (cell + 1)
   unfolding fieldEnd endFrom
-  end-on h j = let more : cells - end ≡ suc (cells - (end + 1)) = omega arith in rw (here, more) (then-case _ _ _ (ap (joined isUnprotected) here ∙ j) ∙ ap (λ (cell : ℕ). endFrom isUnprotected cell (cells - (end + 1))) here)
+  end-on h j = let more : cells - (cell + 1) ≡ suc (cells - (cell + 1 + 1)) = omega arith in rw more (then-case _ _ _ j)
 
-  pub end-stops : end < cells → joined isUnprotected end ≡ false → fieldEnd isUnprotected cells (end - 1) ≡ end
+  pub end-stops : cell + 1 < cells → joined isUnprotected (cell + 1) ≡ false → fieldEnd isUnprotected cells cell ≡ cell + 1
   unfolding fieldEnd endFrom
-  end-stops h j = let more : cells - end ≡ suc (cells - (end + 1)) = omega arith in rw (here, more) (else-case _ _ _ (ap (joined isUnprotected) here ∙ j) ∙ here)
+  end-stops h j = let more : cells - (cell + 1) ≡ suc (cells - (cell + 1 + 1)) = omega arith in rw more (else-case _ _ _ j)
 
-  pub end-at-last : cells ≤ end → fieldEnd isUnprotected cells (end - 1) ≡ end
+  pub end-at-last : cells ≤ cell + 1 → fieldEnd isUnprotected cells cell ≡ cell + 1
   unfolding fieldEnd endFrom
-  end-at-last h = let no-more : cells - end ≡ 0 = omega arith in rw (here, no-more) here
+  end-at-last h = let no-more : cells - (cell + 1) ≡ 0 = omega arith in rw no-more
 
 -- A search onward that has come from one place to another, and found nothing on the way.
 pub record Onward (test : ℕ → Bool) (columns cells : ℕ) (from here : Place) : Type 0 where

@@ -1,11 +1,11 @@
 use mathlib.Core.Path.{_≡_, sym, ap, _∙_}
-use Prim.Native.Nat.{_-_, _<_, _≤_}
+use Prim.Native.Nat.{_+_, _-_, _<_, _≤_}
 use native.Mathlib.Omega.{arith}
 use borrow.Author.Needs.{needs}
 use borrow.Author.Tests.{not-true, not-false}
 use lib.ListN.{length}
 use Rattle.page.specs.Marks.{unprotected}
-use Rattle.fields.specs.Fields.{fieldEnd}
+use Rattle.fields.specs.Fields.{joined, fieldEnd}
 use Rattle.fields.proofs.Walks.{end-on, end-stops, end-at-last}
 use Rattle.fields.proofs.field_end.Statement.{statement}
 use Rattle.fields.proofs.field_end.Tie as tie
@@ -23,14 +23,23 @@ loop-holds c = (omega arith, omega arith, ap (fieldEnd _ _) (omega arith))
 
 returns : tie.Need-returns Inv-loop μ-loop
 returns c =
-    let walk = c .before .before .before .loop .inv in
-    sym (walk .2 ∙ end-stops _ _ _ (walk .0) (c .before .before .loop-test .taken) (sym (c .before .is-joined .ensures) ∙ not-true _ (c .if1 .taken)))
+    let loop = c .before .before .before .loop in
+    let here : loop .end - 1 + 1 ≡ loop .end = omega (arith, loop .inv .0) in
+    let apart = ap (joined _) here ∙ sym (c .before .is-joined .ensures) ∙ not-true _ (c .if1 .taken) in
+    sym (loop .inv .2 ∙ end-stops _ _ _ (omega (arith, c .before .before .loop-test .taken)) apart ∙ here)
 
 loop-again : tie.Need-loop-again Inv-loop μ-loop
 loop-again c =
-    let walk = c .before .before .before .loop .inv in
-    let on = end-on _ _ _ (walk .0) (c .before .before .loop-test .taken) (sym (c .before .is-joined .ensures) ∙ not-false _ (c .if1 .left)) in
-    (omega arith, omega arith, walk .2 ∙ on ∙ ap (fieldEnd _ _) (omega arith))
+    let loop = c .before .before .before .loop in
+    let here : loop .end - 1 + 1 ≡ loop .end = omega (arith, loop .inv .0) in
+    let is-joined = ap (joined _) here ∙ sym (c .before .is-joined .ensures) ∙ not-false _ (c .if1 .left) in
+    (omega arith, omega arith, loop .inv .2 ∙ end-on _ _ _ (omega (arith, c .before .before .loop-test .taken)) is-joined ∙ ap (fieldEnd _ _) (omega arith))
+
+returns-2 : tie.Need-returns-2 Inv-loop μ-loop
+returns-2 c =
+    let loop = c .before .loop in
+    let here : loop .end - 1 + 1 ≡ loop .end = omega (arith, loop .inv .0) in
+    sym (loop .inv .2 ∙ end-at-last _ _ _ (omega (arith, c .loop-test .left)) ∙ here)
 
 pub field-end-spec : {M : Type 1} → statement M
 field-end-spec =
@@ -45,4 +54,4 @@ field-end-spec =
     (λ c. search needs)
     (λ c. search needs)
     loop-again
-    (λ c. let walk = c .before .loop .inv in sym (walk .2 ∙ end-at-last _ _ _ (walk .0) (c .loop-test .left))))
+    returns-2)
