@@ -1,36 +1,36 @@
--- No block exceeds 35,185 bytes, and one has as many.
-use mathlib.Core.Path.{_≡_, refl, ap, _∙_}
-use mathlib.Core.Bool.{Bool, true, false, not}
+-- No block exceeds 35,138 bytes, and one has as many.
+use mathlib.Core.Path.{_≡_, refl, sym, ap, _∙_}
+use mathlib.Core.Bool.{Bool, true, false}
 use Prim.Native.Nat.{ℕ, zero, suc, _+_, _-_, _*_, _<_, _≤_, max}
 use native.Mathlib.Nat.{suc-mul, zero-mul}
-use native.Mathlib.Numerals.{add-one}
+use native.Mathlib.Numerals.{add-one, sub-one}
 use native.Mathlib.Omega.{arith}
 use lib.Arith.{digits-div, digits-mod}
-use lib.Dec.{eqb, eqb·suc-suc}
 use lib.ListN.{length, replicate, length-replicate}
 use Rattle.words.specs.Choice.{if_then_else_, _and_, _or_}
-use Rattle.words.proofs.Choosing.{either-line, either-way, both-hold}
+use Rattle.words.proofs.Choosing.{true-is-not-false, either-line, either-way, both-hold}
 use Rattle.words.proofs.Writing.{getD-each}
 use Rattle.page.specs.Marks.{unprotected}
 use Rattle.page.specs.Page.{Page, cells}
 use Rattle.places.specs.Places.{placeOf}
 use Rattle.words.proofs.Walking.{once-more}
-use Rattle.fields.specs.Fields.{opensStretch, joined, startsField}
+use Rattle.fields.specs.Fields.{joined, startsField}
 use Rattle.output.specs.Decimal.{decimal}
 use Rattle.blocks.specs.Blocks.{block}
 use Rattle.blocks.proofs.Claims.{blankForm, firstAndEven}
 use Rattle.blocks.proofs.Listing.{joined-cell-unprotected, joined-starts-not, protected-starts-not}
 use Rattle.blocks.proofs.Weighing.{total, total-append, total-same, opening, weight, block-length, no-longer}
 
--- A cell by the rows above it and the columns to its left:
--- whether a stretch begins there, and what a field's start needs.
-opensAt : ℕ → ℕ → Bool
-opensAt above left = eqb left 0
-
+-- What a field's start needs, by the rows above it and the columns to its left.
 needed : ℕ → ℕ → ℕ
 needed above left = 4 + length (decimal (above + 1)) + length (decimal (left + 1))
 
--- The most that the cells from some cell on can add, where the cell before it is protected and where it is unprotected.
+-- Whether the cell before this one is unprotected; before the first there is none.
+unprotectedBefore : (ℕ → Bool) → ℕ → Bool
+unprotectedBefore isUnprotected zero = false
+unprotectedBefore isUnprotected (suc before) = isUnprotected before
+
+-- The most that the cells from some cell on can add, by whether the cell before it is unprotected.
 record Most : Type 0 where
   after-protected : ℕ
   after-unprotected : ℕ
@@ -39,17 +39,17 @@ mostAfter : Bool → Most → ℕ
 mostAfter isUnprotected bound = if isUnprotected then bound .after-unprotected else bound .after-protected
 
 -- One cell more, in front of these: if it is unprotected, it starts a field or belongs to that of the cell before it.
-oneMore : Bool → ℕ → Most → Most
-oneMore opens start later =
+oneMore : ℕ → Most → Most
+oneMore start later =
     record {
       after-protected = max (later .after-protected) (start + 1 + later .after-unprotected);
-      after-unprotected = max (later .after-protected) (if opens then start + 1 + later .after-unprotected else 1 + later .after-unprotected);
+      after-unprotected = max (later .after-protected) (1 + later .after-unprotected);
     }
 
 -- Of n cells of a row, and of those behind them.
 most : ℕ → ℕ → ℕ → Most → Most
 most above left zero behind = behind
-most above left (suc n) behind = let later = most above (left + 1) n behind in oneMore (opensAt above left) (needed above left) later
+most above left (suc n) behind = let later = most above (left + 1) n behind in oneMore (needed above left) later
 
 -- Of the last n rows.
 mostOfRows : ℕ → ℕ → ℕ → Most
@@ -57,65 +57,62 @@ mostOfRows columns above zero = record { after-protected = 0; after-unprotected 
 mostOfRows columns above (suc n) = let below = mostOfRows columns (above + 1) n in most above 0 columns below
 
 -- What it adds keeps to this bound, if what comes after it does.
-one-more : (isUnprotected before opens : Bool) (added later start : ℕ) (bound : Most)
-    → (isUnprotected ≡ false → added ≡ 0) → (opens ≡ false → before ≡ true → isUnprotected ≡ true → added ≡ 1) → added ≤ start + 1 → later ≤ mostAfter isUnprotected bound
-    → added + later ≤ mostAfter before (oneMore opens start bound)
+one-more : (isUnprotected before : Bool) (added later start : ℕ) (bound : Most)
+    → (isUnprotected ≡ false → added ≡ 0) → (before ≡ true → isUnprotected ≡ true → added ≡ 1) → added ≤ start + 1 → later ≤ mostAfter isUnprotected bound
+    → added + later ≤ mostAfter before (oneMore start bound)
 unfolding if_then_else_ mostAfter oneMore
-one-more false true true added later start bound none one most h = omega (arith, none refl)
-one-more false true false added later start bound none one most h = omega (arith, none refl)
-one-more false false opens added later start bound none one most h = omega (arith, none refl)
-one-more true true true added later start bound none one most h = omega arith
-one-more true true false added later start bound none one most h = omega (arith, one refl refl refl)
-one-more true false opens added later start bound none one most h = omega arith
+one-more false true added later start bound none one most h = omega (arith, none refl)
+one-more false false added later start bound none one most h = omega (arith, none refl)
+one-more true true added later start bound none one most h = omega (arith, one refl refl)
+one-more true false added later start bound none one most h = omega arith
 
 module _ (isUnprotected : ℕ → Bool) (columns : ℕ) where
   -- What a cell adds: nothing if it is protected, one byte if it is joined to the one before it,
   -- and in any case no more than a start and a byte.
   protected-weight : (cell : ℕ) → isUnprotected cell ≡ false → weight isUnprotected columns cell ≡ 0
   unfolding weight if_then_else_
-  protected-weight cell f = rw (protected-starts-not isUnprotected columns cell f, f)
+  protected-weight cell f = rw (protected-starts-not isUnprotected cell f, f)
 
-  joined-weight : (cell : ℕ) → joined isUnprotected (placeOf columns cell) ≡ true → weight isUnprotected columns cell ≡ 1
+  joined-weight : (cell : ℕ) → joined isUnprotected cell ≡ true → weight isUnprotected columns cell ≡ 1
   unfolding weight if_then_else_
-  joined-weight cell j = rw (joined-starts-not isUnprotected columns cell j, joined-cell-unprotected isUnprotected columns cell j)
+  joined-weight cell j = rw (joined-starts-not isUnprotected cell j, joined-cell-unprotected isUnprotected cell j)
 
   any-weight : (cell : ℕ) → weight isUnprotected columns cell ≤ opening columns cell + 1
   unfolding weight
   any-weight cell =
       let one : (if isUnprotected cell then 1 else 0) ≤ 1 = either-line (λ (n : ℕ). n ≤ 1) (isUnprotected cell) _ _ (λ _. omega arith) (λ _. omega arith) in
-      either-line (λ (n : ℕ). n + (if isUnprotected cell then 1 else 0) ≤ opening columns cell + 1) (startsField isUnprotected (placeOf columns cell)) _ _ (λ _. omega arith) (λ _. omega arith)
+      either-line (λ (n : ℕ). n + (if isUnprotected cell then 1 else 0) ≤ opening columns cell + 1) (startsField isUnprotected cell) _ _ (λ _. omega arith) (λ _. omega arith)
 
-  module _ (above left : ℕ) (fits : left < columns) where
-    start-weight : weight isUnprotected columns (above * columns + left) ≤ needed above left + 1
-    unfolding opening placeOf needed
-    start-weight = rw (digits-div above fits, digits-mod above fits) at (any-weight (above * columns + left))
+  inside-weight : (cell : ℕ) → unprotectedBefore isUnprotected cell ≡ true → isUnprotected cell ≡ true → weight isUnprotected columns cell ≡ 1
+  unfolding unprotectedBefore joined
+  inside-weight zero before here = absurd (true-is-not-false (sym before))
+  inside-weight (suc cell) before here = joined-weight (suc cell) (both-hold _ _ before here)
 
-    opens-at : opensStretch (placeOf columns (above * columns + left)) ≡ opensAt above left
-    unfolding opensStretch placeOf opensAt
-    opens-at = rw (digits-mod above fits, add-one left) (eqb·suc-suc left 0)
+  start-weight : (above left : ℕ) → left < columns → weight isUnprotected columns (above * columns + left) ≤ needed above left + 1
+  unfolding opening placeOf needed
+  start-weight above left fits = rw (digits-div above fits, digits-mod above fits) at (any-weight (above * columns + left))
 
-    inside-weight : opensAt above left ≡ false → isUnprotected (above * columns + left - 1) ≡ true → isUnprotected (above * columns + left) ≡ true → weight isUnprotected columns (above * columns + left) ≡ 1
-    unfolding joined placeOf
-    inside-weight inside before here = joined-weight (above * columns + left) (both-hold _ _ (ap not (opens-at ∙ inside)) (both-hold _ _ before here))
+  before-next : (cell : ℕ) → unprotectedBefore isUnprotected (cell + 1) ≡ isUnprotected cell
+  unfolding unprotectedBefore
+  before-next cell = rw (add-one cell)
 
   -- The n cells at the end of a row with what comes after it, and the last n rows.
-  row-from : (above n left : ℕ) (behind : Most) (rest : ℕ) → left + n ≡ columns → rest ≤ mostAfter (isUnprotected (above * columns + columns - 1)) behind
-      → total (weight isUnprotected columns) (above * columns + left) n + rest ≤ mostAfter (isUnprotected (above * columns + left - 1)) (most above left n behind)
+  row-from : (above n left : ℕ) (behind : Most) (rest : ℕ) → left + n ≡ columns → rest ≤ mostAfter (unprotectedBefore isUnprotected (above * columns + columns)) behind
+      → total (weight isUnprotected columns) (above * columns + left) n + rest ≤ mostAfter (unprotectedBefore isUnprotected (above * columns + left)) (most above left n behind)
   unfolding total most
   row-from above zero left behind rest e h = let at-end : left ≡ columns = omega arith in rw at-end (omega arith)
   row-from above (suc n) left behind rest e h =
       let fits : left < columns = omega arith in
       let cell : ℕ = above * columns + left in
       let next : above * columns + (left + 1) ≡ cell + 1 = omega arith in
-      let before-next : cell + 1 - 1 ≡ cell = omega arith in
-      let later = rw (next, before-next) at (row-from above n (left + 1) behind rest (omega arith) h) in
+      let later = rw (next, before-next cell) at (row-from above n (left + 1) behind rest (omega arith) h) in
       omega (
         arith,
-        one-more (isUnprotected cell) (isUnprotected (cell - 1)) (opensAt above left) (weight isUnprotected columns cell) _ (needed above left) _
-            (protected-weight cell) (inside-weight above left fits) (start-weight above left fits) later,
+        one-more (isUnprotected cell) (unprotectedBefore isUnprotected cell) (weight isUnprotected columns cell) _ (needed above left) _
+            (protected-weight cell) (inside-weight cell) (start-weight above left fits) later,
       )
 
-  rows-from : (n above : ℕ) → total (weight isUnprotected columns) (above * columns) (n * columns) ≤ mostAfter (isUnprotected (above * columns - 1)) (mostOfRows columns above n)
+  rows-from : (n above : ℕ) → total (weight isUnprotected columns) (above * columns) (n * columns) ≤ mostAfter (unprotectedBefore isUnprotected (above * columns)) (mostOfRows columns above n)
   unfolding mostOfRows total
   rows-from zero above = rw (zero-mul columns) (omega arith)
   rows-from (suc n) above =
@@ -129,25 +126,23 @@ record NotAbove (a b : Most) : Type 0 where
   protected-case : a .after-protected ≤ b .after-protected
   unprotected-case : a .after-unprotected ≤ b .after-unprotected
 
-one-adds : (opens : Bool) (start : ℕ) (a b : Most) → NotAbove a b → NotAbove (oneMore opens start a) (oneMore opens start b)
-unfolding oneMore if_then_else_
-one-adds true start a b h = record { protected-case = omega arith; unprotected-case = omega arith }
-one-adds false start a b h = record { protected-case = omega arith; unprotected-case = omega arith }
+one-adds : (start : ℕ) (a b : Most) → NotAbove a b → NotAbove (oneMore start a) (oneMore start b)
+unfolding oneMore
+one-adds start a b h = record { protected-case = omega arith; unprotected-case = omega arith }
 
-one-is-more : (opens : Bool) (start : ℕ) (a b : Most) → NotAbove a b → NotAbove a (oneMore opens start b)
-unfolding oneMore if_then_else_
-one-is-more true start a b h = record { protected-case = omega arith; unprotected-case = omega arith }
-one-is-more false start a b h = record { protected-case = omega arith; unprotected-case = omega arith }
+one-is-more : (start : ℕ) (a b : Most) → NotAbove a b → NotAbove a (oneMore start b)
+unfolding oneMore
+one-is-more start a b h = record { protected-case = omega arith; unprotected-case = omega arith }
 
 more-columns : (above n more left : ℕ) (a b : Most) → NotAbove a b → NotAbove (most above left n a) (most above left (n + more) b)
 unfolding most
 more-columns above zero zero left a b h = h
 more-columns above zero (suc more) left a b h =
     let size : 0 + suc more ≡ suc (0 + more) = omega arith in
-    rw size (one-is-more _ _ _ _ (more-columns above zero more (left + 1) a b h))
+    rw size (one-is-more _ _ _ (more-columns above zero more (left + 1) a b h))
 more-columns above (suc n) more left a b h =
     let size : suc n + more ≡ suc (n + more) = omega arith in
-    rw size (one-adds _ _ _ _ (more-columns above n more (left + 1) a b h))
+    rw size (one-adds _ _ _ (more-columns above n more (left + 1) a b h))
 
 more-rows : (columns wider n more above : ℕ) → NotAbove (mostOfRows columns above n) (mostOfRows (columns + wider) above (n + more))
 unfolding mostOfRows
@@ -158,26 +153,28 @@ more-rows columns wider (suc n) more above =
 
 -- The largest page, of 48 rows of 160 columns.
 largest : Most
-largest = record { after-protected = 35184; after-unprotected = 35184 }
+largest = record { after-protected = 35137; after-unprotected = 35136 }
 
 largest-is : mostOfRows 160 0 48 ≡ largest
-unfolding mostOfRows most oneMore opensAt needed decimal if_then_else_ largest
+unfolding mostOfRows most oneMore needed decimal if_then_else_ largest
 largest-is = refl
 
-below-largest : (isUnprotected : Bool) (bound : Most) → NotAbove bound largest → mostAfter isUnprotected bound ≤ 35184
-unfolding mostAfter largest
-below-largest isUnprotected bound h = either-line (λ (n : ℕ). n ≤ 35184) isUnprotected _ _ (λ _. h .unprotected-case) (λ _. h .protected-case)
+-- There is no cell before the first.
+below-largest : (bound : Most) → NotAbove bound largest → mostAfter false bound ≤ 35137
+unfolding mostAfter largest if_then_else_
+below-largest bound h = h .protected-case
 
 pub bounded : (full : Bool) (rows columns : ℕ) (page : Page) → rows ≤ 48 → columns ≤ 160 → cells page ≡ rows * columns
-    → length (block full columns page) ≤ 35185
+    → length (block full columns page) ≤ 35138
+unfolding unprotectedBefore
 bounded full rows columns page few narrow size =
     let isUnprotected = unprotected (page .marks) in
     let wider : columns + (160 - columns) ≡ 160 = omega arith in
     let more : rows + (48 - rows) ≡ 48 = omega arith in
     let first : 0 * columns ≡ 0 = zero-mul columns in
-    let sum : total (weight isUnprotected columns) 0 (rows * columns) ≤ mostAfter (isUnprotected 0) (mostOfRows columns 0 rows) = rw first at (rows-from isUnprotected columns rows 0) in
+    let sum : total (weight isUnprotected columns) 0 (rows * columns) ≤ mostAfter false (mostOfRows columns 0 rows) = rw first at (rows-from isUnprotected columns rows 0) in
     let bound : NotAbove (mostOfRows columns 0 rows) largest = rw (wider, more, largest-is) at (more-rows columns (160 - columns) rows (48 - rows) 0) in
-    omega (arith, no-longer full columns page, rw size at (block-length columns page), below-largest (isUnprotected 0) _ bound)
+    omega (arith, no-longer full columns page, rw size at (block-length columns page), below-largest _ bound)
 
 -- The block of a blank form, by the cells that are to be unprotected.
 module _ (isUnprotected : ℕ → Bool) (cells : ℕ) where
@@ -190,8 +187,9 @@ module _ (isUnprotected : ℕ → Bool) (cells : ℕ) where
 
   -- What a cell adds is told by it and the cell before it.
   same-weight : (other : ℕ → Bool) (columns cell : ℕ) → other cell ≡ isUnprotected cell → other (cell - 1) ≡ isUnprotected (cell - 1) → weight other columns cell ≡ weight isUnprotected columns cell
-  unfolding weight startsField joined placeOf
-  same-weight other columns cell e b = rw (e, b)
+  unfolding weight startsField joined
+  same-weight other columns zero e b = rw e
+  same-weight other columns (suc cell) e b = rw (e, rw (sub-one (suc cell)) at b)
 
   form-length : (columns : ℕ) → length (block true columns (blankForm isUnprotected cells)) ≡ 1 + total (weight isUnprotected columns) 0 cells
   form-length columns =
@@ -199,9 +197,9 @@ module _ (isUnprotected : ℕ → Bool) (cells : ℕ) where
       block-length columns (blankForm isUnprotected cells)
       ∙ rw (length-replicate {A = ℕ} cells 0x20) (ap (λ (sum : ℕ). 1 + sum) (total-same _ _ 0 cells (λ k l h. same-weight (unprotected marks) columns k (form-unprotected k (omega arith)) (form-unprotected (k - 1) (omega arith)))))
 
-all-added : total (weight firstAndEven 160) 0 7680 ≡ 35184
-unfolding total weight firstAndEven startsField joined opensStretch placeOf opening decimal if_then_else_ _and_ _or_
+all-added : total (weight firstAndEven 160) 0 7680 ≡ 35137
+unfolding total weight firstAndEven startsField joined placeOf opening decimal if_then_else_ _and_ _or_
 all-added = refl
 
-pub reached : length (block true 160 (blankForm firstAndEven (48 * 160))) ≡ 35185
+pub reached : length (block true 160 (blankForm firstAndEven (48 * 160))) ≡ 35138
 reached = form-length firstAndEven 7680 160 ∙ ap (λ (sum : ℕ). 1 + sum) all-added

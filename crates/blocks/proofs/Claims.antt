@@ -27,8 +27,8 @@ abbrev pub Whole : Page → Type 0
 Whole page = cells page ≡ length (page .marks)
 
 -- The fields of a page.
-abbrev pub fieldsOn : ℕ → Page → List Field
-fieldsOn columns page = fieldsOf (unprotected (page .marks)) columns (cells page)
+abbrev pub fieldsOn : Page → List Field
+fieldsOn page = fieldsOf (unprotected (page .marks)) (cells page)
 
 -- Two pages of one size with the same unprotected cells.
 pub record SameForm (p q : Page) : Type 0 where
@@ -38,7 +38,7 @@ pub record SameForm (p q : Page) : Type 0 where
 -- Two pages with the same fields, and in these the same characters.
 pub record FilledAlike (columns : ℕ) (p q : Page) : Type 0 where
   pub entries : entriesSent true columns p ≡ entriesSent true columns q
-  pub fields : fieldsOn columns p ≡ fieldsOn columns q
+  pub fields : fieldsOn p ≡ fieldsOn q
   pub form : SameForm p q
   pub characters : (k : ℕ) → k < cells q → unprotected (q .marks) k ≡ true → getD (p .characters) k 0 ≡ getD (q .characters) k 0
 
@@ -59,9 +59,9 @@ blankForm cell-unprotected cells =
       marks = each (λ cell mark. if cell-unprotected cell then 0 else 1) (replicate cells 0);
     }
 
--- Of 160 columns, the first and the even ones.
+-- Of a page of 160 columns, the first cell and the even columns.
 unfoldable pub firstAndEven : ℕ → Bool
-firstAndEven cell = eqb (placeOf 160 cell .column) 1 or eqb (placeOf 160 cell .column % 2) 0
+firstAndEven cell = eqb cell 0 or eqb (placeOf 160 cell .column % 2) 0
 
 -- A byte that ends no sequence.
 unfoldable pub readsOn : ℕ → Bool

@@ -37,39 +37,39 @@ module _ (marks : List ℕ) (cell to : ℕ) where
   modified-nowhere h = let none : to - cell ≡ 0 = omega arith in rw none
 
 -- the end of a field that starts on the page
-pub end-bounds : (isUnprotected : ℕ → Bool) (columns cells cell : ℕ) → cell < cells → (cell < fieldEnd isUnprotected columns cells cell) × (fieldEnd isUnprotected columns cells cell ≤ cells)
-end-bounds isUnprotected columns cells cell h = let end = end-of isUnprotected columns cells cell h in (end .high, end .on-page)
+pub end-bounds : (isUnprotected : ℕ → Bool) (cells cell : ℕ) → cell < cells → (cell < fieldEnd isUnprotected cells cell) × (fieldEnd isUnprotected cells cell ≤ cells)
+end-bounds isUnprotected cells cell h = let end = end-of isUnprotected cells cell h in (end .high, end .on-page)
 
 -- What the block has for a place that was counted right.
 module _ (full : Bool) (columns : ℕ) (page : Page) (place : Place) (right : place ≡ placeOf columns (place .cell)) where
-  pub unstarted : startsField (unprotected (page .marks)) place ≡ false → bytesAt full columns page (place .cell) ≡ []
+  pub unstarted : startsField (unprotected (page .marks)) (place .cell) ≡ false → bytesAt full columns page (place .cell) ≡ []
   unfolding bytesAt
-  unstarted none = else-case _ _ _ (first-fails _ _ (ap (startsField (unprotected (page .marks))) (sym right) ∙ none))
+  unstarted none = else-case _ _ _ (first-fails _ _ none)
 
   -- The code asks the marks for the end of the field; the page has as many cells.
-  module _ (whole : Whole page) (end : ℕ) (found : end ≡ fieldEnd (unprotected (page .marks)) columns (length (page .marks)) (place .cell)) where
-    is-end : end ≡ fieldEnd (unprotected (page .marks)) columns (cells page) (place .cell)
-    is-end = found ∙ ap (λ (all : ℕ). fieldEnd (unprotected (page .marks)) columns all (place .cell)) (sym whole)
+  module _ (whole : Whole page) (end : ℕ) (found : end ≡ fieldEnd (unprotected (page .marks)) (length (page .marks)) (place .cell)) where
+    is-end : end ≡ fieldEnd (unprotected (page .marks)) (cells page) (place .cell)
+    is-end = found ∙ ap (λ (all : ℕ). fieldEnd (unprotected (page .marks)) all (place .cell)) (sym whole)
 
-    same-field : isInBlock full (page .marks) (record { start = place .cell; length = end - place .cell }) ≡ isInBlock full (page .marks) (fieldFrom (unprotected (page .marks)) columns (cells page) (place .cell))
+    same-field : isInBlock full (page .marks) (record { start = place .cell; length = end - place .cell }) ≡ isInBlock full (page .marks) (fieldFrom (unprotected (page .marks)) (cells page) (place .cell))
     same-field = rw is-end
 
     pub unsent : isInBlock full (page .marks) (record { start = place .cell; length = end - place .cell }) ≡ false → bytesAt full columns page (place .cell) ≡ []
     unfolding bytesAt
     unsent none = else-case _ _ _ (second-fails _ _ (sym same-field ∙ none))
 
-    pub sent-is : startsField (unprotected (page .marks)) place ≡ true → isInBlock full (page .marks) (record { start = place .cell; length = end - place .cell }) ≡ true → bytesAt full columns page (place .cell) ≡ headBytes (place .row) (place .column) ++ take (end - place .cell) (drop (place .cell) (page .characters))
+    pub sent-is : startsField (unprotected (page .marks)) (place .cell) ≡ true → isInBlock full (page .marks) (record { start = place .cell; length = end - place .cell }) ≡ true → bytesAt full columns page (place .cell) ≡ headBytes (place .row) (place .column) ++ take (end - place .cell) (drop (place .cell) (page .characters))
     unfolding bytesAt entryBytes entryOf
     sent-is starts sent =
-        then-case _ _ _ (both-hold _ _ (ap (startsField (unprotected (page .marks))) (sym right) ∙ starts) (sym same-field ∙ sent))
+        then-case _ _ _ (both-hold _ _ starts (sym same-field ∙ sent))
         ∙ (λ i. headBytes (right⁻ i .row) (right⁻ i .column) ++ take (sym is-end i - place .cell) (drop (place .cell) (page .characters)))
       where
         right⁻ : placeOf columns (place .cell) ≡ place
         right⁻ = sym right
 
-    pub sent-length : place .cell < cells page → startsField (unprotected (page .marks)) place ≡ true → isInBlock full (page .marks) (record { start = place .cell; length = end - place .cell }) ≡ true → length (bytesAt full columns page (place .cell)) ≡ length (headBytes (place .row) (place .column)) + (end - place .cell)
+    pub sent-length : place .cell < cells page → startsField (unprotected (page .marks)) (place .cell) ≡ true → isInBlock full (page .marks) (record { start = place .cell; length = end - place .cell }) ≡ true → length (bytesAt full columns page (place .cell)) ≡ length (headBytes (place .row) (place .column)) + (end - place .cell)
     sent-length here starts sent =
-        let bounds = end-bounds (unprotected (page .marks)) columns (cells page) (place .cell) here in
+        let bounds = end-bounds (unprotected (page .marks)) (cells page) (place .cell) here in
         let on-page : end ≤ cells page = omega (arith, is-end) in
         ap (length {A = ℕ}) (sent-is starts sent)
         ∙ length-append (headBytes (place .row) (place .column)) (take (end - place .cell) (drop (place .cell) (page .characters)))
@@ -80,18 +80,18 @@ abbrev pub restFrom : Bool → ℕ → Page → ℕ → ℕ → List ℕ
 restFrom full columns page n cell =
     encode
     (map (entryOf columns (page .characters))
-    (selected (isInBlock full (page .marks)) (fieldsFrom (unprotected (page .marks)) columns (cells page) cell n)))
+    (selected (isInBlock full (page .marks)) (fieldsFrom (unprotected (page .marks)) (cells page) cell n)))
 
 module _ (full : Bool) (columns : ℕ) (page : Page) where
   rest-suc : (n cell : ℕ) → restFrom full columns page (suc n) cell ≡ bytesAt full columns page cell ++ restFrom full columns page n (cell + 1)
   unfolding fieldsFrom selected encode bytesAt if_then_else_ _and_
-  rest-suc n cell = by-tests (startsField (unprotected (page .marks)) (placeOf columns cell)) (isInBlock full (page .marks) field) refl
+  rest-suc n cell = by-tests (startsField (unprotected (page .marks)) cell) (isInBlock full (page .marks) field) refl
     where
       field : Field
-      field = fieldFrom (unprotected (page .marks)) columns (cells page) cell
+      field = fieldFrom (unprotected (page .marks)) (cells page) cell
 
       later : List Field
-      later = fieldsFrom (unprotected (page .marks)) columns (cells page) (cell + 1) n
+      later = fieldsFrom (unprotected (page .marks)) (cells page) (cell + 1) n
 
       bytes : List Field → List ℕ
       bytes fields = encode (map (entryOf columns (page .characters)) (selected (isInBlock full (page .marks)) fields))

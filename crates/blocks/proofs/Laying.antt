@@ -32,9 +32,9 @@ cell-told columns j k row column =
 
 -- The entries of two pages' fields: at one place exactly where it is one field.
 module _ (isUnprotected : ℕ → Bool) (columns cells : ℕ) (old new : List ℕ) where
-  same-field : (a b : Field) → Listed isUnprotected columns cells a → Listed isUnprotected columns cells b → a .start ≡ b .start → a ≡ b
+  same-field : (a b : Field) → Listed isUnprotected cells a → Listed isUnprotected cells b → a .start ≡ b .start → a ≡ b
   same-field a b p q e =
-      let size : a .length ≡ b .length = p .whole ∙ ap (λ (cell : ℕ). fieldEnd isUnprotected columns cells cell - cell) e ∙ sym (q .whole) in
+      let size : a .length ≡ b .length = p .whole ∙ ap (λ (cell : ℕ). fieldEnd isUnprotected cells cell - cell) e ∙ sym (q .whole) in
       λ i. record { start = e i; length = size i }
 
   here : (field : Field) → samePlace (entryOf columns new field) (entryOf columns old field) ≡ true
@@ -52,8 +52,8 @@ module _ (isUnprotected : ℕ → Bool) (columns cells : ℕ) (old new : List �
   abbrev Renewed : (Field → Bool) → List Field → Field → Type 0
   Renewed sent fields field = laidOn (map (entryOf columns new) (selected sent fields)) (entryOf columns old field) ≡ entryOf columns new field
 
-  laid-field : (sent : Field → Bool) (fields : List Field) → ((field : Field) → List·Memᴰ field fields → Listed isUnprotected columns cells field)
-      → (field : Field) → Listed isUnprotected columns cells field
+  laid-field : (sent : Field → Bool) (fields : List Field) → ((field : Field) → List·Memᴰ field fields → Listed isUnprotected cells field)
+      → (field : Field) → Listed isUnprotected cells field
       → (sent field ≡ true → List·Memᴰ field fields)
       → (sent field ≡ false → entryOf columns old field ≡ entryOf columns new field)
       → Renewed sent fields field
@@ -80,22 +80,22 @@ module _ (p q : Page) (same : SameForm p q) where
       less-or-not k (length (q .marks)) (same .unprotected-cells k)
       (λ h. ap (λ (mark : ℕ). not (isProtected mark)) (List·getD-eq-default (p .marks) 0 (omega (arith, same .size .marks)) ∙ sym (List·getD-eq-default (q .marks) 0 h)))
 
-  pub same-fields : (columns : ℕ) → fieldsOn columns p ≡ fieldsOn columns q
-  same-fields columns = λ i. fieldsOf (λ k. same-unprotected k i) columns (sym (same .size .characters) i)
+  pub same-fields : fieldsOn p ≡ fieldsOn q
+  same-fields = λ i. fieldsOf (λ k. same-unprotected k i) (sym (same .size .characters) i)
 
   -- Where each field that is not sent has kept its characters.
   module _ (full : Bool) (columns : ℕ)
-      (kept : (field : Field) → ListedOn columns q field → isInBlock full (q .marks) field ≡ false → entryOf columns (p .characters) field ≡ entryOf columns (q .characters) field) where
-    laid-one : (field : Field) → List·Memᴰ field (fieldsOn columns q) → laidOn (entriesSent full columns q) (entryOf columns (p .characters) field) ≡ entryOf columns (q .characters) field
+      (kept : (field : Field) → ListedOn q field → isInBlock full (q .marks) field ≡ false → entryOf columns (p .characters) field ≡ entryOf columns (q .characters) field) where
+    laid-one : (field : Field) → List·Memᴰ field (fieldsOn q) → laidOn (entriesSent full columns q) (entryOf columns (p .characters) field) ≡ entryOf columns (q .characters) field
     unfolding entriesSent
     laid-one field m =
-        let all = listed (unprotected (q .marks)) columns (cells q) in
-        laid-field _ columns _ (p .characters) (q .characters) (isInBlock full (q .marks)) (fieldsOn columns q) all field (all field m) (λ _. m) (kept field (all field m))
+        let all = listed (unprotected (q .marks)) (cells q) in
+        laid-field _ columns _ (p .characters) (q .characters) (isInBlock full (q .marks)) (fieldsOn q) all field (all field m) (λ _. m) (kept field (all field m))
 
     all-laid : map (laidOn (entriesSent full columns q)) (entriesSent true columns p) ≡ entriesSent true columns q
     all-laid =
-        rw (all-sent columns p, all-sent columns q, same-fields columns, map-map)
-        (map-same (λ field. laidOn (entriesSent full columns q) (entryOf columns (p .characters) field)) _ (fieldsOn columns q) laid-one)
+        rw (all-sent columns p, all-sent columns q, same-fields, map-map)
+        (map-same (λ field. laidOn (entriesSent full columns q) (entryOf columns (p .characters) field)) _ (fieldsOn q) laid-one)
 
     laid : Sendable columns p → Sendable columns q → lay (block full columns q) (block true columns p) ≡ block true columns q
     unfolding lay block
@@ -131,10 +131,10 @@ module _ (columns : ℕ) (p q : Page) (sendable-p : Sendable columns p) (sendabl
   unfolding isInBlock entryOf
   changed-laid unchanged = laid p q same false columns kept sendable-p sendable-q
     where
-      kept : (field : Field) → ListedOn columns q field → isInBlock false (q .marks) field ≡ false → entryOf columns (p .characters) field ≡ entryOf columns (q .characters) field
+      kept : (field : Field) → ListedOn q field → isInBlock false (q .marks) field ≡ false → entryOf columns (p .characters) field ≡ entryOf columns (q .characters) field
       kept field is unsent =
-          let bounds = field-bounds _ _ _ field is in
+          let bounds = field-bounds _ _ field is in
           let place = placeOf columns (field .start) in
           ap (λ (characters : List ℕ). record { row = place .row; column = place .column; characters = characters })
           (same-part (p .characters) (q .characters) (field .length) (field .start) (sym (same .size .characters))
-          (λ k l h. unchanged k (omega arith) (field-unprotected _ _ _ field is k l h) (unmodified (q .marks) (field .length) (field .start) k (neither unsent .1) l h)))
+          (λ k l h. unchanged k (omega arith) (field-unprotected _ _ field is k l h) (unmodified (q .marks) (field .length) (field .start) k (neither unsent .1) l h)))

@@ -22,11 +22,11 @@ use Rattle.blocks.proofs.Decoding.{decode-encode}
 use Rattle.blocks.proofs.Listing.{Listed, listed, field-bounds, field-unprotected}
 
 -- A field of a page's list.
-abbrev pub ListedOn : ℕ → Page → Field → Type 0
-ListedOn columns page field = Listed (unprotected (page .marks)) columns (cells page) field
+abbrev pub ListedOn : Page → Field → Type 0
+ListedOn page field = Listed (unprotected (page .marks)) (cells page) field
 
 module _ (columns : ℕ) (page : Page) (sendable : Sendable columns page) where
-  valid-entry : (field : Field) → ListedOn columns page field → validEntry (entryOf columns (page .characters) field) ≡ true
+  valid-entry : (field : Field) → ListedOn page field → validEntry (entryOf columns (page .characters) field) ≡ true
   unfolding validEntry entryOf placeOf
   valid-entry field is =
       let start = field .start in
@@ -40,7 +40,7 @@ module _ (columns : ℕ) (page : Page) (sendable : Sendable columns page) where
   unfolding entriesSent
   valid-entries full =
       every-map validEntry (entryOf columns (page .characters)) _
-      (every-by-each _ _ (λ field m. valid-entry field (listed _ _ _ field (selected-from (isInBlock full (page .marks)) field (fieldsOn columns page) m))))
+      (every-by-each _ _ (λ field m. valid-entry field (listed _ _ field (selected-from (isInBlock full (page .marks)) field (fieldsOn page) m))))
 
   pub decode-block : (full : Bool) → decode (block full columns page) ≡ entriesSent full columns page
   unfolding block
@@ -48,9 +48,9 @@ module _ (columns : ℕ) (page : Page) (sendable : Sendable columns page) where
 
 module _ (columns : ℕ) (page : Page) where
   -- A full block has all fields.
-  pub all-sent : entriesSent true columns page ≡ map (entryOf columns (page .characters)) (fieldsOn columns page)
+  pub all-sent : entriesSent true columns page ≡ map (entryOf columns (page .characters)) (fieldsOn page)
   unfolding entriesSent isInBlock
-  all-sent = ap (map (entryOf columns (page .characters))) (selected-all (isInBlock true (page .marks)) (fieldsOn columns page) (λ field m. first-holds true _ refl))
+  all-sent = ap (map (entryOf columns (page .characters))) (selected-all (isInBlock true (page .marks)) (fieldsOn page) (λ field m. first-holds true _ refl))
 
   -- A changed block of a page with no modified cell that is unprotected.
   pub none-modified : (n cell : ℕ) → ((k : ℕ) → cell ≤ k → k < cell + n → isModified (getD (page .marks) k 0) ≡ false) → someModified (page .marks) cell n ≡ false
@@ -61,10 +61,10 @@ module _ (columns : ℕ) (page : Page) where
   pub nothing-sent : NothingModified page → block false columns page ≡ 0x03 ∷ []
   unfolding block entriesSent isInBlock encode
   nothing-sent unmodified =
-      ap (λ (fields : List Field). encode (map (entryOf columns (page .characters)) fields)) (selected-none (isInBlock false (page .marks)) (fieldsOn columns page) unsent)
+      ap (λ (fields : List Field). encode (map (entryOf columns (page .characters)) fields)) (selected-none (isInBlock false (page .marks)) (fieldsOn page) unsent)
     where
-      unsent : (field : Field) → List·Memᴰ field (fieldsOn columns page) → isInBlock false (page .marks) field ≡ false
+      unsent : (field : Field) → List·Memᴰ field (fieldsOn page) → isInBlock false (page .marks) field ≡ false
       unsent field m =
-          let is : ListedOn columns page field = listed _ _ _ field m in
-          let bounds = field-bounds _ _ _ field is in
-          second-decides false _ refl ∙ none-modified (field .length) (field .start) (λ k l h. unmodified k (omega arith) (field-unprotected _ _ _ field is k l h))
+          let is : ListedOn page field = listed _ _ field m in
+          let bounds = field-bounds _ _ field is in
+          second-decides false _ refl ∙ none-modified (field .length) (field .start) (λ k l h. unmodified k (omega arith) (field-unprotected _ _ field is k l h))

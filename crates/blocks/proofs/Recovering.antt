@@ -46,26 +46,26 @@ characters-told columns characters (field ∷ fields) h =
 
 -- The fields and the characters of a page, from its entries.
 module _ (columns : ℕ) (page : Page) where
-  field-told : (field : Field) → ListedOn columns page field → fieldTold columns (entryOf columns (page .characters) field) ≡ field
+  field-told : (field : Field) → ListedOn page field → fieldTold columns (entryOf columns (page .characters) field) ≡ field
   unfolding fieldTold entryOf placeOf
   field-told field is =
       let start = field .start in
-      let bounds = field-bounds _ _ _ field is in
+      let bounds = field-bounds _ _ field is in
       let above : start / columns + 1 - 1 ≡ start / columns = omega arith in
       let left : start % columns + 1 - 1 ≡ start % columns = omega arith in
       let size : length (take (field .length) (drop start (page .characters))) ≡ field .length = simp (length-take, length-drop) (omega arith) in
       rw (above, left, div-add-mod', size)
 
-  fields-told : map (fieldTold columns) (entriesSent true columns page) ≡ fieldsOn columns page
+  fields-told : map (fieldTold columns) (entriesSent true columns page) ≡ fieldsOn page
   fields-told =
       rw (all-sent columns page, map-map)
-      (map-same (λ field. fieldTold columns (entryOf columns (page .characters) field)) (λ field. field) (fieldsOn columns page) (λ field m. field-told field (listed _ _ _ field m))
-      ∙ map-id (fieldsOn columns page))
+      (map-same (λ field. fieldTold columns (entryOf columns (page .characters) field)) (λ field. field) (fieldsOn page) (λ field m. field-told field (listed _ _ field m))
+      ∙ map-id (fieldsOn page))
 
   cells-told : flatMap (λ (entry : Entry). entry .characters) (entriesSent true columns page) ≡ map (λ k. getD (page .characters) k 0) (unprotectedOn page)
   cells-told =
-      rw (all-sent columns page, unprotected-cells (unprotected (page .marks)) columns (cells page))
-      (characters-told columns (page .characters) (fieldsOn columns page) (λ field m. omega (arith, field-bounds _ _ _ field (listed _ _ _ field m))))
+      rw (all-sent columns page, unprotected-cells (unprotected (page .marks)) (cells page))
+      (characters-told columns (page .characters) (fieldsOn page) (λ field m. omega (arith, field-bounds _ _ field (listed _ _ field m))))
 
 -- Two tests that list the same places agree on these.
 passes-too : (a b : ℕ → Bool) (n m k : ℕ) → numbersFrom a 0 n ≡ numbersFrom b 0 m → k < n → a k ≡ true → b k ≡ true
@@ -77,11 +77,11 @@ same-places a b n m k e h l =
 
 module _ (columns : ℕ) (p q : Page) (size : SameSize p q) (whole-p : Whole p) where
   module _ (same : entriesSent true columns p ≡ entriesSent true columns q) where
-    same-fields : fieldsOn columns p ≡ fieldsOn columns q
+    same-fields : fieldsOn p ≡ fieldsOn q
     same-fields = sym (fields-told columns p) ∙ ap (map (fieldTold columns)) same ∙ fields-told columns q
 
     same-unprotected-cells : unprotectedOn p ≡ unprotectedOn q
-    same-unprotected-cells = unprotected-cells _ columns _ ∙ ap (flatMap cellsOf) same-fields ∙ sym (unprotected-cells _ columns _)
+    same-unprotected-cells = unprotected-cells _ _ ∙ ap (flatMap cellsOf) same-fields ∙ sym (unprotected-cells _ _)
 
     same-characters : map (λ k. getD (p .characters) k 0) (unprotectedOn q) ≡ map (λ k. getD (q .characters) k 0) (unprotectedOn q)
     same-characters =

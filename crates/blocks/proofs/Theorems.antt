@@ -51,10 +51,10 @@ copy-replaced = Laying.full-laid
 pub nothing-modified : (columns : ℕ) (page : Page) → NothingModified page → block false columns page ≡ 0x03 ∷ []
 nothing-modified = Pages.nothing-sent
 
--- No block of a page of up to 48 rows and 160 columns has more than 35,185 bytes,
-pub longest-block : (full : Bool) (rows columns : ℕ) (page : Page) → rows ≤ 48 → columns ≤ 160 → cells page ≡ rows * columns → length (block full columns page) ≤ 35185
+-- No block of a page of up to 48 rows and 160 columns has more than 35,138 bytes,
+pub longest-block : (full : Bool) (rows columns : ℕ) (page : Page) → rows ≤ 48 → columns ≤ 160 → cells page ≡ rows * columns → length (block full columns page) ≤ 35138
 longest-block = Bound.bounded
 
--- and one has as many: 48 rows, each with a field in columns 1 and 2 and one in each even column after them.
-pub longest-reached : length (block true 160 (blankForm firstAndEven (48 * 160))) ≡ 35185
+-- and one has as many: 48 rows of a field in each even column, the first of which begins in column 1.
+pub longest-reached : length (block true 160 (blankForm firstAndEven (48 * 160))) ≡ 35138
 longest-reached = Bound.reached

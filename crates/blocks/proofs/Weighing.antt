@@ -48,7 +48,7 @@ opening columns cell = 4 + length (decimal (placeOf columns cell .row)) + length
 
 -- What a cell adds to a full block.
 unfoldable pub weight : (ℕ → Bool) → ℕ → ℕ → ℕ
-weight isUnprotected columns cell = (if startsField isUnprotected (placeOf columns cell) then opening columns cell else 0) + (if isUnprotected cell then 1 else 0)
+weight isUnprotected columns cell = (if startsField isUnprotected cell then opening columns cell else 0) + (if isUnprotected cell then 1 else 0)
 
 -- The length of the entries of a list of fields: what their starts need, and a byte for each cell.
 openings : ℕ → List Field → ℕ
@@ -74,12 +74,12 @@ encode-length columns characters (field ∷ fields) h =
       run-length (field .start) (field .length),
     )
 
-openings-total : (isUnprotected : ℕ → Bool) (columns cells n cell : ℕ) → openings columns (fieldsFrom isUnprotected columns cells cell n) ≡ total (λ k. if startsField isUnprotected (placeOf columns k) then opening columns k else 0) cell n
+openings-total : (isUnprotected : ℕ → Bool) (columns cells n cell : ℕ) → openings columns (fieldsFrom isUnprotected cells cell n) ≡ total (λ k. if startsField isUnprotected k then opening columns k else 0) cell n
 unfolding openings fieldsFrom total if_then_else_
 openings-total isUnprotected columns cells zero cell = refl
 openings-total isUnprotected columns cells (suc n) cell =
     let later = openings-total isUnprotected columns cells n (cell + 1) in
-    either-way (startsField isUnprotected (placeOf columns cell)) (λ s. rw s (omega arith)) (λ s. rw s (omega arith))
+    either-way (startsField isUnprotected cell) (λ s. rw s (omega arith)) (λ s. rw s (omega arith))
 
 places-total : (isUnprotected : ℕ → Bool) (n i : ℕ) → length (numbersFrom isUnprotected i n) ≡ total (λ k. if isUnprotected k then 1 else 0) i n
 unfolding numbersFrom total if_then_else_
@@ -105,14 +105,14 @@ block-length columns page =
     omega (
       arith,
       ap (λ (entries : List Entry). length (encode entries)) (all-sent columns page),
-      encode-length columns (page .characters) (fieldsOn columns page) (λ field m. omega (arith, field-bounds _ _ _ field (listed _ _ _ field m))),
+      encode-length columns (page .characters) (fieldsOn page) (λ field m. omega (arith, field-bounds _ _ field (listed _ _ field m))),
       openings-total isUnprotected columns (cells page) (cells page) 0,
-      ap length (unprotected-cells isUnprotected columns (cells page)),
+      ap length (unprotected-cells isUnprotected (cells page)),
       places-total isUnprotected (cells page) 0,
-      total-sum (λ k. if startsField isUnprotected (placeOf columns k) then opening columns k else 0) (λ k. if isUnprotected k then 1 else 0) 0 (cells page),
+      total-sum (λ k. if startsField isUnprotected k then opening columns k else 0) (λ k. if isUnprotected k then 1 else 0) 0 (cells page),
     )
 
 -- No block is longer than the full one.
 pub no-longer : (full : Bool) (columns : ℕ) (page : Page) → length (block full columns page) ≤ length (block true columns page)
 unfolding block entriesSent
-no-longer full columns page = rw (all-sent columns page) (fewer-no-longer (entryOf columns (page .characters)) (isInBlock full (page .marks)) (fieldsOn columns page))
+no-longer full columns page = rw (all-sent columns page) (fewer-no-longer (entryOf columns (page .characters)) (isInBlock full (page .marks)) (fieldsOn page))

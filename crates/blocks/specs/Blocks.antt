@@ -56,7 +56,7 @@ isInBlock full marks field = full or someModified marks (field .start) (field .l
 unfoldable pub entriesSent : Bool → ℕ → Page → List Entry
 entriesSent full columns page =
     map (entryOf columns (page .characters))
-    (selected (isInBlock full (page .marks)) (fieldsOf (unprotected (page .marks)) columns (cells page)))
+    (selected (isInBlock full (page .marks)) (fieldsOf (unprotected (page .marks)) (cells page)))
 
 unfoldable pub block : Bool → ℕ → Page → List ℕ
 block full columns page = encode (entriesSent full columns page)
@@ -65,8 +65,8 @@ block full columns page = encode (entriesSent full columns page)
 -- (The code goes by this; no rule does.)
 unfoldable pub bytesAt : Bool → ℕ → Page → ℕ → List ℕ
 bytesAt full columns page cell =
-    let field = fieldFrom (unprotected (page .marks)) columns (cells page) cell in
-    if startsField (unprotected (page .marks)) (placeOf columns cell) and isInBlock full (page .marks) field then
+    let field = fieldFrom (unprotected (page .marks)) (cells page) cell in
+    if startsField (unprotected (page .marks)) cell and isInBlock full (page .marks) field then
     entryBytes (entryOf columns (page .characters) field)
     else []
 

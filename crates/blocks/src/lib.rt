@@ -67,10 +67,10 @@ fn length_at(marks: &[Mark], place: Place, columns: usize, full: bool) -> usize
         r ≡ length (bytesAt full columns (pageOf characters (now (marks .entry))) (place .cell))) ⌝ }
     ensures { λ r. ⌜ r ≤ 7690 ⌝ }
 {
-    if !fields::starts_field(marks, place) {
+    if !fields::starts_field(marks, place.cell) {
         return 0;
     }
-    let end = fields::field_end(marks, place, columns);
+    let end = fields::field_end(marks, place.cell);
     if !is_in_block(marks, full, place.cell, end) {
         return 0;
     }
@@ -111,10 +111,10 @@ fn put_at(
         (bytesAt full columns (pageOf (now (characters .entry)) (now (marks .entry))) (place .cell))
         (now (out .entry)) r (now (out .exit)) ⌝ }
 {
-    if !fields::starts_field(marks, place) {
+    if !fields::starts_field(marks, place.cell) {
         return at;
     }
-    let end = fields::field_end(marks, place, columns);
+    let end = fields::field_end(marks, place.cell);
     let cell = place.cell;
     if !is_in_block(marks, full, cell, end) {
         return at;

@@ -7,13 +7,9 @@ use lib.ListN.{length}
 use Rattle.page.specs.Page.{pageOf}
 use Rattle.page.specs.Marks.{unprotected}
 use Rattle.output.proofs.Digits.{place-long}
-use Rattle.fields.proofs.Walks.{at-first-opens}
 use Rattle.blocks.proofs.Laws.{end-bounds, unstarted, unsent, sent-length}
 use Rattle.blocks.proofs.length_at.Statement.{statement}
 use Rattle.blocks.proofs.length_at.Tie as tie
-
-starts-field-requires : tie.Need-starts-field-requires
-starts-field-requires c κs = let start = c .before in (search needs, at-first-opens (start .pre .0))
 
 returns : tie.Need-returns
 returns c =
@@ -24,7 +20,7 @@ returns c =
 is-in-block-requires : tie.Need-is-in-block-requires
 is-in-block-requires c κs =
     let start = c .before .before .before .before in
-    omega (arith, end-bounds (unprotected (start .args .marks .now)) (start .args .columns) (length (start .args .marks .now)) (start .args .place .cell) (start .pre .1 .0))
+    omega (arith, end-bounds (unprotected (start .args .marks .now)) (length (start .args .marks .now)) (start .args .place .cell) (start .pre .1 .0))
 
 returns-2 : tie.Need-returns-2
 returns-2 c =
@@ -37,7 +33,7 @@ sub-result c =
     let start = c .before .before .before .before .before .before .before .before in
     let place = start .args .place in
     let marks = start .args .marks .now in
-    let bounds = end-bounds (unprotected marks) (start .args .columns) (length marks) (place .cell) (start .pre .1 .0) in
+    let bounds = end-bounds (unprotected marks) (length marks) (place .cell) (start .pre .1 .0) in
     omega arith
 
 add-result : tie.Need-add-result
@@ -45,7 +41,7 @@ add-result c =
     let start = c .before .before .before .before .before .before .before .before in
     let place = start .args .place in
     let marks = start .args .marks .now in
-    let bounds = end-bounds (unprotected marks) (start .args .columns) (length marks) (place .cell) (start .pre .1 .0) in
+    let bounds = end-bounds (unprotected marks) (length marks) (place .cell) (start .pre .1 .0) in
     omega (arith, c .before .place-length .ensures .1)
 
 returns-3 : tie.Need-returns-3
@@ -53,7 +49,7 @@ returns-3 c =
     let start = c .before .before .before .before .before .before .before .before in
     let place = start .args .place in
     let marks = start .args .marks .now in
-    let bounds = end-bounds (unprotected marks) (start .args .columns) (length marks) (place .cell) (start .pre .1 .0) in
+    let bounds = end-bounds (unprotected marks) (length marks) (place .cell) (start .pre .1 .0) in
     let starts = sym (c .before .before .before .before .before .before .starts-field .ensures) ∙ not-false _ (c .before .before .before .before .before .if1 .left) in
     let sent = sym (c .before .before .before .is-in-block .ensures) ∙ not-false _ (c .before .before .if2 .left) in
     let head = c .before .place-length .ensures in (
@@ -66,7 +62,7 @@ pub length-at-spec : {M : Type 1} → statement M
 length-at-spec =
     tie.close
     (tie.spec
-    starts-field-requires
+    (λ c κs. search needs)
     returns
     (λ c κs. search needs)
     is-in-block-requires

@@ -8,13 +8,9 @@ use Rattle.words.proofs.Output.{wrote-none, wrote-then}
 use Rattle.page.specs.Page.{pageOf}
 use Rattle.page.specs.Marks.{unprotected}
 use Rattle.places.proofs.Counting.{on-rows}
-use Rattle.fields.proofs.Walks.{at-first-opens}
 use Rattle.blocks.proofs.Laws.{end-bounds, unstarted, unsent, sent-is, sent-length}
 use Rattle.blocks.proofs.put_at.Statement.{statement}
 use Rattle.blocks.proofs.put_at.Tie as tie
-
-starts-field-requires : tie.Need-starts-field-requires
-starts-field-requires c κs = let start = c .before .before .before in (search needs, at-first-opens (start .pre .0))
 
 returns : tie.Need-returns
 returns c =
@@ -25,7 +21,7 @@ returns c =
 is-in-block-requires : tie.Need-is-in-block-requires
 is-in-block-requires c κs =
     let start = c .before .before .before .before .before .before in
-    omega (arith, end-bounds (unprotected (start .args .marks .now)) (start .args .columns) (length (start .args .marks .now)) (start .args .place .cell) (start .pre .1 .0 .1))
+    omega (arith, end-bounds (unprotected (start .args .marks .now)) (length (start .args .marks .now)) (start .args .place .cell) (start .pre .1 .0 .1))
 
 returns-2 : tie.Need-returns-2
 returns-2 c =
@@ -51,7 +47,7 @@ put-characters-requires c κs =
     let starts = sym (c .before .before .before .before .before .before .before .before .before .starts-field .ensures) ∙ not-false _ (c .before .before .before .before .before .before .before .before .if1 .left) in
     let sent = sym (c .before .before .before .before .before .before .is-in-block .ensures) ∙ not-false _ (c .before .before .before .before .before .if2 .left) in
     let size = sent-length (start .args .full) _ (pageOf (start .args .characters .now) marks) _ (start .pre .0 .right) (start .pre .1 .0 .3) _ (c .before .before .before .before .before .before .before .field-end .ensures) (omega arith) starts sent in
-    let bounds = end-bounds (unprotected marks) (start .args .columns) (length marks) (place .cell) (start .pre .1 .0 .1) in
+    let bounds = end-bounds (unprotected marks) (length marks) (place .cell) (start .pre .1 .0 .1) in
     omega arith
 
 returns-3 : tie.Need-returns-3
@@ -69,7 +65,7 @@ pub put-at-spec : {M : Type 1} → statement M
 put-at-spec =
     tie.close
     (tie.spec
-    starts-field-requires
+    (λ c κs. search needs)
     returns
     (λ c κs. search needs)
     is-in-block-requires
