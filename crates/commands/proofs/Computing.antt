@@ -7,7 +7,7 @@ use Rattle.page.specs.Marks.{unprotected}
 use Rattle.page.specs.Page.{textStored, erasable, erased, cellsErased, scrolledUp, scrolledDown, markAfterBlock, modifiedCleared}
 use Rattle.output.specs.Decimal.{decimal, placeBytes}
 use Rattle.places.specs.Places.{placeOf}
-use Rattle.fields.specs.Fields.{opensStretch, joined, startsField, endFrom, fieldEnd, fieldsFrom, fieldsOf}
+use Rattle.fields.specs.Fields.{joined, startsField, endFrom, fieldEnd, fieldsFrom, fieldsOf}
 use Rattle.blocks.specs.Blocks.{entryBytes, encode, entryOf, isInBlock, entriesSent, block}
 use Rattle.state.specs.State.{refused, inputDisabled, inputEnabled}
 use Rattle.state.specs.Moves.{backBy, onBy, upBy, downBy, rightBy, leftBy, toMargin, toNextCell}
@@ -43,7 +43,7 @@ pages = tt
 
 -- What is sent.
 unfoldable transmissions : Unit {0}
-unfolding tests unprotected placeOf opensStretch joined startsField endFrom fieldEnd fieldsFrom fieldsOf decimal placeBytes entryBytes encode entryOf isInBlock entriesSent block blockTransmission bytesOf
+unfolding tests unprotected placeOf joined startsField endFrom fieldEnd fieldsFrom fieldsOf decimal placeBytes entryBytes encode entryOf isInBlock entriesSent block blockTransmission bytesOf
 transmissions = tt
 
 -- The step of a host byte.

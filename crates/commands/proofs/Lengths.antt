@@ -1,4 +1,4 @@
--- No transmission of a host byte exceeds the longest block: 35,185 bytes.
+-- No transmission of a host byte exceeds the longest block: 35,138 bytes.
 use mathlib.Core.Path.{_≡_, ap}
 use mathlib.Core.Bool.{Bool, true}
 use mathlib.Core.List.{List, []}
@@ -28,12 +28,12 @@ use Rattle.commands.proofs.Silent.{text-silent, control-silent, esc-sil
 
 -- A transmission of no more bytes than the longest block has.
 abbrev Short : Stepped → Type 0
-Short step = length (bytesOf (step .transmission)) ≤ 35185
+Short step = length (bytesOf (step .transmission)) ≤ 35138
 
-quiet : {bytes : List ℕ} → bytes ≡ [] → length bytes ≤ 35185
+quiet : {bytes : List ℕ} → bytes ≡ [] → length bytes ≤ 35138
 quiet none = omega (arith, ap (length {A = ℕ}) none)
 
-pub block-short : (t : Terminal) → sizeFits (t .state .size) (t .page) ≡ true → (full : Bool) → length (blockHere full t) ≤ 35185
+pub block-short : (t : Terminal) → sizeFits (t .state .size) (t .page) ≡ true → (full : Bool) → length (blockHere full t) ≤ 35138
 block-short t fits full =
     let size = sized (t .state .size) (t .page) fits in
     let bounds = size-bounds (t .state .size) (size .listed) in

@@ -95,7 +95,7 @@ module _ (isUnprotected : ℕ → Bool) (cells : ℕ) where
       record { only-fields = only-fields; every-field = every-field; every-cell = every-cell; in-order = in-order cells 0 (omega arith) }
 
   -- Where no field starts none is listed.
-  none-listed : (n from : ℕ) → ((cell : ℕ) → from ≤ cell → cell < from + n → startsField isUnprotected cell ≡ false) → fieldsFrom isUnprotected cells from n ≡ []
+  pub none-listed : (n from : ℕ) → ((cell : ℕ) → from ≤ cell → cell < from + n → startsField isUnprotected cell ≡ false) → fieldsFrom isUnprotected cells from n ≡ []
   unfolding fieldsFrom
   none-listed zero from none-starts = refl
   none-listed (suc n) from none-starts =

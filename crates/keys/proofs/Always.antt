@@ -43,8 +43,8 @@ blockKey true = 267
 blockKey false = 266
 
 -- The cursor's field, in any state.
-pub field-unprotected : (t : Terminal) → unprotectedAt t (cursorCell (t .state)) ≡ true → UnprotectedAround (unprotectedAt t) (t .state .size .columns) (cellsHere t) (cursorCell (t .state))
-field-unprotected t = unprotected-around (unprotectedAt t) (t .state .size .columns) (cellsHere t) (cursorCell (t .state))
+pub field-unprotected : (t : Terminal) → unprotectedAt t (cursorCell (t .state)) ≡ true → UnprotectedAround (unprotectedAt t) (cellsHere t) (cursorCell (t .state))
+field-unprotected t = unprotected-around (unprotectedAt t) (cellsHere t) (cursorCell (t .state))
 
 module _ (key : ℕ) (t : Terminal) where
   abbrev Always : Stepped → Type 0

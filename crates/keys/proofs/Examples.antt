@@ -1,10 +1,10 @@
 -- The definitions of the keys, computed on keys worked out by hand from document 01.
 use mathlib.Core.Path.{_≡_, refl}
-use mathlib.Core.List.{List, [], _∷_, map}
+use mathlib.Core.List.{List, [], _∷_, _++_, map}
 use mathlib.Core.Bool.{Bool, true, false}
 use Prim.Native.Nat.{ℕ}
 use Prim.Native.Char.{code}
-use lib.ListN.{length}
+use lib.ListN.{length, replicate}
 use Rattle.words.specs.Choice.{if_then_else_, _and_, _or_, _is_to_}
 use Rattle.words.specs.Text.{bytes}
 use Rattle.words.specs.Lists.{within, eachFrom, numbersFrom, onPart, selected}
@@ -12,7 +12,7 @@ use Rattle.page.specs.Marks.{unprotected}
 use Rattle.page.specs.Page.{Page, pageOf, typed, tagged, blanked, closedUp, movedRight, markAfterBlock, modifiedCleared}
 use Rattle.places.specs.Places.{placeOf}
 use Rattle.output.specs.Decimal.{decimal, placeBytes}
-use Rattle.fields.specs.Fields.{opensStretch, joined, startsField, fieldStart, endFrom, fieldEnd, fieldsFrom, fieldsOf}
+use Rattle.fields.specs.Fields.{joined, startsField, fieldStart, endFrom, fieldEnd, fieldsFrom, fieldsOf}
 use Rattle.fields.specs.Searches.{orElse, firstField, lastField, firstAfter, lastBefore, nextField, previousField, firstUnprotectedFrom, firstUnprotected, nextUnprotected}
 use Rattle.blocks.specs.Blocks.{entryBytes, encode, entryOf, someModified, isInBlock, entriesSent, block}
 use Rattle.state.specs.State.{freshState, withCursor, cursorAt, withLocks, unlocked}
@@ -25,7 +25,7 @@ use Rattle.keys.specs.Keys.{isTyping, isEditing, isFieldMove, isKnown, i
 -- steps go by the same rules on any R and C.
 --     # A B C D E # F     protected, -, bold, underline, reverse, -, protected and modified, -
 --     G H . I : J K L     modified, blink, protected, concealed, the rest protected
--- Its fields: A to E at 1;2, F at 1;8, G and H at 2;1, which the row's end parts from F, and I at 2;4.
+-- Its fields: A to E at 1;2, F to H at 1;8, which runs on into the second row, and I at 2;4.
 characters : List ℕ
 characters =
     bytes "#ABCDE#FGH.I:JKL"
@@ -63,44 +63,54 @@ asRun e =
       page = step .terminal .page;
     }
 
--- From a row and a column a key goes to a row and a column, and does nothing else.
-goes : ℕ → ℕ → ℕ → ℕ → ℕ → Example
-goes row column key toRow toColumn =
+-- On a page, from a row and a column, a key goes to a row and a column, and does nothing else.
+goesOn : Page → ℕ → ℕ → ℕ → ℕ → ℕ → Example
+goesOn page row column key toRow toColumn =
     record {
-      start = on (pageOf characters marks) row column;
+      start = on page row column;
       key = key;
-      seen = record { row = toRow; column = toColumn; count = 0; sent = []; page = pageOf characters marks };
+      seen = record { row = toRow; column = toColumn; count = 0; sent = []; page = page };
     }
 
 -- There, it stores so many cells, which leaves these characters and marks.
-stored : ℕ → ℕ → ℕ → ℕ → ℕ → ℕ → List ℕ → List ℕ → Example
-stored row column key toRow toColumn count charactersAfter marksAfter =
+storedOn : Page → ℕ → ℕ → ℕ → ℕ → ℕ → ℕ → List ℕ → List ℕ → Example
+storedOn page row column key toRow toColumn count charactersAfter marksAfter =
     record {
-      start = on (pageOf characters marks) row column;
+      start = on page row column;
       key = key;
       seen = record { row = toRow; column = toColumn; count = count; sent = []; page = pageOf charactersAfter marksAfter };
     }
 
 -- It sends a block, which leaves these marks; the cursor stays.
-sent : ℕ → ℕ → ℕ → List ℕ → List ℕ → Example
-sent row column key bytes marksAfter =
+sentOn : Page → ℕ → ℕ → ℕ → List ℕ → List ℕ → Example
+sentOn page row column key bytes marksAfter =
     record {
-      start = on (pageOf characters marks) row column;
+      start = on page row column;
       key = key;
-      seen = record { row = row; column = column; count = 0; sent = bytes; page = pageOf characters marksAfter };
+      seen = record { row = row; column = column; count = 0; sent = bytes; page = pageOf (page .characters) marksAfter };
     }
+
+-- All that on the page above.
+goes : ℕ → ℕ → ℕ → ℕ → ℕ → Example
+goes = goesOn (pageOf characters marks)
+
+stored : ℕ → ℕ → ℕ → ℕ → ℕ → ℕ → List ℕ → List ℕ → Example
+stored = storedOn (pageOf characters marks)
+
+sent : ℕ → ℕ → ℕ → List ℕ → List ℕ → Example
+sent = sentOn (pageOf characters marks)
 
 -- A page with no unprotected cell; three cells are enough.
 closed : Page
 closed = pageOf (bytes "ABC") (1 ∷ 5 ∷ 3 ∷ [])
 
-goesOnClosed : ℕ → ℕ → ℕ → ℕ → ℕ → Example
-goesOnClosed row column key toRow toColumn =
-    record {
-      start = on closed row column;
-      key = key;
-      seen = record { row = toRow; column = toColumn; count = 0; sent = []; page = closed };
-    }
+-- A page whose two fields, A and B at 1;1 and C and D at 2;7, have its first cell and its last.
+ends : Page
+ends = pageOf (bytes "AB............CD") (0 ∷ 0 ∷ replicate 12 1 ++ (0 ∷ 0 ∷ []))
+
+-- A page that is one field.
+whole : Page
+whole = pageOf (bytes "ABCDEFGHIJKLMNOP") (replicate 16 0)
 
 examples : List Example
 examples =
@@ -124,24 +134,35 @@ examples =
     ∷ stored 2 4 (code " ") 1 2 1
     (bytes "#ABCDE#FGH. :JKL")
     (1 ∷ 0 ∷ 4 ∷ 8 ∷ 32 ∷ 0 ∷ 3 ∷ 0 ∷ 2 ∷ 16 ∷ 1 ∷ 66 ∷ 1 ∷ 1 ∷ 1 ∷ 1 ∷ [])
-    -- 263 on C: A to E become 20s, each modified, visual marks stay; the cursor goes to 1;2. On F: that cell alone
+    -- 263 on C: A to E become 20s, each modified, visual marks stay; the cursor goes to 1;2. On F, and on
+    -- G: F to H, in two rows
     ∷ stored 1 4 263 1 2 5
     (bytes "#     #FGH.I:JKL")
     (1 ∷ 2 ∷ 6 ∷ 10 ∷ 34 ∷ 2 ∷ 3 ∷ 0 ∷ 2 ∷ 16 ∷ 1 ∷ 64 ∷ 1 ∷ 1 ∷ 1 ∷ 1 ∷ [])
-    ∷ stored 1 8 263 1 8 1
-    (bytes "#ABCDE# GH.I:JKL")
-    (1 ∷ 0 ∷ 4 ∷ 8 ∷ 32 ∷ 0 ∷ 3 ∷ 2 ∷ 2 ∷ 16 ∷ 1 ∷ 64 ∷ 1 ∷ 1 ∷ 1 ∷ 1 ∷ [])
-    -- 264 on B: C to E close up, a 20 at the end; A is not touched, visual marks stay in their cells. On E: a 20
+    ∷ stored 1 8 263 1 8 3
+    (bytes "#ABCDE#   .I:JKL")
+    (1 ∷ 0 ∷ 4 ∷ 8 ∷ 32 ∷ 0 ∷ 3 ∷ 2 ∷ 2 ∷ 18 ∷ 1 ∷ 64 ∷ 1 ∷ 1 ∷ 1 ∷ 1 ∷ [])
+    ∷ stored 2 1 263 1 8 3
+    (bytes "#ABCDE#   .I:JKL")
+    (1 ∷ 0 ∷ 4 ∷ 8 ∷ 32 ∷ 0 ∷ 3 ∷ 2 ∷ 2 ∷ 18 ∷ 1 ∷ 64 ∷ 1 ∷ 1 ∷ 1 ∷ 1 ∷ [])
+    -- 264 on B: C to E close up, a 20 at the end; A is not touched, visual marks stay in their cells. On E: a 20.
+    -- On F: G comes up over the row's end
     ∷ stored 1 3 264 1 3 4
     (bytes "#ACDE #FGH.I:JKL")
     (1 ∷ 0 ∷ 6 ∷ 10 ∷ 34 ∷ 2 ∷ 3 ∷ 0 ∷ 2 ∷ 16 ∷ 1 ∷ 64 ∷ 1 ∷ 1 ∷ 1 ∷ 1 ∷ [])
     ∷ stored 1 6 264 1 6 1
     (bytes "#ABCD #FGH.I:JKL")
     (1 ∷ 0 ∷ 4 ∷ 8 ∷ 32 ∷ 2 ∷ 3 ∷ 0 ∷ 2 ∷ 16 ∷ 1 ∷ 64 ∷ 1 ∷ 1 ∷ 1 ∷ 1 ∷ [])
-    -- 265 on B: a 20 there, B to D move right, E is lost. On G: the field is G and H alone
+    ∷ stored 1 8 264 1 8 3
+    (bytes "#ABCDE#GH .I:JKL")
+    (1 ∷ 0 ∷ 4 ∷ 8 ∷ 32 ∷ 0 ∷ 3 ∷ 2 ∷ 2 ∷ 18 ∷ 1 ∷ 64 ∷ 1 ∷ 1 ∷ 1 ∷ 1 ∷ [])
+    -- 265 on B: a 20 there, B to D move right, E is lost. On F: F goes down over the row's end. On G: F stays
     ∷ stored 1 3 265 1 3 4
     (bytes "#A BCD#FGH.I:JKL")
     (1 ∷ 0 ∷ 6 ∷ 10 ∷ 34 ∷ 2 ∷ 3 ∷ 0 ∷ 2 ∷ 16 ∷ 1 ∷ 64 ∷ 1 ∷ 1 ∷ 1 ∷ 1 ∷ [])
+    ∷ stored 1 8 265 1 8 3
+    (bytes "#ABCDE# FG.I:JKL")
+    (1 ∷ 0 ∷ 4 ∷ 8 ∷ 32 ∷ 0 ∷ 3 ∷ 2 ∷ 2 ∷ 18 ∷ 1 ∷ 64 ∷ 1 ∷ 1 ∷ 1 ∷ 1 ∷ [])
     ∷ stored 2 1 265 2 1 2
     (bytes "#ABCDE#F G.I:JKL")
     (1 ∷ 0 ∷ 4 ∷ 8 ∷ 32 ∷ 0 ∷ 3 ∷ 0 ∷ 2 ∷ 18 ∷ 1 ∷ 64 ∷ 1 ∷ 1 ∷ 1 ∷ 1 ∷ [])
@@ -163,9 +184,10 @@ examples =
     ∷ goes 1 1 260 1 2
     ∷ goes 1 2 260 1 8
     ∷ goes 1 4 260 1 8
-    ∷ goes 1 8 260 2 1
+    ∷ goes 1 8 260 2 4
+    ∷ goes 2 1 260 2 4
     ∷ goes 2 4 260 1 2
-    -- 261: within a field its own start; at or before the first field's start the last
+    -- 261: within a field its own start, in the row above too; at or before the first field's start the last
     ∷ goes 2 8 261 2 4
     ∷ goes 2 1 261 1 8
     ∷ goes 1 4 261 1 2
@@ -173,17 +195,31 @@ examples =
     -- 262
     ∷ goes 2 8 262 1 2
     -- no unprotected cell: 260 and 261 do nothing, 262 goes to 1;1
-    ∷ goesOnClosed 1 3 260 1 3
-    ∷ goesOnClosed 1 3 261 1 3
-    ∷ goesOnClosed 1 3 262 1 1
-    -- 266 sends ESC [ 2 ; 1 f G H 03, the one field with a modified cell; the protected cell stays modified
+    ∷ goesOn closed 1 3 260 1 3
+    ∷ goesOn closed 1 3 261 1 3
+    ∷ goesOn closed 1 3 262 1 1
+    -- 266 sends ESC [ 1 ; 8 f F G H 03, the one field with a modified cell; the protected cell stays modified
     ∷ sent 1 4 266
-    (bytes "\u{1b}[2;1fGH\u{3}")
+    (bytes "\u{1b}[1;8fFGH\u{3}")
     (1 ∷ 0 ∷ 4 ∷ 8 ∷ 32 ∷ 0 ∷ 3 ∷ 0 ∷ 0 ∷ 16 ∷ 1 ∷ 64 ∷ 1 ∷ 1 ∷ 1 ∷ 1 ∷ [])
-    -- 267 sends all four
+    -- 267 sends all three
     ∷ sent 1 4 267
-    (bytes "\u{1b}[1;2fABCDE\u{1b}[1;8fF\u{1b}[2;1fGH\u{1b}[2;4fI\u{3}")
+    (bytes "\u{1b}[1;2fABCDE\u{1b}[1;8fFGH\u{1b}[2;4fI\u{3}")
     (1 ∷ 0 ∷ 4 ∷ 8 ∷ 32 ∷ 0 ∷ 3 ∷ 0 ∷ 0 ∷ 16 ∷ 1 ∷ 64 ∷ 1 ∷ 1 ∷ 1 ∷ 1 ∷ [])
+    -- the page's last cell is not joined to its first: 263 on C and 264 on D end with the page, 260 on C and 261 on A go
+    -- round it, and 267 sends two fields
+    ∷ storedOn ends 2 7 263 2 7 2 (bytes "AB............  ") (0 ∷ 0 ∷ replicate 12 1 ++ (2 ∷ 2 ∷ []))
+    ∷ storedOn ends 2 8 264 2 8 1 (bytes "AB............C ") (0 ∷ 0 ∷ replicate 12 1 ++ (0 ∷ 2 ∷ []))
+    ∷ storedOn ends 1 1 265 1 1 2 (bytes " A............CD") (2 ∷ 2 ∷ replicate 12 1 ++ (0 ∷ 0 ∷ []))
+    ∷ goesOn ends 2 7 260 1 1
+    ∷ goesOn ends 1 1 261 2 7
+    ∷ sentOn ends 1 1 267 (bytes "\u{1b}[1;1fAB\u{1b}[2;7fCD\u{3}") (ends .marks)
+    -- one field of a whole page: 260 and 261 find its start, 265 moves all of it from the cursor on, 267 sends all of it
+    ∷ goesOn whole 2 8 260 1 1
+    ∷ goesOn whole 2 8 261 1 1
+    ∷ storedOn whole 1 8 265 1 8 9 (bytes "ABCDEFG HIJKLMNO") (replicate 7 0 ++ replicate 9 2)
+    ∷ storedOn whole 2 3 263 1 1 16 (bytes "                ") (replicate 16 2)
+    ∷ sentOn whole 2 8 267 (bytes "\u{1b}[1;1fABCDEFGHIJKLMNOP\u{3}") (whole .marks)
     -- 127 and 269 are no keys
     ∷ goes 1 3 127 1 3
     ∷ goes 1 3 269 1 3
@@ -191,7 +227,7 @@ examples =
 
 -- Each key leaves what the example says.
 as-worked-out : map asRun examples ≡ map (λ (e : Example). e .seen) examples
-unfolding characters marks on asRun goes stored sent closed goesOnClosed examples if_then_else_ _and_ _or_ _is_to_ within eachFrom numbersFrom onPart selected unprotected typed tagged blanked closedUp movedRight markAfterBlock modifiedCleared placeOf decimal placeBytes opensStretch joined startsField fieldStart endFrom fieldEnd fieldsFrom fieldsOf orElse firstField lastField firstAfter lastBefore nextField previousField firstUnprotectedFrom firstUnprotected nextUnprotected entryBytes encode entryOf someModified isInBlock entriesSent block unlocked backBy onBy upBy downBy rightBy leftBy bytesOf blockTransmission sendBlock isTyping goneTo typedStep toNextField toPreviousField toFirstUnprotected fieldBlanked restShifted keyStep
+unfolding characters marks on asRun goesOn storedOn sentOn goes stored sent closed ends whole examples if_then_else_ _and_ _or_ _is_to_ within eachFrom numbersFrom onPart selected unprotected typed tagged blanked closedUp movedRight markAfterBlock modifiedCleared placeOf decimal placeBytes joined startsField fieldStart endFrom fieldEnd fieldsFrom fieldsOf orElse firstField lastField firstAfter lastBefore nextField previousField firstUnprotectedFrom firstUnprotected nextUnprotected entryBytes encode entryOf someModified isInBlock entriesSent block unlocked backBy onBy upBy downBy rightBy leftBy bytesOf blockTransmission sendBlock isTyping goneTo typedStep toNextField toPreviousField toFirstUnprotected fieldBlanked restShifted keyStep
 as-worked-out = refl
 
 -- 268: soft lock and message are cleared; the manual lock, and all else, stays. It is the one key that a lock lets
@@ -224,5 +260,5 @@ lacking : Terminal → List Bool
 lacking t = map (λ (key : ℕ). lacksCell key t) (0x41 ∷ 263 ∷ 264 ∷ 265 ∷ 260 ∷ 261 ∷ 256 ∷ 262 ∷ 266 ∷ [])
 
 lacks : map lacking (on (pageOf characters marks) 1 1 ∷ on (pageOf characters marks) 1 3 ∷ on closed 1 1 ∷ []) ≡ ((true ∷ true ∷ true ∷ true ∷ false ∷ false ∷ false ∷ false ∷ false ∷ []) ∷ (false ∷ false ∷ false ∷ false ∷ false ∷ false ∷ false ∷ false ∷ false ∷ []) ∷ (true ∷ true ∷ true ∷ true ∷ true ∷ true ∷ false ∷ false ∷ false ∷ []) ∷ [])
-unfolding characters marks on closed lacking if_then_else_ _and_ _or_ _is_to_ unprotected placeOf opensStretch joined startsField endFrom fieldEnd fieldsFrom fieldsOf isTyping isEditing isFieldMove noField lacksCell
+unfolding characters marks on closed lacking if_then_else_ _and_ _or_ _is_to_ unprotected placeOf joined startsField endFrom fieldEnd fieldsFrom fieldsOf isTyping isEditing isFieldMove noField lacksCell
 lacks = refl

@@ -68,7 +68,7 @@ pub record RestOnPage (t : Terminal) : Type 0 where
 pub rest-on-page : {t : Terminal} → Valid t → RestOnPage t
 rest-on-page {t} valid =
     let known = measured valid in
-    let bounds = end-of (unprotectedAt t) (t .state .size .columns) (cellsHere t) (cursorCell (t .state)) (known .cursor-inside) in
+    let bounds = end-of (unprotectedAt t) (cellsHere t) (cursorCell (t .state)) (known .cursor-inside) in
     record { some = bounds .high; on-page = bounds .on-page; as-many = known .as-many }
 
 -- 264 and 265, whatever the change: it is made on the rest of the field, and these cells are counted.
@@ -79,23 +79,23 @@ rest-shifted t change is-unprotected stored left =
 
 module _ {t : Terminal} {place : Place} (here : Found t place) where
   -- The start of the cursor's field.
-  module _ {start : Place} (is : start ≡ placeOf (t .state .size .columns) (fieldStart (unprotected (t .page .marks)) (t .state .size .columns) (place .cell))) where
+  module _ {start : Place} (is : start ≡ placeOf (t .state .size .columns) (fieldStart (unprotected (t .page .marks)) (place .cell))) where
     pub starts-before : start .cell ≤ place .cell
     starts-before =
-        let bounds = start-of (unprotected (t .page .marks)) (t .state .size .columns) (place .cell) in
+        let bounds = start-of (unprotected (t .page .marks)) (place .cell) in
         let starts = cell-is _ _ is in
         omega arith
 
     pub start-is : start ≡ placeOf (t .state .size .columns) (startHere t)
-    start-is = is ∙ ap (λ (cell : ℕ). placeOf (t .state .size .columns) (fieldStart (unprotected (t .page .marks)) (t .state .size .columns) cell)) (here .cell)
+    start-is = is ∙ ap (λ (cell : ℕ). placeOf (t .state .size .columns) (fieldStart (unprotected (t .page .marks)) cell)) (here .cell)
 
   -- Its end. The code asks the marks for it; the page has as many cells.
-  module _ {end : ℕ} (is : end ≡ fieldEnd (unprotected (t .page .marks)) (t .state .size .columns) (length (t .page .marks)) (place .cell)) where
+  module _ {end : ℕ} (is : end ≡ fieldEnd (unprotected (t .page .marks)) (length (t .page .marks)) (place .cell)) where
     pub end-is : end ≡ endHere t
     end-is =
         is
-        ∙ ap (λ (cells : ℕ). fieldEnd (unprotectedAt t) (t .state .size .columns) cells (place .cell)) (here .as-many)
-        ∙ ap (fieldEnd (unprotectedAt t) (t .state .size .columns) (cellsHere t)) (here .cell)
+        ∙ ap (λ (cells : ℕ). fieldEnd (unprotectedAt t) cells (place .cell)) (here .as-many)
+        ∙ ap (fieldEnd (unprotectedAt t) (cellsHere t)) (here .cell)
 
 -- A search of the fields, going round, finds nothing exactly where there is none.
 pub none-sought : (columns cell : ℕ) (fields : List Field) → nextField columns cell fields ≡ Nowhere → noField fields ≡ true

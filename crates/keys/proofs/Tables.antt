@@ -52,7 +52,7 @@ module _ (t : Terminal) (valid : Valid t) where
   on-page = cursor-on-page t valid
 
   end-on-page : endHere t ≤ length (t .page .marks)
-  end-on-page = rw (size .as-many) (end-of (unprotectedAt t) (t .state .size .columns) (cellsHere t) (cursorCell (t .state)) (size .cursor-inside) .on-page)
+  end-on-page = rw (size .as-many) (end-of (unprotectedAt t) (cellsHere t) (cursorCell (t .state)) (size .cursor-inside) .on-page)
 
   -- The cursor stays on the page.
   stays : KeepsValid (t .state) (t .state)

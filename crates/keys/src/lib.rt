@@ -185,7 +185,7 @@ fn blank_field(state: State, characters: &mut [u8], marks: &mut [Mark]) -> Step
     }
     let place = state.place();
     let start = fields::field_start(marks, place, state.size.columns);
-    let end = fields::field_end(marks, place, state.size.columns);
+    let end = fields::field_end(marks, place.cell);
     page::blank_cells(characters, marks, start.cell, end);
     steps::stored(
         state.moved_to(start.row, start.column),
@@ -203,7 +203,7 @@ fn rest_of_field(state: State, characters: &[u8], marks: &[Mark]) -> Rest
     } ⌝ }
 {
     let place = state.place();
-    let end = fields::field_end(marks, place, state.size.columns);
+    let end = fields::field_end(marks, place.cell);
     Rest {
         from: place.cell,
         end,

@@ -8,7 +8,7 @@ use Rattle.page.specs.Marks.{unprotected}
 use Rattle.page.specs.Page.{validPage, textStored, typed, tagged, blanked, markAfterBlock, modifiedCleared}
 use Rattle.places.specs.Places.{placeOf}
 use Rattle.output.specs.Decimal.{decimal, placeBytes}
-use Rattle.fields.specs.Fields.{opensStretch, joined, startsField, fieldStart, endFrom, fieldEnd, fieldsFrom}
+use Rattle.fields.specs.Fields.{joined, startsField, fieldStart, endFrom, fieldEnd, fieldsFrom}
 use Rattle.fields.specs.Searches.{orElse, firstUnprotectedFrom, firstUnprotected, nextUnprotected}
 use Rattle.blocks.specs.Blocks.{entryBytes, encode, entryOf, someModified, isInBlock}
 use Rattle.blocks.specs.Decode.{inFront, split, readNumber, readEntry, decode}
@@ -45,7 +45,7 @@ validity = tt
 
 -- The bytes of a block whose fields are known, and a block laid over a copy.
 unfoldable pub blockBytes : Unit {0}
-unfolding tests selected unprotected placeOf decimal placeBytes opensStretch joined startsField endFrom fieldEnd fieldsFrom entryBytes encode entryOf someModified isInBlock
+unfolding tests selected unprotected placeOf decimal placeBytes joined startsField endFrom fieldEnd fieldsFrom entryBytes encode entryOf someModified isInBlock
 blockBytes = tt
 
 unfoldable pub laying : Unit {0}
@@ -63,7 +63,7 @@ unfolding tests withDigit withNextArgument isControl isCancel outsideSequence af
 hostSteps = tt
 
 unfoldable pub keySteps : Unit {0}
-unfolding tests within eachFrom numbersFrom onPart unprotected typed tagged blanked markAfterBlock modifiedCleared placeOf opensStretch joined fieldStart endFrom fieldEnd orElse firstUnprotectedFrom firstUnprotected nextUnprotected onBy rightBy unlocked bytesOf blockTransmission sendBlock isTyping isEditing isFieldMove isKnown isLocked isLockedOut lacksCell goneTo typedStep fieldBlanked keyStep
+unfolding tests within eachFrom numbersFrom onPart unprotected typed tagged blanked markAfterBlock modifiedCleared placeOf joined fieldStart endFrom fieldEnd orElse firstUnprotectedFrom firstUnprotected nextUnprotected onBy rightBy unlocked bytesOf blockTransmission sendBlock isTyping isEditing isFieldMove isKnown isLocked isLockedOut lacksCell goneTo typedStep fieldBlanked keyStep
 keySteps = tt
 
 -- Calls, with all but their steps; and what several of them leave.

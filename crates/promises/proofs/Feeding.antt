@@ -41,9 +41,9 @@ module _ (sender : Terminal) (valid : Valid sender) where
   unfolding block
   fed receiver receives =
       let columns = sender .state .size .columns in
-      let lists = all-fields-listed (unprotected (sender .page .marks)) columns (cells (sender .page)) (measured valid .some-columns) in
+      let lists = all-fields-listed (unprotected (sender .page .marks)) (cells (sender .page)) in
       let feeds =
-      fields-feed sender valid (fieldsOn columns (sender .page)) (lists .only-fields) receiver
+      fields-feed sender valid (fieldsOn (sender .page)) (lists .only-fields) receiver
       (record { valid = receives .valid; size = receives .size; nothing-half-read = receives .nothing-half-read; unprotected-pen = receives .unprotected-pen }) in
       record {
         end = feeds .0;

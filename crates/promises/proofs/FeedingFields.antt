@@ -86,7 +86,7 @@ module _ (sender : Terminal) (valid : Valid sender) where
 
   -- The sender's fields, and the cells that some of them have.
   abbrev pub SendersField : Field → Type 0
-  SendersField field = IsField (unprotected (sender .page .marks)) (sender .state .size .columns) (cells (sender .page)) field
+  SendersField field = IsField (unprotected (sender .page .marks)) (cells (sender .page)) field
 
   abbrev pub SomeHas : List Field → ℕ → Type 0
   SomeHas fields cell = (field : Field) × List·Memᴰ field fields × (field has cell)

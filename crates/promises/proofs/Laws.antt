@@ -29,7 +29,7 @@ pub record StepLaw (t : Terminal) (step : Stepped) : Type 0 where
   pub reports : (bytes : List ℕ) → step .transmission ≡ report bytes → IsReport bytes
   pub full-block : (bytes : List ℕ) → step .transmission ≡ fullBlock bytes → BlockOfPage true t step bytes
   pub changed-block : (bytes : List ℕ) → step .transmission ≡ changedBlock bytes → BlockOfPage false t step bytes
-  pub short : length (bytesOf (step .transmission)) ≤ 35185
+  pub short : length (bytesOf (step .transmission)) ≤ 35138
 
 -- Protection stays, and each cell named is modified.
 pub record TagLaw (t : Terminal) (step : Stepped) : Type 0 where

@@ -26,7 +26,7 @@ is-block : {full : Bool} {Asked : Type 0} {t : Terminal} {step : Stepped} {bytes
 is-block sent = record { of-page = sent .of-page; no-cell = sent .no-cell }
 
 -- A key sends a block or nothing.
-key-short : (key : ℕ) (t : Terminal) → Valid t → (transmission : Transmission) → keyStep key t .transmission ≡ transmission → length (bytesOf transmission) ≤ 35185
+key-short : (key : ℕ) (t : Terminal) → Valid t → (transmission : Transmission) → keyStep key t .transmission ≡ transmission → length (bytesOf transmission) ≤ 35138
 unfolding bytesOf
 key-short key t valid silent is = omega arith
 key-short key t valid (report bytes) is = absurd (key-sends-no-report key t bytes is)

@@ -84,7 +84,7 @@ module _ (rules : Rules) (laws : StepLaws rules) where
       omega (arith, short, ap (λ (transmission : Transmission). length (bytesOf transmission)) sends, ap (length {A = ℕ}) (block-bytes full bytes))
 
   -- Every step of a run is short.
-  all-short : (t : Terminal) → Valid t → (inputs : List Input) (before : List Stepped) (next : Stepped) (later : List Stepped) → steps rules t inputs ≡ before ++ (next ∷ later) → length (bytesOf (next .transmission)) ≤ 35185
+  all-short : (t : Terminal) → Valid t → (inputs : List Input) (before : List Stepped) (next : Stepped) (later : List Stepped) → steps rules t inputs ≡ before ++ (next ∷ later) → length (bytesOf (next .transmission)) ≤ 35138
   unfolding steps firstSent others
   all-short t valid [] [] next later are = omega (arith, ap firstSent are)
   all-short t valid [] (first ∷ before) next later are = absurd (omega (arith, ap (length {A = Stepped}) are))

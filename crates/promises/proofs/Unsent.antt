@@ -27,11 +27,11 @@ module _ (t : Terminal) (can-be-sent : Sendable (t .state .size .columns) (t .pa
   abbrev page : Page
   page = t .page
 
-  pub is-field : (field : Field) → List·Memᴰ field (fieldsOn columns page) → IsField (unprotected (page .marks)) columns (cells page) field
-  is-field = all-fields-listed (unprotected (page .marks)) columns (cells page) (can-be-sent .some-columns) .only-fields
+  pub is-field : (field : Field) → List·Memᴰ field (fieldsOn page) → IsField (unprotected (page .marks)) (cells page) field
+  is-field = all-fields-listed (unprotected (page .marks)) (cells page) .only-fields
 
   -- A row and a column tell the field.
-  same-field : (one other : Field) → List·Memᴰ one (fieldsOn columns page) → List·Memᴰ other (fieldsOn columns page)
+  same-field : (one other : Field) → List·Memᴰ one (fieldsOn page) → List·Memᴰ other (fieldsOn page)
       → placeOf columns (one .start) .row ≡ placeOf columns (other .start) .row → placeOf columns (one .start) .column ≡ placeOf columns (other .start) .column → one ≡ other
   unfolding placeOf
   same-field one other one-listed other-listed row column =
@@ -40,7 +40,7 @@ module _ (t : Terminal) (can-be-sent : Sendable (t .state .size .columns) (t .pa
       let same-start = cell-told columns (one .start) (other .start) row column in
       one-field (unprotected (page .marks)) columns (cells page) (can-be-sent .some-columns) one-is other-is (one .start) (omega arith) (omega arith)
 
-  module _ (full : Bool) (field : Field) (listed : List·Memᴰ field (fieldsOn columns page)) where
+  module _ (full : Bool) (field : Field) (listed : List·Memᴰ field (fieldsOn page)) where
     pub omitted-unsent : Omitted t (block full columns page) field → isInBlock full (page .marks) field ≡ false
     unfolding entriesSent entryOf
     omitted-unsent omitted =
@@ -49,7 +49,7 @@ module _ (t : Terminal) (can-be-sent : Sendable (t .state .size .columns) (t .pa
         (λ sent.
         absurd (omitted .no-entry entry
         (subst (List·Memᴰ entry) (sym (block-read-back columns page can-be-sent full))
-        (Memᴰ·map (entryOf columns (page .characters)) (selected-has (isInBlock full (page .marks)) field (fieldsOn columns page) listed sent)))
+        (Memᴰ·map (entryOf columns (page .characters)) (selected-has (isInBlock full (page .marks)) field (fieldsOn page) listed sent)))
         refl refl))
         (λ unsent. unsent)
 
@@ -59,11 +59,11 @@ module _ (t : Terminal) (can-be-sent : Sendable (t .state .size .columns) (t .pa
     unsent-omitted unsent = record {
       no-entry = λ entry found row column.
           let from =
-          Memᴰ·of-map (entryOf columns (page .characters)) (selected (isInBlock full (page .marks)) (fieldsOn columns page))
+          Memᴰ·of-map (entryOf columns (page .characters)) (selected (isInBlock full (page .marks)) (fieldsOn page))
           (subst (List·Memᴰ entry) (block-read-back columns page can-be-sent full) found) in
           let other = from .0 in
           let same =
-          same-field other field (selected-from (isInBlock full (page .marks)) other (fieldsOn columns page) (from .1)) listed
+          same-field other field (selected-from (isInBlock full (page .marks)) other (fieldsOn page) (from .1)) listed
           (ap (λ (e : Entry). e .row) (from .2) ∙ row) (ap (λ (e : Entry). e .column) (from .2) ∙ column) in
-          not-both (ap (isInBlock full (page .marks)) (sym same) ∙ selected-passes (isInBlock full (page .marks)) other (fieldsOn columns page) (from .1)) unsent;
+          not-both (ap (isInBlock full (page .marks)) (sym same) ∙ selected-passes (isInBlock full (page .marks)) other (fieldsOn page) (from .1)) unsent;
     }

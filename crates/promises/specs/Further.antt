@@ -70,11 +70,11 @@ Continuing rules entries =
     (t : Terminal) (stream : List ℕ) (list : List Read) → Carries entries t stream list →
     readAll entries t list ≡ totalOf t (byteSteps rules t stream)
 
--- With room for 35,185 bytes or more, a host call given 3 has sent something: calling again with the rest comes to an
+-- With room for 35,138 bytes or more, a host call given 3 has sent something: calling again with the rest comes to an
 -- end.
 abbrev pub Progress : Entries → Type 0
 Progress entries =
-    (t : Terminal) (bytes lent : List ℕ) → 35185 ≤ length lent → entries .host t bytes lent .number ≡ 3 →
+    (t : Terminal) (bytes lent : List ℕ) → 35138 ≤ length lent → entries .host t bytes lent .number ≡ 3 →
     0 < entries .host t bytes lent .sent
 
 -- Calls are the steps of what they did: their bytes are those transmissions joined, their counts the cells that those
@@ -110,11 +110,11 @@ SendsBlocks rules =
     (stepOf rules input t .transmission ≡ blockTransmission full bytes)
     ↔ (Asks t full input × (bytes ≡ blockHere full t))
 
--- No block that is sent exceeds 35,185 bytes.
+-- No block that is sent exceeds 35,138 bytes.
 abbrev pub Bounded : Rules → Type 0
 Bounded rules =
     (t : Terminal) → Valid t → (input : Input) (full : Bool) (bytes : List ℕ) →
-    stepOf rules input t .transmission ≡ blockTransmission full bytes → length bytes ≤ 35185
+    stepOf rules input t .transmission ≡ blockTransmission full bytes → length bytes ≤ 35138
 
 -- Demand 3 over steps: after a full block, whatever asked for it, keys and host bytes that store in no cell.
 abbrev pub CopyingSteps : Rules → Type 0

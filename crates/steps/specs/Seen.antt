@@ -39,17 +39,17 @@ placeHere t cell = placeOf (t .state .size .columns) cell
 
 -- The fields, in page order, and what a block says of one.
 abbrev pub fieldsHere : Terminal → List Field
-fieldsHere t = fieldsOf (unprotectedAt t) (t .state .size .columns) (cellsHere t)
+fieldsHere t = fieldsOf (unprotectedAt t) (cellsHere t)
 
 abbrev pub entryHere : Terminal → Field → Entry
 entryHere t field = entryOf (t .state .size .columns) (seen t .characters) field
 
 -- The first cell of the cursor's field, and the one after its last.
 abbrev pub startHere : Terminal → ℕ
-startHere t = fieldStart (unprotectedAt t) (t .state .size .columns) (cursorCell (t .state))
+startHere t = fieldStart (unprotectedAt t) (cursorCell (t .state))
 
 abbrev pub endHere : Terminal → ℕ
-endHere t = fieldEnd (unprotectedAt t) (t .state .size .columns) (cellsHere t) (cursorCell (t .state))
+endHere t = fieldEnd (unprotectedAt t) (cellsHere t) (cursorCell (t .state))
 
 -- Where keys look for a field or an unprotected cell, from the cursor's cell on.
 abbrev pub nextFieldHere : Terminal → Sought

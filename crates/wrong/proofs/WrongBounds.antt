@@ -42,15 +42,15 @@ pub endsTwice-breaks-bounded : Bounded endsTwice → ⊥
 unfolding keySteps streams
 endsTwice-breaks-bounded kept =
     let longest = block true 160 (manyFields .page) in
-    let bound : length (longest ++ (0x03 ∷ [])) ≤ 35185 = kept manyFields many-valid (press 267) true (longest ++ (0x03 ∷ [])) refl in
+    let bound : length (longest ++ (0x03 ∷ [])) ≤ 35138 = kept manyFields many-valid (press 267) true (longest ++ (0x03 ∷ [])) refl in
     omega (arith, bound, length-append longest (0x03 ∷ []), longest-reached)
 
 pub sendsFixedBlock-breaks-bounded : Bounded sendsFixedBlock → ⊥
 unfolding keySteps streams
 sendsFixedBlock-breaks-bounded kept =
-    let long : List ℕ = replicate 35186 0x03 in
-    let bound : length long ≤ 35185 = kept manyFields many-valid (press 266) false long refl in
-    omega (arith, bound, length-replicate {A = ℕ} 35186 0x03)
+    let long : List ℕ = replicate 35139 0x03 in
+    let bound : length long ≤ 35138 = kept manyFields many-valid (press 266) false long refl in
+    omega (arith, bound, length-replicate {A = ℕ} 35139 0x03)
 
 pub endsTwice-breaks-sends-blocks : SendsBlocks endsTwice → ⊥
 unfolding keySteps streams
@@ -68,10 +68,10 @@ withholdsChanged-breaks-sends-blocks kept =
 -- With room for the longest block, a call that is given 3 has sent something: of two blocks, asked for in one call, the
 -- first.
 abbrev longestRoom : List ℕ
-longestRoom = replicate 35185 0
+longestRoom = replicate 35138 0
 
-room-long : length longestRoom ≡ 35185
-room-long = length-replicate {A = ℕ} 35185 0
+room-long : length longestRoom ≡ 35138
+room-long = length-replicate {A = ℕ} 35138 0
 
 pub stopsAtOnce-breaks-progress : Progress stopsAtOnce → ⊥
 unfolding calls
@@ -86,7 +86,7 @@ firstThree = take 3 (byteSteps ourRules manyFields twice)
 abbrev afterThree : Terminal
 afterThree = hostStep 0x1B (hostStep (code "S") (hostStep 0x1B manyFields .terminal) .terminal) .terminal
 
-first-sent : length (bytesSentBy firstThree) ≡ 35185
+first-sent : length (bytesSentBy firstThree) ≡ 35138
 unfolding hostSteps streams bytesSentBy
 first-sent = ap (length {A = ℕ}) (append-nil (block true 160 (manyFields .page))) ∙ longest-reached
 

@@ -111,7 +111,7 @@ neverTags-breaks-copying-steps kept =
 abbrev threeCells : Field
 threeCells = record { start = 0; length = 3 }
 
-pub field-listed : (marks : List ℕ) → length marks ≡ 5 → fieldsFrom (unprotected (marks ++ replicate 1915 1)) 80 1920 0 5 ≡ threeCells ∷ [] → List·Memᴰ threeCells (fieldsOf (unprotected (marks ++ replicate 1915 1)) 80 (cells (sheet (texts "B") marks)))
+pub field-listed : (marks : List ℕ) → length marks ≡ 5 → fieldsFrom (unprotected (marks ++ replicate 1915 1)) 1920 0 5 ≡ threeCells ∷ [] → List·Memᴰ threeCells (fieldsOf (unprotected (marks ++ replicate 1915 1)) (cells (sheet (texts "B") marks)))
 field-listed marks five is = subst (List·Memᴰ threeCells) (sym (sheet-fields (texts "B") marks refl five ∙ is)) (List·Memᴰ·head refl)
 
 pub wrongly-omitted : (marks changed : List ℕ) → List·Memᴰ threeCells (fieldsHere (after "B" marks)) → changed ≡ emptyBlock → OmitsExactly (changedBlock changed) (after "B" marks) (1 ∷ []) → ⊥

@@ -91,9 +91,9 @@ withholdsChanged = sendingOn 266 (λ t. silent)
 abbrev pub endsTwice : Rules
 endsTwice = sendingOn 267 (λ t. fullBlock (blockHere true t ++ (0x03 ∷ [])))
 
--- or a changed block is 35,186 bytes of 03, whatever the page.
+-- or a changed block is 35,139 bytes of 03, whatever the page.
 abbrev pub sendsFixedBlock : Rules
-sendsFixedBlock = sendingOn 266 (λ t. changedBlock (replicate 35186 0x03))
+sendsFixedBlock = sendingOn 266 (λ t. changedBlock (replicate 35139 0x03))
 
 -- The copy. A changed block has those fields whose first cell is modified.
 unfoldable pub firstCellBlock : Terminal → List ℕ

@@ -23,8 +23,7 @@ field-start-requires c κs =
 
 field-end-requires : tie.Need-field-end-requires
 field-end-requires c κs =
-    let here = found (c .before .before .before .before .before .before .before .before .before .before .pre) (c .before .before .before .place .ensures) in
-    (here .counted, (here .inside, here .most))
+    found (c .before .before .before .before .before .before .before .before .before .before .pre) (c .before .before .before .place .ensures) .inside
 
 blank-cells-requires : tie.Need-blank-cells-requires
 blank-cells-requires c κs =

@@ -3,11 +3,6 @@ use Rattle.keys.proofs.Laws.{found, end-is}
 use Rattle.keys.proofs.rest_of_field.Statement.{statement}
 use Rattle.keys.proofs.rest_of_field.Tie as tie
 
-field-end-requires : tie.Need-field-end-requires
-field-end-requires c κs =
-    let here = found (c .before .before .before .pre) (c .place .ensures) in
-    (here .counted, (here .inside, here .most))
-
 returns : tie.Need-returns
 returns c =
     let here = found (c .before .before .before .before .pre) (c .before .place .ensures) in
@@ -18,5 +13,5 @@ rest-of-field-spec =
     tie.close
     (tie.spec
     (λ c κs. measured (c .before .before .pre) .on-page)
-    field-end-requires
+    (λ c κs. found (c .before .before .before .pre) (c .place .ensures) .inside)
     returns)
