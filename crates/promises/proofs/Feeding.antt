@@ -48,7 +48,7 @@ module _ (sender : Terminal) (valid : Valid sender) where
       record {
         end = feeds .0;
         leads = subst (λ (bytes : List ℕ). Leads receiver bytes (feeds .0)) (sym (ap encode (all-sent columns (sender .page)))) (feeds .1 .leads);
-        filled = λ cell here cell-unprotected. feeds .1 .fills cell (lists .every-cell cell here cell-unprotected);
+        filled = λ cell here cell-unprotected. let one = lists .every-cell cell here cell-unprotected in feeds .1 .fills cell (one .field, one .listed, one .has-cell);
         kept = λ cell protected. feeds .1 .keeps cell (λ some. not-both (lists .only-fields (some .0) (some .1) .all-unprotected cell (some .2)) protected);
       }
 

@@ -41,7 +41,7 @@ sendable {t} valid =
 same-copy : (columns : ℕ) (p q : Page) → SameForm p q → q .characters ≡ p .characters → block true columns p ≡ block true columns q
 unfolding block
 same-copy columns p q form characters =
-    ap encode (all-sent columns p ∙ (λ i. map (entryOf columns (sym characters i)) (same-fields p q form columns i)) ∙ sym (all-sent columns q))
+    ap encode (all-sent columns p ∙ (λ i. map (entryOf columns (sym characters i)) (same-fields p q form i)) ∙ sym (all-sent columns q))
 
 -- What a step leaves of marks goes by its transmission.
 pub leaves : (step : Stepped) {transmission : Transmission} → step .transmission ≡ transmission → (mark : ℕ) → markLeft (step .transmission) mark ≡ markLeft transmission mark

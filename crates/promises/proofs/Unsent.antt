@@ -38,7 +38,7 @@ module _ (t : Terminal) (can-be-sent : Sendable (t .state .size .columns) (t .pa
       let one-is = is-field one one-listed in
       let other-is = is-field other other-listed in
       let same-start = cell-told columns (one .start) (other .start) row column in
-      one-field (unprotected (page .marks)) columns (cells page) (can-be-sent .some-columns) one-is other-is (one .start) (omega arith) (omega arith)
+      one-field (unprotected (page .marks)) (cells page) one-is other-is (one .start) (omega arith) (omega arith)
 
   module _ (full : Bool) (field : Field) (listed : List·Memᴰ field (fieldsOn page)) where
     pub omitted-unsent : Omitted t (block full columns page) field → isInBlock full (page .marks) field ≡ false
