@@ -13,6 +13,8 @@ struct Generator {
     /// Host bytes still to be put in frames, and keys still to be pressed.
     host: VecDeque<u8>,
     keys: VecDeque<u32>,
+    /// The keys are for the page as the host bytes leave it, and wait for them.
+    keys_wait: bool,
     first_size: (u16, u16),
     /// How far single bytes have been gone through; the seeds share this work.
     step: usize,
@@ -29,6 +31,7 @@ pub fn transcript(seed: u64, frames: usize) -> Vec<u8> {
         text: Vec::new(),
         host: VecDeque::new(),
         keys: VecDeque::new(),
+        keys_wait: false,
         first_size,
         step: seed as usize % 128 * 12,
         dense: first_size == (48, 160) && seed / 9 % 2 == 0,
@@ -135,7 +138,7 @@ impl Generator {
         if locked && self.random.chance(18) {
             return self.unlock();
         }
-        let painting = self.host.len() > 600;
+        let painting = self.host.len() > 600 || self.keys_wait;
         if !painting && !self.keys.is_empty() && self.random.chance(45) {
             return self.press();
         }
@@ -151,16 +154,22 @@ impl Generator {
         if !self.keys.is_empty() {
             return self.press();
         }
-        match self.random.below(100) {
-            0..=39 => {
+        self.keys_wait = false;
+        match self.random.below(108) {
+            100.. => {
+                self.host = self.stream().long_fields().into();
+                self.keys = self.stream().field_keys().into();
+                self.keys_wait = true;
+            }
+            0..=38 => {
                 self.host = self.stream().scene().into();
                 if self.host.len() > 1_500 {
                     self.keys = [260, 261, 262, 65, 264].into();
                 }
             }
-            40..=42 => self.host = self.blocks().into(),
-            43..=54 => self.host = self.stream().probe().into(),
-            55..=74 => {
+            39..=41 => self.host = self.blocks().into(),
+            42..=54 => self.host = self.stream().probe().into(),
+            55..=79 => {
                 let step = self.step;
                 self.step += 1;
                 self.host = self.stream().probe_byte(step).into();

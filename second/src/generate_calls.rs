@@ -184,7 +184,7 @@ impl Generator {
         if !self.plan.is_empty() {
             return;
         }
-        match self.random.below(100) {
+        match self.random.below(110) {
             0..=1 => self.plan_start(),
             2..=3 => self.plan_refused_start(),
             4..=5 => self.plan_lengths(),
@@ -195,6 +195,7 @@ impl Generator {
             53..=56 => self.plan_long(),
             57..=62 => self.plan_pattern(),
             63..=80 => self.plan_keys(),
+            100.. => self.plan_long_fields(),
             _ => self.push_host_scene(),
         }
     }
@@ -514,6 +515,15 @@ impl Generator {
         let length = self.random.between(1, self.cells() * 3);
         self.push(b"\x21\x18\x1B[H".to_vec());
         self.push([&long(0x22, length)[..], &bytes].concat());
+    }
+
+    fn plan_long_fields(&mut self) {
+        for part in self.stream().long_fields().chunks(255) {
+            self.push([&[0x21][..], part].concat());
+        }
+        for key in self.stream().field_keys() {
+            self.push(long(0x23, key as usize));
+        }
     }
 
     fn plan_keys(&mut self) {

@@ -1,4 +1,4 @@
-//! A second terminal after document 01, to be compared byte for byte with another one.
+//! A second terminal after document 01 and M-101, to be compared byte for byte with another one.
 
 mod compare;
 mod frames;

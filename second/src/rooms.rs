@@ -61,8 +61,10 @@ impl Page {
 fn pages() -> Vec<Page> {
     let every_row: Vec<_> = (1..=24).map(|row| (row, 2 * row, 3)).collect();
     let dense: Vec<_> = (1..=60).map(|place| (27, 2 * place, 1)).collect();
+    let ends = [(1, 1, 2), (3, 79, 5), (24, 79, 2)];
     vec![
         Page::new("three fields", 24, 80, &[(3, 15, 3), (4, 15, 2), (24, 80, 1)]),
+        Page::new("fields over a row's end and at both ends", 24, 80, &ends),
         Page::new("a field in every row", 24, 80, &every_row),
         Page::new("sixty fields in the last row", 27, 132, &dense),
         Page::new("no field", 48, 160, &[]),

@@ -45,11 +45,31 @@ impl<'a> Stream<'a> {
         self.marks.get(place).map_or(false, |marks| marks & PROTECTED != 0)
     }
 
+    fn cell(&self, place: usize) -> (u16, u16) {
+        let width = usize::from(self.columns);
+        ((place / width) as u16 + 1, (place % width) as u16 + 1)
+    }
+
+    /// Just before or behind the end of a row, from this one on, that a field runs over.
+    fn row_end(&mut self, row: u16) -> (u16, u16) {
+        let width = usize::from(self.columns);
+        let run_over = |row: &u16| {
+            let end = usize::from(*row) * width;
+            !self.protected(end - 1) && !self.protected(end)
+        };
+        let row = (row..self.rows).find(run_over).unwrap_or(self.rows - 1);
+        let off = self.random.below(3) as u16;
+        match self.random.below(2) {
+            0 => (row, self.columns - off),
+            _ => (row + 1, 1 + off),
+        }
+    }
+
     /// A cell worth visiting: most often at a border of protection, else a corner or an edge.
     pub fn target(&mut self) -> (u16, u16) {
         let row = self.random.between(1, self.rows.into()) as u16;
         let column = self.random.between(1, self.columns.into()) as u16;
-        match self.random.below(14) {
+        match self.random.below(16) {
             0 => (1, 1),
             1 => (self.rows, self.columns),
             2 => (self.rows, column),
@@ -57,13 +77,14 @@ impl<'a> Stream<'a> {
             4 => (row, 1),
             5 => (1, column),
             6 => (row, column),
+            7 | 8 => self.row_end(row),
             _ => {
                 let width = usize::from(self.columns);
                 let from = usize::from(row - 1) * width + usize::from(column - 1);
                 let border = (from..self.marks.len().saturating_sub(1))
                     .find(|&p| self.protected(p) != self.protected(p + 1));
                 let place = border.map_or(from, |p| p + self.random.below(2));
-                ((place / width) as u16 + 1, (place % width) as u16 + 1)
+                self.cell(place)
             }
         }
     }
@@ -90,7 +111,12 @@ impl<'a> Stream<'a> {
     }
 
     fn text(&mut self, most: usize) {
-        for _ in 0..self.random.between(1, most) {
+        let count = self.random.between(1, most);
+        self.letters(count);
+    }
+
+    fn letters(&mut self, count: usize) {
+        for _ in 0..count {
             let letter = self.random.between(0x20, 0x7E) as u8;
             self.bytes.push(letter);
         }
@@ -128,7 +154,62 @@ impl<'a> Stream<'a> {
         }
     }
 
-    /// Some rows of alternating cells, or cells in a short period that runs across the margin.
+    /// A field laid as text over this place, a row's end or the page's, between protected cells.
+    /// At the page's end the text goes on at 1;1, and makes two fields. The cursor ends near it.
+    fn lay_over(&mut self, end: usize) {
+        let width = usize::from(self.columns);
+        let cells = usize::from(self.rows) * width;
+        let long = self.random.chance(20);
+        let before = self.random.between(1, if long { width - 1 } else { 6 });
+        let rows_more = self.random.pick(&[0, 0, 0, 0, 1, 2]);
+        let after = self.random.between(1, 6) + rows_more * width;
+        self.goto(self.cell(end - before - 1));
+        self.put(b"\x1BV|\x1BW");
+        self.letters(before + after);
+        self.put(b"\x1BV|\x1BW");
+        let place = match self.random.below(2) {
+            0 => end - self.random.between(1, before.min(3)),
+            _ => end + self.random.below(after.min(3)),
+        };
+        self.goto(self.cell(place % cells));
+    }
+
+    /// A page with no protected cell or just one; the cursor ends at a row's end.
+    fn bare_page(&mut self) {
+        let bare = self.random.pick(&["\x1Bc", "\x1BW\x1B[6h\x1B[2J\x1B[6l"]);
+        self.put(bare.as_bytes());
+        for _ in 0..self.random.between(1, 3) {
+            self.aim();
+            self.text(4);
+        }
+        if self.random.chance(65) {
+            self.aim();
+            self.put(b"\x1BV|\x1BW");
+        }
+        let row = self.random.between(1, self.rows.into()) as u16;
+        let cell = self.row_end(row);
+        self.goto(cell);
+    }
+
+    /// Fields that a row's end could cut, or the page's end join; locks are lifted for the keys.
+    pub fn long_fields(mut self) -> Vec<u8> {
+        self.escape(b'b');
+        let width = usize::from(self.columns);
+        match self.random.below(10) {
+            0..=4 => {
+                let row = self.random.between(1, usize::from(self.rows) - 1);
+                self.lay_over(row * width);
+            }
+            5 | 6 => self.lay_over(usize::from(self.rows) * width),
+            _ => self.bare_page(),
+        }
+        if self.random.chance(25) {
+            self.escape(b'S');
+        }
+        self.bytes
+    }
+
+    /// Some rows of alternating cells, or in a short period that runs on over a row's end.
     fn dense_rows(&mut self) {
         let row = self.random.between(1, self.rows.into()) as u16;
         self.goto((row, 1));
@@ -165,6 +246,10 @@ impl<'a> Stream<'a> {
             }
         }
         self.put(b"\x1BW\x1B[H");
+        // With 1;1 in a field too, an even page's block is the longest there is.
+        if self.random.chance(50) {
+            self.put(b".");
+        }
         self.bytes
     }
 
@@ -505,6 +590,23 @@ impl<'a> Stream<'a> {
             }
         }
         self.bytes
+    }
+
+    /// Keys that tell where a field begins and ends, and then a block.
+    pub fn field_keys(self) -> Vec<u32> {
+        let random = self.random;
+        let mut keys = Vec::new();
+        for _ in 0..random.between(1, 3) {
+            if random.chance(30) {
+                keys.push(random.between(32, 126) as u32);
+            }
+            if random.chance(20) {
+                keys.push(random.pick(&[258, 259]));
+            }
+            keys.push(random.between(260, 265) as u32);
+        }
+        keys.push(random.pick(&[266, 266, 267]));
+        keys
     }
 
     /// Keys pressed one after another; `under` is the character at the cursor.

@@ -1,4 +1,5 @@
-//! The terminal of document 01: page, state, host bytes, commands, keys, blocks and numbers.
+//! The terminal of document 01 with request M-101's fields: page, state, host bytes, commands,
+//! keys, blocks and numbers.
 
 use crate::wrong;
 
@@ -309,16 +310,13 @@ impl Screen<'_> {
         self.marks[place] & PROTECTED != 0
     }
 
-    /// A row begins here: fields end at the right edge.
-    fn margin(&self, place: usize) -> bool {
-        if wrong::is(11) {
-            return place == 0;
-        }
-        place % self.width() == 0
-    }
-
+    /// Behind a protected cell or at the page's first, whatever its last is.
     fn starts_field(&self, place: usize) -> bool {
-        !self.protected(place) && (self.margin(place) || self.protected(place - 1))
+        let behind = match place {
+            0 => !(wrong::is(41) && self.ends_meet()),
+            _ => self.protected(place - 1) || self.wrongly_ends(place),
+        };
+        !self.protected(place) && behind
     }
 
     fn field_start(&self, place: usize) -> usize {
@@ -328,7 +326,17 @@ impl Screen<'_> {
     /// The place after the last cell of the field that has this cell.
     fn field_end(&self, place: usize) -> usize {
         let mut beyond = place + 1..self.cells();
-        beyond.find(|&p| self.margin(p) || self.protected(p)).unwrap_or(self.cells())
+        beyond.find(|&p| self.protected(p) || self.wrongly_ends(p)).unwrap_or(self.cells())
+    }
+
+    /// Wrong edit 11's limit.
+    fn wrongly_ends(&self, place: usize) -> bool {
+        wrong::is(11) && place % self.width() == 0
+    }
+
+    /// Wrong edit 41's case: the last cell is unprotected, and some other isn't.
+    fn ends_meet(&self) -> bool {
+        !self.protected(self.cells() - 1) && (0..self.cells()).any(|place| self.protected(place))
     }
 
     /// Erasing puts 20 with marks 0; with erasure mode reset it passes protected cells by.

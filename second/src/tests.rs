@@ -1,8 +1,8 @@
-//! Document 01's examples.
+//! Document 01's examples, and request M-101's fields.
 
 use crate::frames::{lines, Mode};
 use crate::generate_calls::sweep;
-use crate::terminal::{host, key, start, Answer, State, MODIFIED, PROTECTED};
+use crate::terminal::{host, key, start, Answer, State, COLUMNS, MODIFIED, PROTECTED, ROWS};
 use std::collections::BTreeSet;
 
 /// A page of the size asked for, fresh, with its output.
@@ -55,6 +55,10 @@ impl Page {
         self.output.truncate(room);
         self
     }
+}
+
+fn sizes() -> impl Iterator<Item = (u16, u16)> {
+    ROWS.into_iter().flat_map(|rows| COLUMNS.map(|columns| (rows, columns)))
 }
 
 /// Host bytes on a fresh page: the cursor after them, and whether something was refused.
@@ -183,18 +187,156 @@ fn refused_start() {
     assert_eq!(output, b"FF\n00010100000780\n01000000000000\nFF\nFF\n");
 }
 
+/// Before 2;3 there are 82 cells, behind it 1,837.
 #[test]
-fn longest_block() {
-    let mut page = Page::sized(48, 160);
-    for (place, marks) in page.marks.iter_mut().enumerate() {
-        let column = place % 160 + 1;
-        *marks = if column > 1 && column % 2 == 1 { PROTECTED } else { 0 };
+fn whole_example_over_a_row_end() {
+    let input = b"001850
+011B561B5B323B33482E1B571B5B48
+020104
+020105
+020107
+011B53
+";
+    let output = format!(
+        "00010100000780
+00010100000001
+00020400000000
+00010100000000
+00010100000052
+000101000000001B5B313B3166{}1B5B323B3466{}03
+",
+        "20".repeat(82),
+        "20".repeat(1_837)
+    );
+    assert_eq!(String::from_utf8_lossy(&Mode::Transcript.run(input)), output);
+}
+
+#[test]
+fn fresh_page_is_one_field() {
+    for (rows, columns) in sizes() {
+        let mut page = Page::sized(rows, columns);
+        let cells = page.characters.len();
+        for field_key in [260, 261] {
+            page.host(b"\x1B[13;14H");
+            assert_eq!((page.key(field_key).number, page.cursor()), (0, (1, 1)));
+        }
+        page.host(b"\x1B[13;14H");
+        assert_eq!(page.key(263).stored, cells as u32);
+        assert_eq!(page.cursor(), (1, 1));
+        assert_eq!(page.key(267).sent, cells + 7);
+        assert!(page.output.starts_with(b"\x1B[1;1f "));
     }
-    assert_eq!(page.key(267), Answer { number: 0, taken: 0, sent: 35_185, stored: 0 });
-    let answer = page.host(b"\x1BS\x1BS");
-    assert_eq!(answer, Answer { number: 3, taken: 3, sent: 35_185, stored: 0 });
-    let mut page = page.room(35_184);
-    assert_eq!(page.key(267).number, 3);
+}
+
+/// A field of four cells, 3;79 to 4;2, with a protected cell on either side.
+fn over_a_row_end() -> Page {
+    let mut page = Page::fresh();
+    page.host(b"\x1B[3;78H\x1BV|\x1BW\x1B[4mabcd\x1BV|\x1BW");
+    assert_eq!((page.marks[237], page.marks[242]), (0x01, 0x09));
+    page
+}
+
+#[test]
+fn delete_and_insert_over_a_row_end() {
+    let stored = |stored| Answer { number: 0, taken: 0, sent: 0, stored };
+    let mut page = over_a_row_end();
+    page.host(b"\x1B[3;80H");
+    assert_eq!(page.key(264), stored(3));
+    assert_eq!((&page.characters[237..243], page.cursor()), (&b"|acd |"[..], (3, 80)));
+    assert_eq!(page.marks[237..243], [0x01, 0x08, 0x0A, 0x0A, 0x0A, 0x09]);
+    assert_eq!(page.key(265), stored(3));
+    assert_eq!((&page.characters[237..243], page.cursor()), (&b"|a cd|"[..], (3, 80)));
+    page.host(b"\x1B[4;2H");
+    assert_eq!(page.key(265), stored(1));
+    assert_eq!(&page.characters[237..243], b"|a c |");
+}
+
+#[test]
+fn field_keys_over_a_row_end() {
+    let mut page = over_a_row_end();
+    for (from, field_key, to) in [
+        (b"\x1B[3;80H", 260, (4, 4)),
+        (b"\x1B[4;01H", 260, (4, 4)),
+        (b"\x1B[4;01H", 261, (3, 79)),
+        (b"\x1B[3;79H", 261, (1, 1)),
+        (b"\x1B[1;01H", 261, (4, 4)),
+        (b"\x1B[9;09H", 260, (1, 1)),
+    ] {
+        page.host(from);
+        assert_eq!((page.key(field_key).number, page.cursor()), (0, to));
+    }
+    page.host(b"\x1B[4;2H");
+    assert_eq!((page.key(263).stored, page.cursor()), (4, (3, 79)));
+    assert_eq!(&page.characters[237..243], b"|    |");
+}
+
+/// One modified cell sends its whole field, told to begin in the row above.
+#[test]
+fn changed_block_over_a_row_end() {
+    let mut page = over_a_row_end();
+    page.host(b"\x1B[4;1H");
+    page.key(u32::from(b'X'));
+    let sent = page.key(266).sent;
+    assert_eq!(&page.output[..sent], b"\x1B[3;79fabXd\x03");
+    let sent = page.key(266).sent;
+    assert_eq!(&page.output[..sent], b"\x03");
+}
+
+/// Text laid over the page's end leaves two cells there and three at 1;1, all else protected.
+#[test]
+fn last_cell_is_not_joined_to_the_first() {
+    let mut page = Page::fresh();
+    page.host(b"\x1BV");
+    page.host(&[b'#'; 1_920]);
+    page.host(b"\x1BW\x1B[24;79Hyzabc");
+    let sent = page.key(267).sent;
+    assert_eq!(&page.output[..sent], b"\x1B[1;1fabc\x1B[24;79fyz\x03");
+    page.host(b"\x1B[24;80H");
+    assert_eq!((page.key(260).number, page.cursor()), (0, (1, 1)));
+    assert_eq!((page.key(261).number, page.cursor()), (0, (24, 79)));
+    assert_eq!((page.key(264).stored, &page.characters[1_918..]), (2, &b"z "[..]));
+    assert_eq!((page.key(263).stored, page.cursor()), (2, (24, 79)));
+    page.host(b"\x1B[1;2H");
+    assert_eq!((page.key(263).stored, page.cursor()), (3, (1, 1)));
+    assert_eq!(&page.characters[..4], b"   #");
+    page.host(b"\x1B[24;80H");
+    assert_eq!((page.key(65).number, page.cursor()), (0, (1, 1)));
+}
+
+/// The longest block over all pages of a size: for each cell the better of protected and not.
+fn most_bytes(rows: u16, columns: u16) -> usize {
+    let (mut last_protected, mut last_in_field) = (0, 0);
+    for row in 1..=rows {
+        for column in 1..=columns {
+            let head = format!("\x1B[{row};{column}f").len();
+            let in_field = (last_protected + head).max(last_in_field) + 1;
+            last_protected = last_protected.max(last_in_field);
+            last_in_field = in_field;
+        }
+    }
+    last_protected.max(last_in_field) + 1
+}
+
+/// Unprotected are 1;1 and the even columns.
+fn longest_page(rows: u16, columns: u16) -> Page {
+    let mut page = Page::sized(rows, columns);
+    for marks in page.marks.iter_mut().skip(2).step_by(2) {
+        *marks = PROTECTED;
+    }
+    page
+}
+
+#[test]
+fn longest_blocks() {
+    let told = [8_186, 13_976, 17_210, 9_254, 15_797, 19_451, 16_730, 28_544, 35_138];
+    for ((rows, columns), length) in sizes().zip(told) {
+        assert_eq!(most_bytes(rows, columns), length);
+        let mut page = longest_page(rows, columns).room(length);
+        assert_eq!(page.key(267), Answer { number: 0, taken: 0, sent: length, stored: 0 });
+        assert_eq!(page.room(length - 1).key(267).number, 3);
+    }
+    let answer = longest_page(48, 160).host(b"\x1BS\x1BS");
+    assert_eq!(answer, Answer { number: 3, taken: 3, sent: 35_138, stored: 0 });
 }
 
 #[test]
