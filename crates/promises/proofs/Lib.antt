@@ -24,3 +24,4 @@ pub mod Theorems
 pub mod Sheets
 pub mod Computing
 pub mod Worked
+pub mod Remark
