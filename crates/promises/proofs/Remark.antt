@@ -29,26 +29,26 @@ abbrev noTag : List ℕ
 noTag = 0 ∷ 0 ∷ 0 ∷ 1 ∷ 0 ∷ []
 
 -- Where it begins: the cursor on B, nothing modified; and a second terminal with the same form, blank.
-abbrev sender : Terminal
+abbrev pub sender : Terminal
 sender = atPlace 1 80 (form (bytes "ABC.D") noTag)
 
 abbrev receiver : Terminal
 receiver = atPlace 1 1 (form (bytes "   . ") noTag)
 
-sender-valid : Valid sender
+pub sender-valid : Valid sender
 unfolding validity
 sender-valid = record { size = refl; state = refl; page = refl }
 
 -- ABC is one field, of three cells.
-the-fields : fieldsHere sender ≡ record { start = 78; length = 3 } ∷ record { start = 82; length = 1 } ∷ []
+pub the-fields : fieldsHere sender ≡ record { start = 78; length = 3 } ∷ record { start = 82; length = 1 } ∷ []
 unfolding blockBytes
 the-fields = fields-amid 78 (bytes "ABC.D") noTag (omega arith) refl refl ∙ refl
 
 -- Its block: ESC [ 1 ; 79 f A B C ESC [ 2 ; 3 f D 03.
-abbrev fullBytes : List ℕ
+abbrev pub fullBytes : List ℕ
 fullBytes = bytes "\u{1b}[1;79fABC\u{1b}[2;3fD\u{3}"
 
-full-block : block true 80 (sender .page) ≡ fullBytes
+pub full-block : block true 80 (sender .page) ≡ fullBytes
 unfolding blockBytes
 full-block = block-amid 78 (bytes "ABC.D") noTag (omega arith) refl refl true ∙ refl
 

@@ -1,19 +1,23 @@
--- Validity through calls, and that no key changes a protected cell: by the laws alone.
+-- Validity through calls, the field that a start leaves, and that no key changes a protected cell: by the laws alone.
 use mathlib.Core.Path.{_≡_, refl, sym, ap, _∙_, subst}
-use mathlib.Core.Bool.{true, false}
+use mathlib.Core.Bool.{true, false, not}
 use mathlib.Core.List.{List, []}
-use Prim.Native.Nat.{ℕ}
+use Prim.Native.Nat.{ℕ, _*_, _<_}
+use native.Mathlib.Nat.{mul-le-mul}
 use native.Mathlib.Omega.{arith}
 use borrow.Author.Tests.{eqb-true, eqb-false}
 use lib.Dec.{eqb}
-use lib.ListN.{length, replicate, length-replicate}
+use lib.ListN.{length, replicate, length-replicate, getD-replicate}
 use Rattle.words.proofs.Choosing.{not-both, either-way, less-or-not}
+use Rattle.page.specs.Marks.{isProtected, unprotected}
 use Rattle.page.specs.Page.{Page, pageOf}
+use Rattle.fields.specs.Fields.{fieldsOf}
+use Rattle.fields.proofs.Theorems.{all-one-field}
 use Rattle.state.specs.declared.Size.{Size}
 use Rattle.state.specs.State.{freshState}
 use Rattle.state.specs.Tests.{sizeFits}
 use Rattle.state.proofs.Lines.{line-1}
-use Rattle.state.proofs.Keeping.{fresh-valid}
+use Rattle.state.proofs.Keeping.{size-bounds, fresh-valid}
 use Rattle.steps.specs.Steps.{Terminal, Valid}
 use Rattle.steps.specs.Seen.{unprotectedAt}
 use Rattle.steps.specs.Claims.{CellKept}
@@ -24,7 +28,7 @@ use Rattle.terminal.specs.Lines.{startTable, Decides, this-holds, not-this}
 use Rattle.promises.specs.Rules.{Rules, press, stepOf, Total}
 use Rattle.promises.specs.Entries.{Entries, inputsDone}
 use Rattle.promises.specs.Demands.{KeysKeep}
-use Rattle.promises.specs.Further.{StaysValid}
+use Rattle.promises.specs.Further.{StaysValid, StartsWithOneField}
 use Rattle.promises.proofs.Laws.{StepLaws, Keeps}
 use Rattle.promises.proofs.Keeping.{same-size, protected-kept, past-unprotected}
 use Rattle.promises.proofs.Doing.{key-valid}
@@ -44,6 +48,10 @@ fresh-page-valid size page blank fits is = subst (λ (blank : Page). Valid (reco
   page = blank-page-valid (length (page .characters)) (length (page .marks));
 })
 
+pub fresh-unprotected : (all cell : ℕ) → cell < all → unprotected (replicate all 0) cell ≡ true
+unfolding unprotected
+fresh-unprotected all cell here = ap (λ (mark : ℕ). not (isProtected mark)) (getD-replicate all cell 0 0 here)
+
 module _ (rules : Rules) (laws : StepLaws rules) (entries : Entries) (kept : Keeps rules entries) where
   started-valid : (size : Size) (page : Page) → entries .start size page .number ≡ 0 → Valid (entries .start size page .terminal)
   started-valid size page zero =
@@ -62,6 +70,17 @@ module _ (rules : Rules) (laws : StepLaws rules) (entries : Entries) (kept : Kee
         subst Valid (sym (ap (λ (all : Total). all .terminal) (calls-are-steps-of rules entries kept t calls)))
         (steps-keep-valid rules laws t valid (inputsDone entries t calls));
   }
+
+  -- On a fresh page every cell is unprotected.
+  pub starts-with-one-field-of : StartsWithOneField entries
+  starts-with-one-field-of size page zero =
+      let fits = start-fits (kept .numbers .of-start size page _ .0 refl) zero in
+      let bounds = size-bounds size (sized size page fits .listed) in
+      let some : 0 < size .rows * size .columns = omega (arith, mul-le-mul (bounds .some-rows) (bounds .some-columns)) in
+      let started = kept .follows .of-start size page zero in
+      (λ i. fieldsOf (unprotected (started .marks i)) (length (started .characters i)))
+      ∙ ap (fieldsOf (unprotected (replicate (size .rows * size .columns) 0))) (length-replicate (size .rows * size .columns) 0x20)
+      ∙ all-one-field _ _ some (fresh-unprotected (size .rows * size .columns))
 
   -- A key call leaves the terminal as it was, or as its step leaves it.
   module _ (t : Terminal) (key : ℕ) (lent : List ℕ) where

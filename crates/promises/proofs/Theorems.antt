@@ -7,11 +7,11 @@ use Rattle.promises.specs.Rules.{Rules, ourRules}
 use Rattle.promises.specs.Entries.{Entries, ourEntries}
 use Rattle.promises.specs.Contracts.{ourContracts}
 use Rattle.promises.specs.Demands.{Demand1, Follows, Demand2, Demand3}
-use Rattle.promises.specs.Further.{AllSame, OneResult, SameEntries, OneTerminal, ValidByTheTable, StaysValid, SameHoweverCut, Continuing, Progress, CallsAreSteps, BlocksKeep, SendsBlocks, Bounded, CopyingSteps, OmissionSteps}
+use Rattle.promises.specs.Further.{AllSame, OneResult, SameEntries, OneTerminal, ValidByTheTable, StaysValid, StartsWithOneField, SameHoweverCut, Continuing, Progress, CallsAreSteps, BlocksKeep, SendsBlocks, Bounded, CopyingSteps, OmissionSteps}
 use Rattle.promises.proofs.OurLaws.{our-step-laws, our-keeps}
 use Rattle.promises.proofs.Doing.{by-the-table}
 use Rattle.promises.proofs.OnlyOne.{same-entries}
-use Rattle.promises.proofs.Staying.{stays-valid-of, keys-keep-of}
+use Rattle.promises.proofs.Staying.{stays-valid-of, starts-with-one-field-of, keys-keep-of}
 use Rattle.promises.proofs.Calling.{calls-are-steps-of, continuing-of, cutting-of, same-however-cut-of}
 use Rattle.promises.proofs.Feeding.{our-feeding-back}
 use Rattle.promises.proofs.Sending.{blocks-keep-of, bounded-of, progress-of}
@@ -69,6 +69,9 @@ valid-by-the-table = by-the-table
 -- Of entries with rules.
 pub stays-valid : StaysValid ourEntries
 stays-valid = stays-valid-of ourRules our-step-laws ourEntries our-keeps
+
+pub starts-with-one-field : StartsWithOneField ourEntries
+starts-with-one-field = starts-with-one-field-of ourRules our-step-laws ourEntries our-keeps
 
 pub same-however-cut : SameHoweverCut ourEntries
 same-however-cut = same-however-cut-of ourRules ourEntries our-keeps

@@ -4,14 +4,14 @@ use mathlib.Core.Path.{_≡_}
 use mathlib.Core.Bool.{Bool, true, false}
 use mathlib.Core.List.{List, [], _∷_, map}
 use mathlib.Core.Logic.{_↔_}
-use Prim.Native.Nat.{ℕ, _<_, _≤_}
+use Prim.Native.Nat.{ℕ, _*_, _<_, _≤_}
 use Prim.Native.Char.{code}
 use lib.ListN.{length, getD}
 use Rattle.page.specs.Page.{Page, markAfterBlock}
 use Rattle.state.specs.declared.Size.{Size}
 use Rattle.state.specs.Lines.{Line1, Line2}
 use Rattle.steps.specs.Steps.{Terminal, fullBlock, blockTransmission, Valid}
-use Rattle.steps.specs.Seen.{seen, characterAt, unprotectedAt, modifiedAt, blockHere}
+use Rattle.steps.specs.Seen.{seen, characterAt, unprotectedAt, modifiedAt, fieldsHere, blockHere}
 use Rattle.steps.specs.Claims.{CellKept}
 use Rattle.terminal.specs.declared.Reply.{Reply}
 use Rattle.terminal.specs.Claims.{SameResult}
@@ -55,6 +55,12 @@ pub record StaysValid (entries : Entries) : Type 0 where
   pub from-start : (size : Size) (page : Page) → entries .start size page .number ≡ 0 →
       Valid (entries .start size page .terminal)
   pub through-calls : (t : Terminal) → Valid t → (calls : List Call) → Valid (callAll entries t calls .terminal)
+
+-- A start given 0 leaves a page that is one field, of R x C cells.
+abbrev pub StartsWithOneField : Entries → Type 0
+StartsWithOneField entries =
+    (size : Size) (page : Page) → entries .start size page .number ≡ 0 →
+    fieldsHere (entries .start size page .terminal) ≡ record { start = 0; length = size .rows * size .columns } ∷ []
 
 -- Two ways to cut a stream into reads, none of them refused, leave, send, store and refuse the same.
 abbrev pub SameHoweverCut : Entries → Type 0

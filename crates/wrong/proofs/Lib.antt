@@ -3,6 +3,7 @@ pub mod WrongContracts
 pub mod WrongReads
 pub mod WrongKeys
 pub mod WrongBounds
+pub mod WrongFields
 pub mod WrongFeeding
 pub mod WrongCopies
 pub mod WrongCalls

@@ -30,7 +30,7 @@ use Rattle.wrong.specs.Rules.{isBlock, withholdsChanged, endsTwice, send
 use Rattle.promises.proofs.Theorems.{demand-1, valid-by-the-table}
 use Rattle.promises.proofs.Computing.{validity, hostSteps, keySteps, calls, streams}
 
--- 48 rows of 160 columns, each with a field in columns 1 and 2 and one in each even column after them.
+-- 48 rows of 160 columns with a field in each even column; the first begins in column 1.
 abbrev manyFields : Terminal
 manyFields = record { state = freshState (record { rows = 48; columns = 160 }); page = blankForm firstAndEven (48 * 160) }
 

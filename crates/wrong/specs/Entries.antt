@@ -138,6 +138,19 @@ startsOtherSize = withStart (λ size page.
     if eqb (size .rows) 48 and eqb (size .columns) 80 then startCall (record { rows = 24; columns = 160 }) page
     else startCall size page)
 
+-- The field that a start leaves. A start clears the characters and keeps the marks that it was lent,
+abbrev pub startKeepsMarks : Entries
+startKeepsMarks = withStart (λ size page.
+    let outcome = startCall size page in
+    on0 (leaving (withPage (pageOf (outcome .terminal .page .characters) (page .marks)) (outcome .terminal))) outcome)
+
+-- or it protects the first cell.
+abbrev pub startProtectsFirst : Entries
+startProtectsFirst = withStart (λ size page.
+    let outcome = startCall size page in
+    let left = outcome .terminal .page in
+    on0 (leaving (withPage (pageOf (left .characters) (set (left .marks) 0 1)) (outcome .terminal))) outcome)
+
 -- With the start of `paintsStart`, some keys are given what ours are given and move the cursor as ours do, and nothing
 -- is stored, counted or tagged:
 abbrev feigned : Terminal → ℕ → Outcome → Outcome

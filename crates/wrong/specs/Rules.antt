@@ -1,10 +1,10 @@
 -- Wrong rules, each document 01's with a fault, and entries that follow them. What they do, they tell, and follow: so
 -- demand 1 and Follows can't tell them from ours, but what is promised of rules, and demand 3, can.
 use mathlib.Core.Bool.{Bool, true, false}
-use mathlib.Core.List.{List, [], _∷_, _++_, map}
-use Prim.Native.Nat.{ℕ}
-use lib.Dec.{eqb}
-use lib.ListN.{length, take, set, replicate}
+use mathlib.Core.List.{List, [], _∷_, _++_, map, flatMap}
+use Prim.Native.Nat.{ℕ, _+_, _-_, _%_}
+use lib.Dec.{eqb, leb}
+use lib.ListN.{length, take, drop, set, replicate}
 use Rattle.words.specs.Choice.{if_then_else_, _and_}
 use Rattle.words.specs.Lists.{selected}
 use Rattle.page.specs.Marks.{isProtected, withoutModified}
@@ -13,7 +13,7 @@ use Rattle.fields.specs.Fields.{Field}
 use Rattle.blocks.specs.Blocks.{encode}
 use Rattle.steps.specs.Steps.{Terminal, Transmission, silent, report, fullBlock, changedBlock, Stepped, stores, sends}
 use Rattle.steps.specs.Steps.{cursorCell}
-use Rattle.steps.specs.Seen.{characterAt, modifiedAt, fieldsHere, entryHere, blockHere}
+use Rattle.steps.specs.Seen.{cellsHere, characterAt, unprotectedAt, modifiedAt, fieldsHere, entryHere, blockHere}
 use Rattle.commands.specs.Host.{hostStep}
 use Rattle.keys.specs.Keys.{isTyping, keyStep}
 use Rattle.terminal.specs.declared.Answer.the-variants.{NoRoom}
@@ -94,6 +94,24 @@ endsTwice = sendingOn 267 (λ t. fullBlock (blockHere true t ++ (0x03 ∷ [])))
 -- or a changed block is 35,139 bytes of 03, whatever the page.
 abbrev pub sendsFixedBlock : Rules
 sendsFixedBlock = sendingOn 266 (λ t. changedBlock (replicate 35139 0x03))
+
+-- What a field is. One that runs over its first row's end is sent as two,
+unfoldable pub cutAtRowEnd : ℕ → Field → List Field
+cutAtRowEnd columns field =
+    let room = columns - field .start % columns in
+    if leb (field .length) room then field ∷ []
+    else
+    record { start = field .start; length = room } ∷ record { start = field .start + room; length = field .length - room } ∷ []
+
+abbrev pub cutsAtRowEnd : Rules
+cutsAtRowEnd = sendingOn 267 (λ t.
+    fullBlock (encode (map (entryHere t) (flatMap (cutAtRowEnd (t .state .size .columns)) (fieldsHere t)))))
+
+-- or the last cell is joined to the first, so that where both are unprotected no field starts at the first.
+abbrev pub joinsLastToFirst : Rules
+joinsLastToFirst = sendingOn 267 (λ t.
+    let both = unprotectedAt t 0 and unprotectedAt t (cellsHere t - 1) in
+    fullBlock (encode (map (entryHere t) (drop (if both then 1 else 0) (fieldsHere t)))))
 
 -- The copy. A changed block has those fields whose first cell is modified.
 unfoldable pub firstCellBlock : Terminal → List ℕ
