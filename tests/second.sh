@@ -7,9 +7,13 @@ second_cargo build
 second_cargo test >target/second/tests.log 2>&1 || { cat target/second/tests.log; exit 1; }
 second=target/second/release/second
 
-# the sample sessions, as stored
-./run <sample/stow.txt | cmp - sample/stow.out
-./run dump <sample/page.txt | cmp - sample/page.out
+# the sample sessions, as stored, of both
+for program in ./run $second; do
+    for session in stow remark; do
+        $program transcript <sample/$session.txt | cmp - sample/$session.out
+    done
+    $program dump <sample/page.txt | cmp - sample/page.out
+done
 
 new=$(date +%s)
 printf 'new seeds: %s and the 49 after it\n' "$new"

@@ -24,7 +24,8 @@ module _ (isUnprotected : ℕ → Bool) (cells : ℕ) where
   pub one-field : {one other : Field} → IsField isUnprotected cells one → IsField isUnprotected cells other → (cell : ℕ) → one has cell → other has cell → one ≡ other
   one-field = same-field isUnprotected cells
 
-  -- `fieldsOf` lists the page's fields, all of them and nothing else, each unprotected cell in exactly one, in page order.
+  -- `fieldsOf` lists the page's fields, all of them and nothing else, each unprotected cell in exactly one of them, in
+  -- page order.
   pub all-fields-listed : Lists isUnprotected cells (fieldsOf isUnprotected cells)
   all-fields-listed = lists-fields isUnprotected cells
 

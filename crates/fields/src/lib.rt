@@ -3,7 +3,6 @@
 use page::Mark;
 use places::Place;
 ghost use mathlib.Core.Path.{_≡_};
-ghost use mathlib.Core.Bool.{true};
 ghost use Prim.Native.Nat.{_-_, _*_, _<_, _≤_};
 ghost use lib.ListN.{length};
 ghost use Rattle.places.specs.Places.{placeOf, Counted};

@@ -206,15 +206,16 @@ examples =
     ∷ sent 1 4 267
     (bytes "\u{1b}[1;2fABCDE\u{1b}[1;8fFGH\u{1b}[2;4fI\u{3}")
     (1 ∷ 0 ∷ 4 ∷ 8 ∷ 32 ∷ 0 ∷ 3 ∷ 0 ∷ 0 ∷ 16 ∷ 1 ∷ 64 ∷ 1 ∷ 1 ∷ 1 ∷ 1 ∷ [])
-    -- the page's last cell is not joined to its first: 263 on C and 264 on D end with the page, 260 on C and 261 on A go
-    -- round it, and 267 sends two fields
+    -- the page's last cell is not joined to its first: 263 on C and 264 on D end with the page, 265 on A leaves C and
+    -- D, 260 on C and 261 on A go round it, and 267 sends two fields
     ∷ storedOn ends 2 7 263 2 7 2 (bytes "AB............  ") (0 ∷ 0 ∷ replicate 12 1 ++ (2 ∷ 2 ∷ []))
     ∷ storedOn ends 2 8 264 2 8 1 (bytes "AB............C ") (0 ∷ 0 ∷ replicate 12 1 ++ (0 ∷ 2 ∷ []))
     ∷ storedOn ends 1 1 265 1 1 2 (bytes " A............CD") (2 ∷ 2 ∷ replicate 12 1 ++ (0 ∷ 0 ∷ []))
     ∷ goesOn ends 2 7 260 1 1
     ∷ goesOn ends 1 1 261 2 7
     ∷ sentOn ends 1 1 267 (bytes "\u{1b}[1;1fAB\u{1b}[2;7fCD\u{3}") (ends .marks)
-    -- one field of a whole page: 260 and 261 find its start, 265 moves all of it from the cursor on, 267 sends all of it
+    -- one field of a whole page: 260 and 261 find its start, 265 moves what is behind the cursor, 263 blanks and 267
+    -- sends all of it
     ∷ goesOn whole 2 8 260 1 1
     ∷ goesOn whole 2 8 261 1 1
     ∷ storedOn whole 1 8 265 1 8 9 (bytes "ABCDEFG HIJKLMNO") (replicate 7 0 ++ replicate 9 2)

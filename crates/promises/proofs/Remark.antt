@@ -1,7 +1,7 @@
--- Demands 2 and 3 worked out on a form whose remark field, ABC, begins in the last two cells of row 1 and ends in row 2;
--- behind it are a protected point and a field D.
+-- Demands 2 and 3 worked out on a form whose remark field, ABC, begins in the last two cells of row 1 and ends in row
+-- 2; behind it are a protected point and a field D.
 use mathlib.Core.Path.{_≡_, refl, sym, ap, _∙_}
-use mathlib.Core.List.{List, [], _∷_, _++_, map}
+use mathlib.Core.List.{List, [], _∷_}
 use mathlib.Core.Bool.{true, false}
 use Prim.Native.Nat.{ℕ}
 use native.Mathlib.Omega.{arith}
@@ -9,7 +9,6 @@ use lib.ListN.{length, replicate}
 use Rattle.words.specs.Output.{placed}
 use Rattle.words.specs.Text.{bytes}
 use Rattle.page.specs.Page.{Page, closedUp}
-use Rattle.fields.specs.Fields.{Field}
 use Rattle.blocks.specs.Blocks.{block}
 use Rattle.blocks.specs.Lay.{lay}
 use Rattle.steps.specs.Steps.{Terminal, Valid}
@@ -58,8 +57,8 @@ call-267 =
     key-done sender 267 (replicate 18 0) (record { valid = sender-valid; known = refl; not-locked-out = refl; has-cell = refl }) (omega (arith, ap length full-block))
     ∙ (λ i. record { number = 0; taken = 0; sent = length (full-block i); stored = 0; refused = 0; protection = false; terminal = sender; output = placed 0 (full-block i) (replicate 18 0) })
 
--- Fed back: all 18 bytes are taken, four cells stored, nothing sent or refused, and the second terminal has the sender's
--- page. The cursor is behind D.
+-- Fed back: all 18 bytes are taken, four cells stored, nothing sent or refused, and the second terminal has the
+-- sender's page. The cursor is behind D.
 fed-back : hostCall receiver fullBytes []
     ≡ record { number = 0; taken = 18; sent = 0; stored = 4; refused = 0; protection = true; terminal = atPlace 2 4 (sender .page); output = [] }
 unfolding hostSteps calls

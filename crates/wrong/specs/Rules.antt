@@ -99,9 +99,10 @@ sendsFixedBlock = sendingOn 266 (λ t. changedBlock (replicate 35139 0x03))
 unfoldable pub cutAtRowEnd : ℕ → Field → List Field
 cutAtRowEnd columns field =
     let room = columns - field .start % columns in
+    let begun : Field = record { start = field .start; length = room } in
+    let rest : Field = record { start = field .start + room; length = field .length - room } in
     if leb (field .length) room then field ∷ []
-    else
-    record { start = field .start; length = room } ∷ record { start = field .start + room; length = field .length - room } ∷ []
+    else begun ∷ rest ∷ []
 
 abbrev pub cutsAtRowEnd : Rules
 cutsAtRowEnd = sendingOn 267 (λ t.
