@@ -1,6 +1,7 @@
 #!/usr/bin/env bash
 # The largest block of each of the nine sizes, sent by the program: that of a page with a field in each even column, the
-# first of which begins in column 1. How many bytes it has was worked out by hand, from the form of a block.
+# first of which begins in column 1. How many bytes it has was worked out from the form of a block alone; the second
+# program's tests find as many, over all pages of the size.
 set -eu
 sizes='24 80 8186, 24 132 13976, 24 160 17210, 27 80 9254, 27 132 15797, 27 160 19451, 48 80 16730, 48 132 28544, 48 160 35138'
 

@@ -1,5 +1,5 @@
 #!/usr/bin/env bash
-# The generator of random transcripts is good: each of 40 small wrong edits of the second program (second/WRONG.md) is
+# The generator of random transcripts is good: each small wrong edit of the second program (second/WRONG.md) is
 # found.
 set -eu
 . tests/tools/debian.sh
