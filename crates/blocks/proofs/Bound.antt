@@ -8,17 +8,18 @@ use native.Mathlib.Omega.{arith}
 use lib.Arith.{digits-div, digits-mod}
 use lib.ListN.{length, replicate, length-replicate}
 use Rattle.words.specs.Choice.{if_then_else_, _and_, _or_}
-use Rattle.words.proofs.Choosing.{true-is-not-false, either-line, either-way, both-hold}
+use Rattle.words.proofs.Choosing.{true-is-not-false, either-line, either-way}
 use Rattle.words.proofs.Writing.{getD-each}
 use Rattle.page.specs.Marks.{unprotected}
 use Rattle.page.specs.Page.{Page, cells}
 use Rattle.places.specs.Places.{placeOf}
 use Rattle.words.proofs.Walking.{once-more}
 use Rattle.fields.specs.Fields.{joined, startsField}
+use Rattle.fields.proofs.Laws.{joined-unprotected, are-joined, joined-alike}
 use Rattle.output.specs.Decimal.{decimal}
 use Rattle.blocks.specs.Blocks.{block}
 use Rattle.blocks.proofs.Claims.{blankForm, firstAndEven}
-use Rattle.blocks.proofs.Listing.{joined-cell-unprotected, joined-starts-not, protected-starts-not}
+use Rattle.blocks.proofs.Listing.{joined-starts-not, protected-starts-not}
 use Rattle.blocks.proofs.Weighing.{total, total-append, total-same, opening, weight, block-length, no-longer}
 
 -- What a field's start needs, by the rows above it and the columns to its left.
@@ -75,7 +76,7 @@ module _ (isUnprotected : ℕ → Bool) (columns : ℕ) where
 
   joined-weight : (cell : ℕ) → joined isUnprotected cell ≡ true → weight isUnprotected columns cell ≡ 1
   unfolding weight if_then_else_
-  joined-weight cell j = rw (joined-starts-not isUnprotected cell j, joined-cell-unprotected isUnprotected cell j)
+  joined-weight cell j = rw (joined-starts-not isUnprotected cell j, joined-unprotected isUnprotected cell j .1)
 
   any-weight : (cell : ℕ) → weight isUnprotected columns cell ≤ opening columns cell + 1
   unfolding weight
@@ -84,9 +85,10 @@ module _ (isUnprotected : ℕ → Bool) (columns : ℕ) where
       either-line (λ (n : ℕ). n + (if isUnprotected cell then 1 else 0) ≤ opening columns cell + 1) (startsField isUnprotected cell) _ _ (λ _. omega arith) (λ _. omega arith)
 
   inside-weight : (cell : ℕ) → unprotectedBefore isUnprotected cell ≡ true → isUnprotected cell ≡ true → weight isUnprotected columns cell ≡ 1
-  unfolding unprotectedBefore joined
+  unfolding unprotectedBefore
   inside-weight zero before here = absurd (true-is-not-false (sym before))
-  inside-weight (suc cell) before here = joined-weight (suc cell) (both-hold _ _ before here)
+  inside-weight (suc cell) before here =
+      joined-weight (suc cell) (are-joined isUnprotected (suc cell) (omega arith) (rw (sub-one (suc cell)) before) here)
 
   start-weight : (above left : ℕ) → left < columns → weight isUnprotected columns (above * columns + left) ≤ needed above left + 1
   unfolding opening placeOf needed
@@ -187,9 +189,8 @@ module _ (isUnprotected : ℕ → Bool) (cells : ℕ) where
 
   -- What a cell adds is told by it and the cell before it.
   same-weight : (other : ℕ → Bool) (columns cell : ℕ) → other cell ≡ isUnprotected cell → other (cell - 1) ≡ isUnprotected (cell - 1) → weight other columns cell ≡ weight isUnprotected columns cell
-  unfolding weight startsField joined
-  same-weight other columns zero e b = rw e
-  same-weight other columns (suc cell) e b = rw (e, rw (sub-one (suc cell)) at b)
+  unfolding weight startsField
+  same-weight other columns cell e b = rw (e, joined-alike other isUnprotected cell e b)
 
   form-length : (columns : ℕ) → length (block true columns (blankForm isUnprotected cells)) ≡ 1 + total (weight isUnprotected columns) 0 cells
   form-length columns =

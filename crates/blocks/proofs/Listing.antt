@@ -15,9 +15,6 @@ use Rattle.fields.proofs.Bounds.{IsEnd, end-of}
 
 -- Where a field starts, and where none does, by the number of the cell.
 module _ (isUnprotected : ℕ → Bool) (cell : ℕ) where
-  pub joined-cell-unprotected : joined isUnprotected cell ≡ true → isUnprotected cell ≡ true
-  joined-cell-unprotected j = joined-unprotected isUnprotected cell j .1
-
   not-joined : isUnprotected cell ≡ false → joined isUnprotected (cell + 1) ≡ false
   not-joined f =
       let same : cell + 1 - 1 ≡ cell = omega arith in
@@ -67,7 +64,7 @@ module _ (isUnprotected : ℕ → Bool) (cells : ℕ) where
     pub field-unprotected : (k : ℕ) → field .start ≤ k → k < field .start + field .length → isUnprotected k ≡ true
     field-unprotected k h l =
         less-or-not (field .start) k
-        (λ q. joined-cell-unprotected isUnprotected k (ends .inside k q (omega (arith, is .whole, ends .high))))
+        (λ q. joined-unprotected isUnprotected k (ends .inside k q (omega (arith, is .whole, ends .high))) .1)
         (λ q. let same : field .start ≡ k = omega arith in rw same at (start-is isUnprotected (field .start) (is .starting) .0))
 
   end-of-protected : (cell : ℕ) → isUnprotected cell ≡ false → fieldEnd isUnprotected cells cell ≡ cell + 1
@@ -99,7 +96,7 @@ module _ (isUnprotected : ℕ → Bool) (cells : ℕ) where
         → numbersFrom isUnprotected cell (suc n) ≡ numbersFrom (λ _. true) cell (fieldEnd isUnprotected cells cell - cell) ++ flatMap cellsOf (fieldsFrom isUnprotected cells cell (suc n))
     unfolding numbersFrom fieldsFrom
     from-joined j =
-        rw (then-case _ _ _ (joined-cell-unprotected isUnprotected cell j), else-case _ _ _ (joined-starts-not isUnprotected cell j)) from-unprotected
+        rw (then-case _ _ _ (joined-unprotected isUnprotected cell j .1), else-case _ _ _ (joined-starts-not isUnprotected cell j)) from-unprotected
 
     from-not-joined : joined isUnprotected cell ≡ false → numbersFrom isUnprotected cell (suc n) ≡ flatMap cellsOf (fieldsFrom isUnprotected cells cell (suc n))
     unfolding numbersFrom fieldsFrom flatMap cellsOf

@@ -7,27 +7,27 @@ use native.Mathlib.Numerals.{sub-one}
 use native.Mathlib.Omega.{arith}
 use borrow.Author.Tests.{not-true}
 use Rattle.words.specs.Choice.{_and_}
-use Rattle.words.proofs.Choosing.{else-case, both, both-hold, first-fails, second-fails, one-fails}
+use Rattle.words.proofs.Choosing.{true-is-not-false, else-case, both, both-hold, first-fails, second-fails, one-fails}
 use Rattle.fields.specs.Fields.{joined, startsField, fieldStart}
 
-is-first-or-later : (cell : ℕ) → (cell ≡ 0) ⊎ (0 < cell)
-is-first-or-later zero = inl refl
-is-first-or-later (suc before) = inr (omega arith)
+first-or-later : (cell : ℕ) → (cell ≡ 0) ⊎ (0 < cell)
+first-or-later zero = inl refl
+first-or-later (suc before) = inr (omega arith)
 
--- Two cells are joined, or there is a reason why not. Only this section looks into `joined`.
+-- Two cells are joined, or there is a reason why not. Laws look into `joined` here alone.
 module _ (isUnprotected : ℕ → Bool) where
-  pub joined-later : (cell : ℕ) → 0 < cell → joined isUnprotected cell ≡ (isUnprotected (cell - 1) and isUnprotected cell)
+  joined-later : (cell : ℕ) → 0 < cell → joined isUnprotected cell ≡ (isUnprotected (cell - 1) and isUnprotected cell)
   unfolding joined
   joined-later zero late = absurd (omega arith)
   joined-later (suc before) late = rw (sub-one (suc before))
 
-  pub first-apart : joined isUnprotected 0 ≡ false
+  first-apart : joined isUnprotected 0 ≡ false
   unfolding joined
   first-apart = refl
 
   pub joined-has-before : (cell : ℕ) → joined isUnprotected cell ≡ true → 0 < cell
   unfolding joined
-  joined-has-before zero j = let z : _≡_ {A = ℕ} 0 1 = cc in absurd (omega arith)
+  joined-has-before zero j = absurd (true-is-not-false (sym j))
   joined-has-before (suc before) j = omega arith
 
   module _ (cell : ℕ) where
@@ -39,7 +39,7 @@ module _ (isUnprotected : ℕ → Bool) where
 
     apart-unless-first : (isUnprotected (cell - 1) and isUnprotected cell) ≡ false → joined isUnprotected cell ≡ false
     apart-unless-first fails =
-        ⊎-elim (λ first. ap (joined isUnprotected) first ∙ first-apart) (λ late. joined-later cell late ∙ fails) (is-first-or-later cell)
+        ⊎-elim (λ first. ap (joined isUnprotected) first ∙ first-apart) (λ late. joined-later cell late ∙ fails) (first-or-later cell)
 
     -- after an unprotected cell it is the cell itself that counts
     pub joined-if-unprotected : 0 < cell → isUnprotected (cell - 1) ≡ true → joined isUnprotected cell ≡ isUnprotected cell
@@ -55,10 +55,13 @@ module _ (isUnprotected : ℕ → Bool) where
     are-apart (inr (inr right)) = apart-unless-first (second-fails _ _ right)
 
     pub why-apart : joined isUnprotected cell ≡ false → Apart
-    why-apart j =
-        ⊎-elim inl
-        (λ late. inr (one-fails (sym (joined-later cell late) ∙ j)))
-        (is-first-or-later cell)
+    why-apart j = ⊎-elim inl (λ late. inr (one-fails (sym (joined-later cell late) ∙ j))) (first-or-later cell)
+
+-- It is told by the two cells.
+pub joined-alike : (one other : ℕ → Bool) (cell : ℕ) → one cell ≡ other cell → one (cell - 1) ≡ other (cell - 1) → joined one cell ≡ joined other cell
+unfolding joined
+joined-alike one other zero here before = refl
+joined-alike one other (suc cell) here before = let previous = rw (sub-one (suc cell)) at before in rw (here, previous)
 
 -- A field starts at a cell that is unprotected and not joined to the one before.
 module _ (isUnprotected : ℕ → Bool) (cell : ℕ) where
