@@ -2,7 +2,7 @@
 # The largest block of each of the nine sizes, sent by the program: that of a page with a field in each even column, the
 # first of which begins in column 1. How many bytes it has was worked out from the form of a block alone; the second
 # program's tests find as many, over all pages of the size.
-set -eu
+set -eu -o pipefail
 sizes='24 80 8186, 24 132 13976, 24 160 17210, 27 80 9254, 27 132 15797, 27 160 19451, 48 80 16730, 48 132 28544, 48 160 35138'
 
 # paint ROWS COLUMNS: a protected and an unprotected cell in turn, 40 times a frame; then 1;1 unprotected; then key 267.

@@ -1,7 +1,7 @@
 #!/usr/bin/env bash
 # The programs against the second program (second/), which was written without sight of the Rattle code: on fixed seeds,
 # which decide, and on new ones, which are printed. A difference is shown as a short transcript.
-set -eu
+set -eu -o pipefail
 . tests/tools/debian.sh
 second_cargo build
 second_cargo test >target/second/tests.log 2>&1 || { cat target/second/tests.log; exit 1; }

@@ -15,11 +15,10 @@ use Rattle.page.specs.Page.{Page, cells}
 use Rattle.places.specs.Places.{placeOf}
 use Rattle.words.proofs.Walking.{once-more}
 use Rattle.fields.specs.Fields.{joined, startsField}
-use Rattle.fields.proofs.Laws.{joined-unprotected, are-joined, joined-alike}
+use Rattle.fields.proofs.Laws.{joined-unprotected, are-joined, joined-alike, joined-starts-not, protected-starts-not}
 use Rattle.output.specs.Decimal.{decimal}
 use Rattle.blocks.specs.Blocks.{block}
 use Rattle.blocks.proofs.Claims.{blankForm, firstAndEven}
-use Rattle.blocks.proofs.Listing.{joined-starts-not, protected-starts-not}
 use Rattle.blocks.proofs.Weighing.{total, total-append, total-same, opening, weight, block-length, no-longer}
 
 -- What a field's start needs, by the rows above it and the columns to its left.

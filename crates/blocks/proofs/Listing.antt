@@ -7,24 +7,17 @@ use Prim.Native.Nat.{ℕ, zero, suc, _+_, _-_, _<_, _≤_}
 use native.Mathlib.Omega.{arith}
 use Rattle.words.specs.Choice.{if_then_else_}
 use Rattle.words.specs.Lists.{numbersFrom}
-use Rattle.words.proofs.Choosing.{not-both, then-case, else-case, either-line, either-way, less-or-not}
+use Rattle.words.proofs.Choosing.{then-case, else-case, either-line, either-way, less-or-not}
 use Rattle.fields.specs.Fields.{joined, startsField, fieldEnd, Field, fieldsFrom, fieldsOf}
-use Rattle.fields.proofs.Laws.{joined-unprotected, are-apart, start-is, is-start}
+use Rattle.fields.proofs.Laws.{joined-unprotected, are-apart, start-is, is-start, joined-starts-not, protected-starts-not}
 use Rattle.fields.proofs.Walks.{end-on, end-stops, end-at-last}
 use Rattle.fields.proofs.Bounds.{IsEnd, end-of}
 
--- Where a field starts, and where none does, by the number of the cell.
-module _ (isUnprotected : ℕ → Bool) (cell : ℕ) where
-  not-joined : isUnprotected cell ≡ false → joined isUnprotected (cell + 1) ≡ false
-  not-joined f =
-      let same : cell + 1 - 1 ≡ cell = omega arith in
-      are-apart isUnprotected (cell + 1) (inr (inl (ap isUnprotected same ∙ f)))
-
-  pub joined-starts-not : joined isUnprotected cell ≡ true → startsField isUnprotected cell ≡ false
-  joined-starts-not j = either-way (startsField isUnprotected cell) (λ s. absurd (not-both j (start-is isUnprotected cell s .1))) (λ s. s)
-
-  pub protected-starts-not : isUnprotected cell ≡ false → startsField isUnprotected cell ≡ false
-  protected-starts-not f = either-way (startsField isUnprotected cell) (λ s. absurd (not-both (start-is isUnprotected cell s .0) f)) (λ s. s)
+-- After a protected cell none is joined.
+not-joined : (isUnprotected : ℕ → Bool) (cell : ℕ) → isUnprotected cell ≡ false → joined isUnprotected (cell + 1) ≡ false
+not-joined isUnprotected cell f =
+    let same : cell + 1 - 1 ≡ cell = omega arith in
+    are-apart isUnprotected (cell + 1) (inr (inl (ap isUnprotected same ∙ f)))
 
 -- A field of the list: it starts on the page, where a field starts, and has all its cells.
 pub record Listed (isUnprotected : ℕ → Bool) (cells : ℕ) (field : Field) : Type 0 where

@@ -129,7 +129,7 @@ module _ (isUnprotected : ℕ → Bool) (cells : ℕ) where
       let lengths : one .length ≡ other .length = omega arith in
       λ i. record { start = starts i; length = lengths i }
 
-  -- a run that has a unprotected cell is a field, and a field is a run
+  -- a run that has an unprotected cell is a field, and a field is a run
   module _ {field : Field} (run : IsRun field) (cell : ℕ) (here : field has cell) (is-unprotected : isUnprotected cell ≡ true) where
     all-unprotected : (k : ℕ) → field has k → isUnprotected k ≡ true
     all-unprotected k within = run-unprotected isUnprotected (field .start) (endOf field) (run .inside) cell (here .0) (here .1) is-unprotected k (within .0) (within .1)

@@ -1,4 +1,5 @@
--- What the theorems claim: the words of document 01, "Fields, keys and blocks", as types.
+-- What the theorems claim: the words of document 01, "Fields, keys and blocks", as types; what a field is, as document
+-- 02, M-101, has it.
 -- `unprotected` and `cells` are as in specs/Fields.antt.
 use mathlib.Core.Path.{_≡_}
 use mathlib.Core.Bool.{Bool, true, false}

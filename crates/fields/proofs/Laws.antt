@@ -7,7 +7,7 @@ use native.Mathlib.Numerals.{sub-one}
 use native.Mathlib.Omega.{arith}
 use borrow.Author.Tests.{not-true}
 use Rattle.words.specs.Choice.{_and_}
-use Rattle.words.proofs.Choosing.{true-is-not-false, else-case, both, both-hold, first-fails, second-fails, one-fails}
+use Rattle.words.proofs.Choosing.{true-is-not-false, not-both, else-case, either-way, both, both-hold, first-fails, second-fails, one-fails}
 use Rattle.fields.specs.Fields.{joined, startsField, fieldStart}
 
 first-or-later : (cell : ℕ) → (cell ≡ 0) ⊎ (0 < cell)
@@ -63,11 +63,17 @@ unfolding joined
 joined-alike one other zero here before = refl
 joined-alike one other (suc cell) here before = let previous = rw (sub-one (suc cell)) at before in rw (here, previous)
 
--- A field starts at a cell that is unprotected and not joined to the one before.
+-- A field starts at a cell that is unprotected and not joined to the one before, and at no other.
 module _ (isUnprotected : ℕ → Bool) (cell : ℕ) where
   pub start-is : startsField isUnprotected cell ≡ true → (isUnprotected cell ≡ true) × (joined isUnprotected cell ≡ false)
   unfolding startsField
   start-is s = let is = both s in (is .0, not-true _ (is .1))
+
+  pub joined-starts-not : joined isUnprotected cell ≡ true → startsField isUnprotected cell ≡ false
+  joined-starts-not j = either-way (startsField isUnprotected cell) (λ s. absurd (not-both j (start-is s .1))) (λ s. s)
+
+  pub protected-starts-not : isUnprotected cell ≡ false → startsField isUnprotected cell ≡ false
+  protected-starts-not f = either-way (startsField isUnprotected cell) (λ s. absurd (not-both (start-is s .0) f)) (λ s. s)
 
   pub is-start : isUnprotected cell ≡ true → joined isUnprotected cell ≡ false → startsField isUnprotected cell ≡ true
   unfolding startsField

@@ -6,10 +6,10 @@ use mathlib.Core.Logic.{inl, ⊎-elim}
 use Prim.Native.Nat.{ℕ, zero, suc, _+_, _-_, _<_, _≤_}
 use native.Mathlib.Nat.{eq-or-lt-of-le}
 use native.Mathlib.Omega.{arith}
-use Rattle.words.proofs.Choosing.{then-case, else-case, either-line, either-way, not-both}
+use Rattle.words.proofs.Choosing.{then-case, else-case, either-line, not-both}
 use Rattle.fields.specs.Fields.{Field, joined, startsField, fieldStart, fieldEnd, fieldFrom, fieldsFrom, fieldsOf}
 use Rattle.fields.proofs.Claims.{IsField, endOf, _has_, InOrder, none, one-more, InOneField, Lists, Passes}
-use Rattle.fields.proofs.Laws.{are-joined, are-apart, start-is, is-start, start-here}
+use Rattle.fields.proofs.Laws.{are-joined, are-apart, start-is, is-start, joined-starts-not, start-here}
 use Rattle.fields.proofs.Bounds.{start-of, end-of, same-field, around}
 
 -- The fields that start at one of the n cells from `from` to before `to`.
@@ -103,18 +103,14 @@ module _ (isUnprotected : ℕ → Bool) (cells : ℕ) where
 
   -- Where all cells are unprotected, each but the first is joined to the one before it.
   module _ (some : 0 < cells) (all : (cell : ℕ) → cell < cells → isUnprotected cell ≡ true) where
-    joined-later : (cell : ℕ) → 0 < cell → cell < cells → joined isUnprotected cell ≡ true
-    joined-later cell late here = are-joined isUnprotected cell late (all (cell - 1) (omega arith)) (all cell here)
-
-    starts-not : (cell : ℕ) → 0 < cell → cell < cells → startsField isUnprotected cell ≡ false
-    starts-not cell late here =
-        either-way (startsField isUnprotected cell) (λ starts. absurd (not-both (joined-later cell late here) (start-is isUnprotected cell starts .1))) (λ s. s)
+    all-joined : (cell : ℕ) → 0 < cell → cell < cells → joined isUnprotected cell ≡ true
+    all-joined cell late here = are-joined isUnprotected cell late (all (cell - 1) (omega arith)) (all cell here)
 
     ends-with-page : fieldEnd isUnprotected cells 0 ≡ cells
     ends-with-page =
         let end = end-of isUnprotected cells 0 some in
         ⊎-elim (λ same. same)
-        (λ apart. ⊎-elim (λ same. same) (λ less. absurd (not-both (joined-later _ (end .high) less) apart)) (eq-or-lt-of-le (end .on-page)))
+        (λ apart. ⊎-elim (λ same. same) (λ less. absurd (not-both (all-joined _ (end .high) less) apart)) (eq-or-lt-of-le (end .on-page)))
         (end .after)
 
     pub one-whole-field : fieldsOf isUnprotected cells ≡ record { start = 0; length = cells } ∷ []
@@ -125,4 +121,4 @@ module _ (isUnprotected : ℕ → Bool) (cells : ℕ) where
         let size : fieldEnd isUnprotected cells 0 - 0 ≡ cells = omega (arith, ends-with-page) in
         ap (fieldsFrom isUnprotected cells 0) count
         ∙ then-case _ _ _ starts
-        ∙ (λ i. record { start = 0; length = size i } ∷ none-listed (cells - 1) 1 (λ cell low high. starts-not cell low (omega arith)) i)
+        ∙ (λ i. record { start = 0; length = size i } ∷ none-listed (cells - 1) 1 (λ cell low high. joined-starts-not isUnprotected cell (all-joined cell low (omega arith))) i)

@@ -1,5 +1,5 @@
--- What document 01, "Fields, keys and blocks", says of fields and of the cells that keys look for;
--- Claims.antt has its words.
+-- What document 01, "Fields, keys and blocks", says of fields, as document 02, M-101, has them, and of the cells that
+-- keys look for; Claims.antt has the words.
 -- Each holds for any test `unprotected` of which cells are unprotected.
 -- The contracts in src/lib.rt say that the code gives what is spoken of here.
 use mathlib.Core.Path.{_≡_}

@@ -1,4 +1,4 @@
-// Fields: longest runs of unprotected cells in page order, and the searches of the keys.
+// Fields: unprotected cells that follow on one another in page order; and the searches of the keys.
 // What each function gives is defined in specs/Fields.antt and specs/Searches.antt.
 use page::Mark;
 use places::Place;

@@ -1,4 +1,4 @@
--- The definitions of the keys, computed on keys worked out by hand from document 01.
+-- The definitions of the keys, computed on keys worked out by hand from documents 01 and 02.
 use mathlib.Core.Path.{_≡_, refl}
 use mathlib.Core.List.{List, [], _∷_, _++_, map}
 use mathlib.Core.Bool.{Bool, true, false}

@@ -14,8 +14,8 @@ use Rattle.words.proofs.Choosing.{else-case}
 use Rattle.page.specs.Marks.{isProtected, unprotected}
 use Rattle.page.specs.Page.{Page, pageOf, cells}
 use Rattle.fields.specs.Fields.{Field, startsField, fieldFrom, fieldsFrom, fieldsOf}
+use Rattle.fields.proofs.Laws.{protected-starts-not}
 use Rattle.fields.proofs.Listing.{none-listed}
-use Rattle.blocks.proofs.Listing.{protected-starts-not}
 use Rattle.blocks.specs.Blocks.{encode, entryOf, isInBlock, entriesSent, block}
 use Rattle.state.specs.State.{freshState, withCursor, cursorAt}
 use Rattle.steps.specs.Steps.{Terminal}

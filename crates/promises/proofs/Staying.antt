@@ -48,7 +48,7 @@ fresh-page-valid size page blank fits is = subst (λ (blank : Page). Valid (reco
   page = blank-page-valid (length (page .characters)) (length (page .marks));
 })
 
-pub fresh-unprotected : (all cell : ℕ) → cell < all → unprotected (replicate all 0) cell ≡ true
+fresh-unprotected : (all cell : ℕ) → cell < all → unprotected (replicate all 0) cell ≡ true
 unfolding unprotected
 fresh-unprotected all cell here = ap (λ (mark : ℕ). not (isProtected mark)) (getD-replicate all cell 0 0 here)
 

@@ -31,10 +31,10 @@ use Rattle.promises.proofs.Theorems.{demand-1, valid-by-the-table}
 use Rattle.promises.proofs.Computing.{validity, hostSteps, keySteps, calls, streams}
 
 -- 48 rows of 160 columns with a field in each even column; the first begins in column 1.
-abbrev manyFields : Terminal
+abbrev pub manyFields : Terminal
 manyFields = record { state = freshState (record { rows = 48; columns = 160 }); page = blankForm firstAndEven (48 * 160) }
 
-many-valid : Valid manyFields
+pub many-valid : Valid manyFields
 unfolding validity eachFrom firstAndEven placeOf
 many-valid = record { size = refl; state = refl; page = refl }
 
