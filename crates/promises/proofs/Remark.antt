@@ -1,12 +1,11 @@
 -- Demands 2 and 3 worked out on a form whose remark field, ABC, begins in the last two cells of row 1 and ends in row
 -- 2; behind it are a protected point and a field D.
-use mathlib.Core.Path.{_≡_, refl, sym, ap, _∙_}
+use mathlib.Core.Path.{_≡_, refl, sym, _∙_}
 use mathlib.Core.List.{List, [], _∷_}
 use mathlib.Core.Bool.{true, false}
 use Prim.Native.Nat.{ℕ}
 use native.Mathlib.Omega.{arith}
-use lib.ListN.{length, replicate}
-use Rattle.words.specs.Output.{placed}
+use lib.ListN.{replicate}
 use Rattle.words.specs.Text.{bytes}
 use Rattle.page.specs.Page.{Page, closedUp}
 use Rattle.blocks.specs.Blocks.{block}
@@ -15,9 +14,8 @@ use Rattle.steps.specs.Steps.{Terminal, Valid}
 use Rattle.steps.specs.Seen.{fieldsHere}
 use Rattle.keys.specs.Keys.{restShifted}
 use Rattle.terminal.specs.Calls.{hostCall, keyCall}
-use Rattle.terminal.proofs.Deciding.{key-done}
 use Rattle.promises.proofs.Sheets.{sheetAfter, atPlace, fields-amid, block-amid}
-use Rattle.promises.proofs.Worked.{leaves}
+use Rattle.promises.proofs.Worked.{leaves, sends-known}
 use Rattle.promises.proofs.Computing.{validity, blockBytes, laying, hostSteps, keySteps, calls}
 
 -- Cells 78 to 82, counted from 0: 1;79 and 1;80, 2;1 to 2;3.
@@ -54,8 +52,8 @@ full-block = block-amid 78 (bytes "ABC.D") noTag (omega arith) refl refl true �
 call-267 : keyCall sender 267 (replicate 18 0) ≡ leaves 0 0 0 fullBytes sender
 unfolding validity keySteps calls
 call-267 =
-    key-done sender 267 (replicate 18 0) (record { valid = sender-valid; known = refl; not-locked-out = refl; has-cell = refl }) (omega (arith, ap length full-block))
-    ∙ (λ i. record { number = 0; taken = 0; sent = length (full-block i); stored = 0; refused = 0; protection = false; terminal = sender; output = placed 0 (full-block i) (replicate 18 0) })
+    sends-known sender 267 fullBytes (replicate 18 0) (record { valid = sender-valid; known = refl; not-locked-out = refl; has-cell = refl })
+    full-block refl refl refl refl refl
 
 -- Fed back: all 18 bytes are taken, four cells stored, nothing sent or refused, and the second terminal has the
 -- sender's page. The cursor is behind D.
@@ -90,8 +88,8 @@ changed-block = block-amid 78 (bytes "AC .D") carriedTags (omega arith) refl ref
 call-266 : keyCall (carried carriedTags) 266 (replicate 11 0) ≡ leaves 0 0 0 changedBytes (carried noTag)
 unfolding validity keySteps calls
 call-266 =
-    key-done (carried carriedTags) 266 (replicate 11 0) (record { valid = carried-valid; known = refl; not-locked-out = refl; has-cell = refl }) (omega (arith, ap length changed-block))
-    ∙ (λ i. record { number = 0; taken = 0; sent = length (changed-block i); stored = 0; refused = 0; protection = false; terminal = carried noTag; output = placed 0 (changed-block i) (replicate 11 0) })
+    sends-known (carried carriedTags) 266 changedBytes (replicate 11 0) (record { valid = carried-valid; known = refl; not-locked-out = refl; has-cell = refl })
+    changed-block refl refl refl refl refl
 
 -- The copy after it, worked out from the bytes of the two alone, is the full block of the page as it stands.
 the-copy : lay changedBytes fullBytes ≡ bytes "\u{1b}[1;79fAC \u{1b}[2;3fD\u{3}"

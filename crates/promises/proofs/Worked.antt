@@ -11,11 +11,13 @@ use Rattle.blocks.specs.Decode.{decode}
 use Rattle.blocks.specs.Lay.{lay}
 use Rattle.blocks.specs.Finding.{blocksIn}
 use Rattle.page.specs.Page.{Page}
-use Rattle.steps.specs.Steps.{Terminal, silent, report, fullBlock, changedBlock, Stepped, Valid}
+use Rattle.steps.specs.Steps.{Terminal, bytesOf, silent, report, fullBlock, changedBlock, Stepped, Valid}
 use Rattle.words.specs.Output.{placed}
 use Rattle.words.specs.Text.{bytes}
-use Rattle.terminal.specs.Runs.{stepsOf, after, bytesSentBy}
-use Rattle.terminal.specs.Answers.{Outcome, bytesSent}
+use Rattle.keys.specs.Keys.{keyStep}
+use Rattle.terminal.specs.Runs.{stepsOf, after, bytesSentBy, countOf}
+use Rattle.terminal.specs.Answers.{Outcome, numberOf, bytesSent}
+use Rattle.terminal.specs.Tests.{Passes}
 use Rattle.terminal.specs.Calls.{hostCall, keyCall}
 use Rattle.terminal.proofs.Deciding.{key-done}
 use Rattle.terminal.proofs.Cases.{host-did}
@@ -174,12 +176,30 @@ typedY = at 5 (form "X" "Y" secondTagged)
 abbrev end : Terminal
 end = at 5 (form "X" "Y" noTag)
 
+-- A key call that sends known bytes, stores in no cell, and has an output with just room for them.
+pub sends-known : (t : Terminal) (key : ℕ) (sent lent : List ℕ) → Passes t key → bytesOf (keyStep key t .transmission) ≡ sent
+    → length (keyStep key t .cells) ≡ 0 → countOf (keyStep key t .wasRefused) ≡ 0 → keyStep key t .protection ≡ false
+    → length lent ≡ length sent → placed 0 sent lent ≡ sent → keyCall t key lent ≡ leaves 0 0 0 sent (keyStep key t .terminal)
+unfolding numberOf
+sends-known t key sent lent passes is no-cell not-refused kept room all =
+    key-done t key lent passes (omega (arith, ap length is))
+    ∙ (λ i. record {
+      number = 0;
+      taken = 0;
+      sent = length (is i);
+      stored = no-cell i;
+      refused = not-refused i;
+      protection = kept i;
+      terminal = keyStep key t .terminal;
+      output = (ap (λ (bytes : List ℕ). placed 0 bytes lent) is ∙ all) i;
+    })
+
 -- The calls that send.
 pub call-267 : keyCall start 267 (replicate 17 0) ≡ leaves 0 0 0 (fullBytes "A" "C") start
 unfolding validity keySteps calls
 call-267 =
-    key-done start 267 (replicate 17 0) (record { valid = start-valid; known = refl; not-locked-out = refl; has-cell = refl }) (omega (arith, ap length (full-noTag "A" "C")))
-    ∙ (λ i. record { number = 0; taken = 0; sent = length (full-noTag "A" "C" i); stored = 0; refused = 0; protection = false; terminal = start; output = placed 0 (full-noTag "A" "C" i) (replicate 17 0) })
+    sends-known start 267 (fullBytes "A" "C") (replicate 17 0) (record { valid = start-valid; known = refl; not-locked-out = refl; has-cell = refl })
+    (full-noTag "A" "C") refl refl refl refl refl
 
 typedX-valid : Valid typedX
 unfolding validity
@@ -202,8 +222,8 @@ typedY-valid = record { size = refl; state = refl; page = refl }
 call-266 : keyCall typedY 266 (replicate 9 0) ≡ leaves 0 0 0 changedBytes end
 unfolding validity keySteps calls
 call-266 =
-    key-done typedY 266 (replicate 9 0) (record { valid = typedY-valid; known = refl; not-locked-out = refl; has-cell = refl }) (omega (arith, ap length changed-secondTagged))
-    ∙ (λ i. record { number = 0; taken = 0; sent = length (changed-secondTagged i); stored = 0; refused = 0; protection = false; terminal = end; output = placed 0 (changed-secondTagged i) (replicate 9 0) })
+    sends-known typedY 266 changedBytes (replicate 9 0) (record { valid = typedY-valid; known = refl; not-locked-out = refl; has-cell = refl })
+    changed-secondTagged refl refl refl refl refl
 
 -- All that is seen, call by call; and the inputs that these calls did are those above.
 session-told : Told start session
