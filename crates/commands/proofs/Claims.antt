@@ -4,6 +4,7 @@ use mathlib.Core.List.{List, [], _∷_}
 use mathlib.Core.Path.{_≡_}
 use Prim.Native.Nat.{ℕ}
 use Rattle.sequence.specs.declared.HalfRead.{HalfRead}
+use Rattle.sequence.specs.declared.Reason.{Reason}
 use Rattle.page.specs.Page.{cellsErased}
 use Rattle.blocks.proofs.Claims.{IsReport}
 use Rattle.steps.specs.Steps.{Terminal, report, fullBlock, changedBlock, Stepped, refusing, cursorCell, allCells}
@@ -30,7 +31,12 @@ pub record HostSound (Asked : Type 0) (t : Terminal) (step : Stepped) : Type 0 w
   pub no-changed-block : (bytes : List ℕ) → step .transmission ≡ changedBlock bytes → ⊥
   pub is-report : (bytes : List ℕ) → step .transmission ≡ report bytes → IsReport bytes
 
--- And of what an event does, before it is settled: where it is refused nothing happened.
-pub record EventSound (Asked : Type 0) (t : Terminal) (step : Stepped) : Type 0 where
+-- A command refused at this byte, for a reason: nothing else happened.
+pub record RefusedAt (byte : ℕ) (t : Terminal) (step : Stepped) : Type 0 where
+  pub reason : Reason
+  pub is : step ≡ refusing reason byte t
+
+-- And of what the event of a byte does.
+pub record EventSound (Asked : Type 0) (byte : ℕ) (t : Terminal) (step : Stepped) : Type 0 where
   pub host : HostSound Asked t step
-  pub refusal : step .wasRefused ≡ true → step ≡ refusing t
+  pub refusal : step .wasRefused ≡ true → RefusedAt byte t step

@@ -19,7 +19,7 @@ use Rattle.commands.specs.Commands.{freshStep, escStep, erasing, erasePa
 use Rattle.sending.specs.Sending.{sendBlock, readyReport, cursorReport, statusReport}
 use Rattle.table.specs.Moves.{toColumn, toRow, toPlace, keptColumn, isMove, moveStep}
 use Rattle.table.specs.Settings.{tabControl, isVisual, penAfter, penAfterAll, rendition, setMode}
-use Rattle.commands.specs.Host.{eventStep, settledState, settled, hostStep}
+use Rattle.commands.specs.Host.{eventStep, hostStep}
 
 -- Tests and lists.
 unfoldable tests : Unit {0}
@@ -48,5 +48,5 @@ transmissions = tt
 
 -- The step of a host byte.
 unfoldable pub hostSteps : Unit {0}
-unfolding readings states pages transmissions textStep lineDown lineUp nextLine controlStep freshStep sendBlock escStep allowed valueOf toColumn toRow toPlace keptColumn isMove moveStep tabControl erasing erasePart rendition setMode readyReport cursorReport statusReport listedStep bracketStep eventStep settledState settled hostStep
+unfolding readings states pages transmissions textStep lineDown lineUp nextLine controlStep freshStep sendBlock escStep allowed valueOf toColumn toRow toPlace keptColumn isMove moveStep tabControl erasing erasePart rendition setMode readyReport cursorReport statusReport listedStep bracketStep eventStep hostStep
 hostSteps = tt

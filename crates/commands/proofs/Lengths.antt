@@ -22,7 +22,7 @@ use Rattle.steps.specs.Steps.{Terminal, Stepped, bytesOf, blockTransmission, wi
 use Rattle.steps.specs.Seen.{blockHere}
 use Rattle.commands.specs.Commands.{escStep, listedStep, bracketStep}
 use Rattle.sending.specs.Sending.{sendBlock, readyReport, cursorReport, statusReport}
-use Rattle.commands.specs.Host.{eventStep, settled, hostStep}
+use Rattle.commands.specs.Host.{eventStep, hostStep}
 use Rattle.steps.proofs.Soundness.{sized}
 use Rattle.commands.proofs.Silent.{text-silent, control-silent, esc-silent, move-silent, tab-silent, erase-silent, rendition-silent, mode-silent}
 
@@ -50,9 +50,9 @@ esc-short byte t fits =
     (λ is. rw (eqb-true byte 0x53 is) (full-short t fits))
     (λ other. quiet (esc-silent byte t other))
 
-status-short : (what : ℕ) (t : Terminal) → Short (statusReport what t)
+status-short : (final what : ℕ) (t : Terminal) → Short (statusReport final what t)
 unfolding statusReport readyReport cursorReport bytesOf
-status-short what t =
+status-short final what t =
     either-line Short _ _ _ (λ _. omega arith)
     (λ _. either-line Short _ _ _
     (λ _. omega (arith, place-long (t .state .cursor .row) (t .state .cursor .column) 0x52, three-at-most (t .state .cursor .row), three-at-most (t .state .cursor .column)))
@@ -62,13 +62,13 @@ listed-short : (final : ℕ) (arguments : List ℕ) (count : ℕ) (t : Terminal)
 unfolding listedStep
 listed-short final arguments count t =
     either-line Short _ _ _ (λ _. quiet (move-silent final arguments t))
-    (λ _. either-line Short _ _ _ (λ _. quiet (tab-silent _ t))
-    (λ _. either-line Short _ _ _ (λ _. quiet (erase-silent _ _ _ t))
-    (λ _. either-line Short _ _ _ (λ _. quiet (erase-silent _ _ _ t))
-    (λ _. either-line Short _ _ _ (λ _. quiet (rendition-silent _ t))
-    (λ _. either-line Short _ _ _ (λ _. quiet (mode-silent _ _ t))
-    (λ _. either-line Short _ _ _ (λ _. quiet (mode-silent _ _ t))
-    (λ _. status-short _ t)))))))
+    (λ _. either-line Short _ _ _ (λ _. quiet (tab-silent _ _ t))
+    (λ _. either-line Short _ _ _ (λ _. quiet (erase-silent _ _ _ _ t))
+    (λ _. either-line Short _ _ _ (λ _. quiet (erase-silent _ _ _ _ t))
+    (λ _. either-line Short _ _ _ (λ _. quiet (rendition-silent _ _ t))
+    (λ _. either-line Short _ _ _ (λ _. quiet (mode-silent _ _ _ t))
+    (λ _. either-line Short _ _ _ (λ _. quiet (mode-silent _ _ _ t))
+    (λ _. status-short _ _ t)))))))
 
 event-short : (half : HalfRead) (event : Event) (t : Terminal) → sizeFits (t .state .size) (t .page) ≡ true → Short (eventStep half event t)
 unfolding eventStep bracketStep bytesOf
@@ -76,10 +76,11 @@ event-short half Nothing t fits = omega arith
 event-short half (Text byte) t fits = quiet (text-silent byte t)
 event-short half (Control byte) t fits = quiet (control-silent byte t)
 event-short half (EscCommand byte) t fits = esc-short byte t fits
-event-short half (BracketCommand final) t fits = either-line Short _ _ _ (λ _. omega arith) (λ _. listed-short final (half .arguments) (half .count) t)
-event-short half Refused t fits = omega arith
+event-short half (BracketCommand final) t fits = either-line Short _ _ _ (λ _. omega arith)
+    (λ _. either-line Short _ _ _ (λ _. omega arith) (λ _. listed-short final (half .arguments) (half .count) t))
+event-short half (Refused reason byte) t fits = omega arith
 
 pub step-short : (byte : ℕ) (t : Terminal) → sizeFits (t .state .size) (t .page) ≡ true → Short (hostStep byte t)
-unfolding hostStep settled
+unfolding hostStep
 step-short byte t fits =
     event-short (t .state .half) (advanceOf (t .state .half) byte .event) (withState t (withHalf (t .state) (advanceOf (t .state .half) byte .half))) fits

@@ -49,27 +49,27 @@ esc-silent byte t other =
     (λ _. either-line Silent _ _ _ (λ _. refl)
     (λ _. either-line Silent _ _ _ (λ _. refl) (λ _. refl))))))))))
 
-pub tab-silent : (what : ℕ) (t : Terminal) → Silent (tabControl what t)
+pub tab-silent : (final what : ℕ) (t : Terminal) → Silent (tabControl final what t)
 unfolding tabControl bytesOf
-tab-silent what t =
+tab-silent final what t =
     either-line Silent _ _ _ (λ _. refl)
     (λ _. either-line Silent _ _ _ (λ _. refl)
     (λ _. either-line Silent _ _ _ (λ _. refl) (λ _. refl)))
 
-pub erase-silent : (what first end : ℕ) (t : Terminal) → Silent (erasePart what first end t)
+pub erase-silent : (final what first end : ℕ) (t : Terminal) → Silent (erasePart final what first end t)
 unfolding erasePart erasing bytesOf
-erase-silent what first end t =
+erase-silent final what first end t =
     either-line Silent _ _ _ (λ _. refl)
     (λ _. either-line Silent _ _ _ (λ _. refl)
     (λ _. either-line Silent _ _ _ (λ _. refl) (λ _. refl)))
 
-pub rendition-silent : (values : List ℕ) (t : Terminal) → Silent (rendition values t)
+pub rendition-silent : (final : ℕ) (values : List ℕ) (t : Terminal) → Silent (rendition final values t)
 unfolding rendition bytesOf
-rendition-silent values t = either-line Silent _ _ _ (λ _. refl) (λ _. refl)
+rendition-silent final values t = either-line Silent _ _ _ (λ _. refl) (λ _. refl)
 
-pub mode-silent : (on : Bool) (values : List ℕ) (t : Terminal) → Silent (setMode on values t)
+pub mode-silent : (final : ℕ) (on : Bool) (values : List ℕ) (t : Terminal) → Silent (setMode final on values t)
 unfolding setMode bytesOf
-mode-silent on values t = either-line Silent _ _ _ (λ _. refl) (λ _. refl)
+mode-silent final on values t = either-line Silent _ _ _ (λ _. refl) (λ _. refl)
 
 pub move-silent : (final : ℕ) (arguments : List ℕ) (t : Terminal) → Silent (moveStep final arguments t)
 unfolding moveStep toColumn toRow toPlace bytesOf

@@ -1,5 +1,5 @@
 -- Every line of every table is sound, so every table is. The proofs follow the definitions line by line.
-use mathlib.Core.Path.{_≡_, refl, sym, _∙_}
+use mathlib.Core.Path.{_≡_, refl, sym, ap, _∙_}
 use mathlib.Core.Bool.{Bool, true, false}
 use mathlib.Core.List.{List}
 use Prim.Native.Nat.{ℕ, _+_, _*_, _<_, _≤_}
@@ -11,6 +11,8 @@ use lib.ListN.{length, take}
 use Rattle.words.specs.Choice.{if_then_else_}
 use Rattle.words.proofs.Choosing.{true-is-not-false, either-line, both}
 use Rattle.sequence.specs.declared.HalfRead.{HalfRead}
+use Rattle.sequence.specs.declared.Reason.{Reason}
+use Rattle.sequence.specs.declared.Reason.the-variants.{UnknownCommand, WrongArguments}
 use Rattle.sequence.specs.declared.Event.{Event}
 use Rattle.sequence.specs.declared.Event.the-variants.{Nothing, Text, Control, EscCommand, BracketCommand, Refused}
 use Rattle.sequence.specs.Reading.{advanceOf}
@@ -37,7 +39,7 @@ use Rattle.commands.specs.Commands.{freshStep, escStep, erasing, erasePa
 use Rattle.sending.specs.Sending.{sendBlock, readyReport, cursorReport, statusReport}
 use Rattle.table.specs.Moves.{toColumn, toRow, toPlace, moveStep}
 use Rattle.table.specs.Settings.{tabControl, rendition, setMode}
-use Rattle.commands.specs.Host.{eventStep, settledState, settled, hostStep}
+use Rattle.commands.specs.Host.{eventStep, hostStep}
 use Rattle.commands.proofs.Claims.{EndsEscS, Stores, no-cell, text-cell, erased-cells, all-cells, HostSound, EventSound}
 use Rattle.commands.proofs.Values.{some-value, zero-is-one, some-column, pen-after-all-keeps-pen}
 use Rattle.sequence.proofs.Events.{Tells, event-tells}
@@ -45,9 +47,9 @@ use Rattle.sequence.proofs.Events.{Tells, event-tells}
 then-keeps : {before between after : State} → KeepsValid before between → KeepsValid between after → KeepsValid before after
 then-keeps first second = record { size = second .size ∙ first .size; valid = second .valid }
 
-module _ (Asked : Type 0) (t : Terminal) (valid : Valid t) where
+module _ (Asked : Type 0) (byte : ℕ) (t : Terminal) (valid : Valid t) where
   abbrev Holds : Stepped → Type 0
-  Holds step = EventSound Asked t step
+  Holds step = EventSound Asked byte t step
 
   line : {test : Bool} {a b : Stepped} → (test ≡ true → Holds a) → Holds b → Holds (if test then a else b)
   line {test} {a} {b} first rest = either-line Holds test a b first (λ _. rest)
@@ -68,8 +70,12 @@ module _ (Asked : Type 0) (t : Terminal) (valid : Valid t) where
   goes : (s : State) → KeepsValid (t .state) s → Holds (goesTo s t)
   goes s keeps = done (silently refl no-cell (goes-soundly t valid s keeps)) refl
 
-  refuses : Holds (refusing t)
-  refuses = record { host = silently refl no-cell (refuses-soundly t valid); refusal = λ _. refl }
+  -- At a byte that is this one.
+  refuses : (reason : Reason) {at : ℕ} → byte ≡ at → Holds (refusing reason at t)
+  refuses reason {at} here = record {
+    host = silently refl no-cell (refuses-soundly t valid reason at);
+    refusal = λ _. record { reason = reason; is = ap (λ (b : ℕ). refusing reason b t) (sym here) };
+  }
 
   puts : {cells : List ℕ} {unlocks : Bool} {s : State} {page : Page} → Stores t cells → KeepsValid (t .state) s → Stored (t .page) cells unlocks page → Holds (stores cells unlocks s page)
   puts {cells} {unlocks} {s} {page} names keeps stored = done (silently refl names (stores-soundly t valid cells unlocks s page keeps stored)) refl
@@ -132,9 +138,9 @@ module _ (Asked : Type 0) (t : Terminal) (valid : Valid t) where
       line (λ _. goes _ (up-keeps-valid (t .state) (valid .state) 1))
       (puts all-cells stays (down-stored (t .page) (valid .page) same-lengths (t .state .size .columns) row-fits))
 
-  control-holds : (byte : ℕ) → Holds (controlStep byte t)
+  control-holds : (control : ℕ) → Holds (controlStep control t)
   unfolding controlStep
-  control-holds byte =
+  control-holds control =
       line (λ _. goes _ (left-keeps-valid (t .state) (valid .state) 1))
       (line (λ _. goes _ (tab-on-keeps-valid (t .state) (valid .state) 1))
       (line (λ _. line-down-holds (t .state) stays)
@@ -147,9 +153,9 @@ module _ (Asked : Type 0) (t : Terminal) (valid : Valid t) where
       puts all-cells (record { size = refl; valid = fresh-valid (t .state .size) (page-size .listed) })
       (blank-stored (t .page) (valid .page) same-lengths)
 
-  esc-holds : (byte : ℕ) → (byte ≡ 0x53 → Asked) → Holds (escStep byte t)
+  esc-holds : (command : ℕ) → byte ≡ command → (command ≡ 0x53 → Asked) → Holds (escStep command t)
   unfolding escStep nextLine
-  esc-holds byte asked =
+  esc-holds command here asked =
       let s = t .state in
       let ok = valid .state in
       let pen = parts s ok .pen in
@@ -159,10 +165,10 @@ module _ (Asked : Type 0) (t : Terminal) (valid : Valid t) where
       (line (λ _. goes _ (stop-set-keeps-valid s ok))
       (line (λ _. goes _ (pen-keeps-valid s ok _ (protected-keeps-pen (s .modes .pen) pen)))
       (line (λ _. goes _ (pen-keeps-valid s ok _ (unprotected-keeps-pen (s .modes .pen) pen)))
-      (line (λ e. full-block-holds (asked (eqb-true byte 0x53 e)))
+      (line (λ e. full-block-holds (asked (eqb-true command 0x53 e)))
       (line (λ _. fresh-holds)
       (line (λ _. goes _ (disabled-keeps-valid s ok))
-      (line (λ _. goes _ (enabled-keeps-valid s ok)) refuses)))))))))
+      (line (λ _. goes _ (enabled-keeps-valid s ok)) (refuses UnknownCommand here))))))))))
 
   -- Commands after ESC [, where the row or column is 1 at least.
   column-holds : (column : ℕ) → 1 ≤ column → Holds (toColumn column t)
@@ -172,64 +178,64 @@ module _ (Asked : Type 0) (t : Terminal) (valid : Valid t) where
       line (λ e. goes _ (cursor-keeps-valid (t .state) (valid .state) (t .state .cursor .row) column (here .row-least, here .row-most) (h, leb-true column (t .state .size .columns) e)))
       (goes _ stays)
 
-  row-holds : (row : ℕ) → 1 ≤ row → Holds (toRow row t)
+  row-holds : (final : ℕ) → byte ≡ final → (row : ℕ) → 1 ≤ row → Holds (toRow final row t)
   unfolding toRow
-  row-holds row h =
+  row-holds final ends row h =
       let here = cursor in
       line (λ e. goes _ (cursor-keeps-valid (t .state) (valid .state) row (t .state .cursor .column) (h, leb-true row (t .state .size .rows) e) (here .column-least, here .column-most)))
-      refuses
+      (refuses WrongArguments ends)
 
-  place-holds : (row column : ℕ) → 1 ≤ row → 1 ≤ column → Holds (toPlace row column t)
+  place-holds : (final : ℕ) → byte ≡ final → (row column : ℕ) → 1 ≤ row → 1 ≤ column → Holds (toPlace final row column t)
   unfolding toPlace
-  place-holds row column h k =
+  place-holds final ends row column h k =
       line (λ e. goes _ (cursor-keeps-valid (t .state) (valid .state) row column (h, leb-true row (t .state .size .rows) (both e .0)) (k, leb-true column (t .state .size .columns) (both e .1))))
-      refuses
+      (refuses WrongArguments ends)
 
-  tab-control-holds : (what : ℕ) → Holds (tabControl what t)
+  tab-control-holds : (final : ℕ) → byte ≡ final → (what : ℕ) → Holds (tabControl final what t)
   unfolding tabControl
-  tab-control-holds what =
+  tab-control-holds final ends what =
       line (λ _. goes _ (stop-set-keeps-valid (t .state) (valid .state)))
       (line (λ _. goes _ (stop-cleared-keeps-valid (t .state) (valid .state)))
-      (line (λ _. goes _ (stops-cleared-keeps-valid (t .state) (valid .state))) refuses))
+      (line (λ _. goes _ (stops-cleared-keeps-valid (t .state) (valid .state))) (refuses WrongArguments ends)))
 
   -- Erasing a range that has the cursor's cell.
   erasing-holds : (from to : ℕ) → from ≤ to → to ≤ length (t .page .marks) → Holds (erasing from to t)
   unfolding erasing
   erasing-holds from to h fits = puts (erased-cells from to) stays (erasing-stored (t .page) (valid .page) same-lengths (t .state .modes .erasure) from to h fits)
 
-  erase-part-holds : (what first end : ℕ) → first ≤ cursorCell (t .state) → cursorCell (t .state) < end → end ≤ length (t .page .marks) → Holds (erasePart what first end t)
+  erase-part-holds : (final : ℕ) → byte ≡ final → (what first end : ℕ) → first ≤ cursorCell (t .state) → cursorCell (t .state) < end → end ≤ length (t .page .marks) → Holds (erasePart final what first end t)
   unfolding erasePart
-  erase-part-holds what first end low high fits =
+  erase-part-holds final ends what first end low high fits =
       line (λ _. erasing-holds (cursorCell (t .state)) end (omega arith) fits)
       (line (λ _. erasing-holds first (cursorCell (t .state) + 1) (omega arith) (omega arith))
-      (line (λ _. erasing-holds first end (omega arith) fits) refuses))
+      (line (λ _. erasing-holds first end (omega arith) fits) (refuses WrongArguments ends)))
 
-  row-erased-holds : (what : ℕ) → Holds (erasePart what (rowStart (t .state)) (rowStart (t .state) + t .state .size .columns) t)
-  row-erased-holds what =
+  row-erased-holds : (final : ℕ) → byte ≡ final → (what : ℕ) → Holds (erasePart final what (rowStart (t .state)) (rowStart (t .state) + t .state .size .columns) t)
+  row-erased-holds final ends what =
       let here = cursor in
       let row = row-on-page t valid in
-      erase-part-holds what (rowStart (t .state)) (rowStart (t .state) + t .state .size .columns) (omega arith) (omega arith) (omega arith)
+      erase-part-holds final ends what (rowStart (t .state)) (rowStart (t .state) + t .state .size .columns) (omega arith) (omega arith) (omega arith)
 
-  rendition-holds : (values : List ℕ) → Holds (rendition values t)
+  rendition-holds : (final : ℕ) → byte ≡ final → (values : List ℕ) → Holds (rendition final values t)
   unfolding rendition
-  rendition-holds values =
-      line (λ _. goes _ (pen-keeps-valid (t .state) (valid .state) _ (pen-after-all-keeps-pen values (t .state .modes .pen) (parts (t .state) (valid .state) .pen)))) refuses
+  rendition-holds final ends values =
+      line (λ _. goes _ (pen-keeps-valid (t .state) (valid .state) _ (pen-after-all-keeps-pen values (t .state .modes .pen) (parts (t .state) (valid .state) .pen)))) (refuses WrongArguments ends)
 
-  mode-holds : (on : Bool) (values : List ℕ) → Holds (setMode on values t)
+  mode-holds : (final : ℕ) → byte ≡ final → (on : Bool) (values : List ℕ) → Holds (setMode final on values t)
   unfolding setMode
-  mode-holds on values = line (λ _. goes _ (erasure-keeps-valid (t .state) (valid .state) on)) refuses
+  mode-holds final ends on values = line (λ _. goes _ (erasure-keeps-valid (t .state) (valid .state) on)) (refuses WrongArguments ends)
 
-  status-holds : (what : ℕ) → Holds (statusReport what t)
+  status-holds : (final : ℕ) → byte ≡ final → (what : ℕ) → Holds (statusReport final what t)
   unfolding statusReport readyReport cursorReport
-  status-holds what =
+  status-holds final ends what =
       let here = cursor in
       let bounds = size-bounds (t .state .size) (page-size .listed) in
       line (λ _. reports _ ready-is-report)
-      (line (λ _. reports _ (cursor-is-report (t .state .cursor .row) (t .state .cursor .column) (omega arith) (omega arith))) refuses)
+      (line (λ _. reports _ (cursor-is-report (t .state .cursor .row) (t .state .cursor .column) (omega arith) (omega arith))) (refuses WrongArguments ends))
 
-  move-holds : (final : ℕ) (arguments : List ℕ) → Holds (moveStep final arguments t)
+  move-holds : (final : ℕ) → byte ≡ final → (arguments : List ℕ) → Holds (moveStep final arguments t)
   unfolding moveStep
-  move-holds final arguments =
+  move-holds final ends arguments =
       let s = t .state in
       let ok = valid .state in
       let here = cursor in
@@ -242,36 +248,38 @@ module _ (Asked : Type 0) (t : Terminal) (valid : Valid t) where
       (line (λ _. let down = down-keeps-valid s ok n in goes _ (then-keeps down (margin-keeps-valid _ (down .valid))))
       (line (λ _. let up = up-keeps-valid s ok n in goes _ (then-keeps up (margin-keeps-valid _ (up .valid))))
       (line (λ e. column-holds _ (some 0x47 0 e (zero-is-one .0)))
-      (line (λ e. row-holds _ (some 0x64 0 e (zero-is-one .1)))
-      (line (λ e. place-holds _ _ (some 0x48 0 e (zero-is-one .2)) (some 0x48 1 e (zero-is-one .2)))
-      (line (λ e. place-holds _ _ (some 0x66 0 e (zero-is-one .3)) (some-column _ _ _ _ (some 0x66 1 e (zero-is-one .3)) (here .column-least)))
+      (line (λ e. row-holds final ends _ (some 0x64 0 e (zero-is-one .1)))
+      (line (λ e. place-holds final ends _ _ (some 0x48 0 e (zero-is-one .2)) (some 0x48 1 e (zero-is-one .2)))
+      (line (λ e. place-holds final ends _ _ (some 0x66 0 e (zero-is-one .3)) (some-column _ _ _ _ (some 0x66 1 e (zero-is-one .3)) (here .column-least)))
       (line (λ _. goes _ (tab-on-keeps-valid s ok n)) (goes _ (tab-back-keeps-valid s ok n))))))))))))
 
-  listed-holds : (final : ℕ) (arguments : List ℕ) (count : ℕ) → Holds (listedStep final arguments count t)
+  listed-holds : (final : ℕ) → byte ≡ final → (arguments : List ℕ) (count : ℕ) → Holds (listedStep final arguments count t)
   unfolding listedStep
-  listed-holds final arguments count =
+  listed-holds final ends arguments count =
       let n = valueOf final arguments 0 in
-      line (λ _. move-holds final arguments)
-      (line (λ _. tab-control-holds n)
-      (line (λ _. erase-part-holds n 0 (cells (t .page)) (omega arith) (rw (← same-lengths) (cursor-on-page t valid)) (rw same-lengths (omega arith)))
-      (line (λ _. row-erased-holds n)
-      (line (λ _. rendition-holds (take count arguments))
-      (line (λ _. mode-holds true (take count arguments))
-      (line (λ _. mode-holds false (take count arguments)) (status-holds n)))))))
+      line (λ _. move-holds final ends arguments)
+      (line (λ _. tab-control-holds final ends n)
+      (line (λ _. erase-part-holds final ends n 0 (cells (t .page)) (omega arith) (rw (← same-lengths) (cursor-on-page t valid)) (rw same-lengths (omega arith)))
+      (line (λ _. row-erased-holds final ends n)
+      (line (λ _. rendition-holds final ends (take count arguments))
+      (line (λ _. mode-holds final ends true (take count arguments))
+      (line (λ _. mode-holds final ends false (take count arguments)) (status-holds final ends n)))))))
 
-  bracket-holds : (final : ℕ) (half : HalfRead) → Holds (bracketStep final half t)
+  bracket-holds : (final : ℕ) → byte ≡ final → (half : HalfRead) → Holds (bracketStep final half t)
   unfolding bracketStep
-  bracket-holds final half = line (λ _. refuses) (listed-holds final (half .arguments) (half .count))
+  bracket-holds final ends half =
+      line (λ _. refuses UnknownCommand ends)
+      (line (λ _. refuses WrongArguments ends) (listed-holds final ends (half .arguments) (half .count)))
 
 -- What an event does; only ESC S asks for a full block.
-event-holds : (half : HalfRead) (byte : ℕ) (event : Event) (t : Terminal) → Valid t → Tells half byte event → EventSound (EndsEscS half byte) t (eventStep half event t)
+event-holds : (half : HalfRead) (byte : ℕ) (event : Event) (t : Terminal) → Valid t → Tells half byte event → EventSound (EndsEscS half byte) byte t (eventStep half event t)
 unfolding eventStep Tells
-event-holds half byte Nothing t valid _ = goes (EndsEscS half byte) t valid (t .state) (stays (EndsEscS half byte) t valid)
-event-holds half byte (Text character) t valid is = text-holds (EndsEscS half byte) t valid character is
-event-holds half byte (Control control) t valid _ = control-holds (EndsEscS half byte) t valid control
-event-holds half byte (EscCommand command) t valid came = esc-holds (EndsEscS half byte) t valid command (λ e. (came .0, came .1 ∙ e))
-event-holds half byte (BracketCommand final) t valid _ = bracket-holds (EndsEscS half byte) t valid final half
-event-holds half byte Refused t valid _ = refuses (EndsEscS half byte) t valid
+event-holds half byte Nothing t valid _ = goes (EndsEscS half byte) byte t valid (t .state) (stays (EndsEscS half byte) byte t valid)
+event-holds half byte (Text character) t valid is = text-holds (EndsEscS half byte) byte t valid character is
+event-holds half byte (Control control) t valid _ = control-holds (EndsEscS half byte) byte t valid control
+event-holds half byte (EscCommand command) t valid came = esc-holds (EndsEscS half byte) byte t valid command (came .1) (λ e. (came .0, came .1 ∙ e))
+event-holds half byte (BracketCommand final) t valid came = bracket-holds (EndsEscS half byte) byte t valid final (came .2) half
+event-holds half byte (Refused reason at) t valid here = refuses (EndsEscS half byte) byte t valid reason here
 
 -- The claims say nothing of the half-read record before.
 whatever-half-stores : (t : Terminal) (half : HalfRead) {cells : List ℕ} → Stores (withState t (withHalf (t .state) half)) cells → Stores t cells
@@ -295,32 +303,10 @@ whatever-half-read Asked t half step holds = let sound = holds .sound in record 
   is-report = holds .is-report;
 }
 
--- Settling changes the locks alone, and leaves them valid.
-settled-keeps-valid : (s : State) → validState s ≡ true → (wasRefused : Bool) → KeepsValid s (settledState wasRefused s)
-unfolding settledState if_then_else_
-settled-keeps-valid s ok true = refused-keeps-valid s ok
-settled-keeps-valid s ok false = record { size = refl; valid = ok }
-
-settled-holds : (Asked : Type 0) (t : Terminal) (step : Stepped) → HostSound Asked t step → HostSound Asked t (settled step)
-unfolding settled
-settled-holds Asked t step holds = let sound = holds .sound in let keeps = settled-keeps-valid (step .terminal .state) (sound .valid .state) (step .wasRefused) in record {
-  sound = record {
-    valid = record { size = rw (keeps .size) (sound .valid .size); state = keeps .valid; page = sound .valid .page };
-    size = keeps .size ∙ sound .size;
-    touches = sound .touches;
-    once = sound .once;
-    protection = sound .protection;
-  };
-  stored = holds .stored;
-  full-block = λ bytes e. let full = holds .full-block bytes e in record { asked = full .asked; of-page = full .of-page; no-cell = full .no-cell };
-  no-changed-block = holds .no-changed-block;
-  is-report = holds .is-report;
-}
-
--- What is left of a refused command, which did nothing.
-refusal-settled : (t : Terminal) (half : HalfRead) → Refusal t (settled (refusing (withState t (withHalf (t .state) half))))
-unfolding settled settledState refused if_then_else_
-refusal-settled t half = record {
+-- What is left of a refused command, which did nothing else.
+refusal-left : (reason : Reason) (byte : ℕ) (t : Terminal) (half : HalfRead) → Refusal t (refusing reason byte (withState t (withHalf (t .state) half)))
+unfolding refused
+refusal-left reason byte t half = record {
   soft-lock = refl;
   invalid-command = refl;
   manual-lock = refl;
@@ -338,7 +324,7 @@ module _ (byte : ℕ) (t : Terminal) (valid : Valid t) where
   abbrev next : Terminal
   next = withState t (withHalf (t .state) (advanceOf (t .state .half) byte .half))
 
-  byte-holds : EventSound (EndsEscS (t .state .half) byte) next (eventStep (t .state .half) (advanceOf (t .state .half) byte .event) next)
+  byte-holds : EventSound (EndsEscS (t .state .half) byte) byte next (eventStep (t .state .half) (advanceOf (t .state .half) byte .event) next)
   byte-holds =
       let keeps = half-keeps-valid (t .state) (valid .state) (next .state .half) (advance-keeps (t .state .half) byte (parts (t .state) (valid .state) .half)) in
       let still : Valid next = record { size = valid .size; state = keeps .valid; page = valid .page } in
@@ -346,8 +332,8 @@ module _ (byte : ℕ) (t : Terminal) (valid : Valid t) where
 
   pub host-holds : HostSound (EndsEscS (t .state .half) byte) t (hostStep byte t)
   unfolding hostStep
-  host-holds = settled-holds _ t _ (whatever-half-read _ t (next .state .half) _ (byte-holds .host))
+  host-holds = whatever-half-read _ t (next .state .half) _ (byte-holds .host)
 
   pub host-refusal : hostStep byte t .wasRefused ≡ true → Refusal t (hostStep byte t)
-  unfolding hostStep settled
-  host-refusal was = rw (byte-holds .refusal was) (refusal-settled t (next .state .half))
+  unfolding hostStep
+  host-refusal was = let refusal = byte-holds .refusal was in rw (refusal .is) (refusal-left (refusal .reason) byte t (next .state .half))

@@ -11,6 +11,7 @@ use Rattle.words.specs.Choice.{if_then_else_}
 use Rattle.words.proofs.Elements.{place-passes, place-listed, run-length}
 use Rattle.page.specs.Page.{Page, cells, erasable, cellsErased}
 use Rattle.blocks.proofs.Claims.{IsReport}
+use Rattle.sequence.specs.declared.Reason.{Reason}
 use Rattle.state.specs.declared.State.{State}
 use Rattle.state.specs.Moves.{toMargin}
 use Rattle.steps.specs.Steps.{Terminal, Transmission, report, fullBlock, changedBlock, Stepped, goesTo, sends, refusing, allCells, Valid}
@@ -117,8 +118,8 @@ module _ (t : Terminal) where
   pub state-count : (s : State) → counted (goesTo s t) ≡ 0
   state-count s = refl
 
-  pub refusal-count : counted (refusing t) ≡ 0
-  refusal-count = refl
+  pub refusal-count : (reason : Reason) (byte : ℕ) → counted (refusing reason byte t) ≡ 0
+  refusal-count reason byte = refl
 
   pub transmission-count : (transmission : Transmission) (s : State) (page : Page) → counted (sends transmission s page) ≡ 0
   transmission-count transmission s page = refl

@@ -7,6 +7,7 @@ use lib.Dec.{ltb, eqb}
 use lib.ListN.{length, take, replicate}
 use Rattle.words.specs.Choice.{if_then_else_}
 use Rattle.sequence.specs.declared.HalfRead.{HalfRead}
+use Rattle.sequence.specs.declared.Reason.the-variants.{UnknownCommand, WrongArguments}
 use Rattle.page.specs.Page.{pageOf, cells, erased, cellsErased}
 use Rattle.state.specs.State.{freshState, inputDisabled, inputEnabled}
 use Rattle.state.specs.Tabs.{stopSet}
@@ -37,7 +38,7 @@ escStep byte t =
     else if eqb byte (code "c") then freshStep t  -- RIS
     else if eqb byte (code "`") then goesTo (inputDisabled (t .state)) t  -- DMI
     else if eqb byte (code "b") then goesTo (inputEnabled (t .state)) t  -- EMI
-    else refusing t
+    else refusing UnknownCommand byte t
 
 -- Erasing leaves the cursor; with erasure mode set it may unprotect cells.
 unfoldable pub erasing : ℕ → ℕ → Terminal → Stepped
@@ -46,12 +47,12 @@ erasing from end t =
     stores (cellsErased erasure from end (t .page)) erasure (t .state) (erased erasure from end (t .page))
 
 -- ED and EL, in a range of cells: what comes after the cursor, what comes before it, each with its cell, or everything.
-unfoldable pub erasePart : ℕ → ℕ → ℕ → Terminal → Stepped
-erasePart what first end t =
+unfoldable pub erasePart : ℕ → ℕ → ℕ → ℕ → Terminal → Stepped
+erasePart final what first end t =
     if eqb what 0 then erasing (cursorCell (t .state)) end t
     else if eqb what 1 then erasing first (cursorCell (t .state) + 1) t
     else if eqb what 2 then erasing first end t
-    else refusing t
+    else refusing WrongArguments final t
 
 -- After ESC [, by final byte. Only one that is listed, with no more arguments than allowed, comes here (`bracketStep`),
 -- so the last line is n.
@@ -59,17 +60,19 @@ unfoldable pub listedStep : ℕ → List ℕ → ℕ → Terminal → Stepped
 listedStep final arguments count t =
     let first = valueOf final arguments 0 in
     if isMove final then moveStep final arguments t
-    else if eqb final (code "W") then tabControl first t  -- CTC
-    else if eqb final (code "J") then erasePart first 0 (cells (t .page)) t  -- ED
+    else if eqb final (code "W") then tabControl final first t  -- CTC
+    else if eqb final (code "J") then erasePart final first 0 (cells (t .page)) t  -- ED
     else if eqb final (code "K") then
-    erasePart first (rowStart (t .state)) (rowStart (t .state) + t .state .size .columns) t  -- EL
-    else if eqb final (code "m") then rendition (take count arguments) t  -- SGR
-    else if eqb final (code "h") then setMode true (take count arguments) t  -- SM
-    else if eqb final (code "l") then setMode false (take count arguments) t  -- RM
-    else statusReport first t  -- n: DSR
+    erasePart final first (rowStart (t .state)) (rowStart (t .state) + t .state .size .columns) t  -- EL
+    else if eqb final (code "m") then rendition final (take count arguments) t  -- SGR
+    else if eqb final (code "h") then setMode final true (take count arguments) t  -- SM
+    else if eqb final (code "l") then setMode final false (take count arguments) t  -- RM
+    else statusReport final first t  -- n: DSR
 
--- The table is consulted before anything else: a command not listed, or with more arguments, is refused.
+-- The table is consulted before anything else: a command that isn't listed is unknown, and one with more arguments than
+-- it may have is refused too.
 unfoldable pub bracketStep : ℕ → HalfRead → Terminal → Stepped
 bracketStep final half t =
-    if ltb (allowed final .most) (half .count) then refusing t
+    if eqb (allowed final .most) 0 then refusing UnknownCommand final t
+    else if ltb (allowed final .most) (half .count) then refusing WrongArguments final t
     else listedStep final (half .arguments) (half .count) t

@@ -1,14 +1,11 @@
 -- The step of a host byte.
-use mathlib.Core.Bool.{Bool}
 use mathlib.Core.Path.{_≡_}
 use Prim.Native.Nat.{ℕ, _≤_}
-use Rattle.words.specs.Choice.{if_then_else_}
 use Rattle.sequence.specs.declared.HalfRead.{HalfRead}
 use Rattle.sequence.specs.declared.Event.{Event}
 use Rattle.sequence.specs.declared.Event.the-variants.{Nothing, Text, Control, EscCommand, BracketCommand, Refused}
 use Rattle.sequence.specs.Reading.{advanceOf}
-use Rattle.state.specs.declared.State.{State}
-use Rattle.state.specs.State.{withHalf, refused}
+use Rattle.state.specs.State.{withHalf}
 use Rattle.steps.specs.Steps.{Terminal, Stepped, withState, goesTo, refusing}
 use Rattle.commands.specs.Text.{textStep, controlStep}
 use Rattle.commands.specs.Commands.{escStep, bracketStep}
@@ -20,31 +17,14 @@ eventStep half (Text byte) t = textStep byte t
 eventStep half (Control byte) t = controlStep byte t
 eventStep half (EscCommand byte) t = escStep byte t
 eventStep half (BracketCommand final) t = bracketStep final half t
-eventStep half Refused t = refusing t
+eventStep half (Refused reason byte) t = refusing reason byte t
 
 -- The final byte of a command of ESC [ is one that the table by final byte has.
 abbrev pub FinalInTable : Event → Type 0
 FinalInTable event = (final : ℕ) → event ≡ BracketCommand final → (0x40 ≤ final) × (final ≤ 0x7E)
 
--- "Reading host bytes", a refused command: it sets the soft lock and message 1 and changes nothing else. This is the
--- one place that says so, whatever was refused, a command, a sequence or a byte.
-unfoldable pub settledState : Bool → State → State
-settledState wasRefused s =
-    if wasRefused then refused s
-    else s
-
-unfoldable pub settled : Stepped → Stepped
-settled step =
-    record {
-      terminal = withState (step .terminal) (settledState (step .wasRefused) (step .terminal .state));
-      transmission = step .transmission;
-      cells = step .cells;
-      wasRefused = step .wasRefused;
-      protection = step .protection;
-    }
-
--- The half-read record is advanced, the event acts on the terminal that has it, and what it did is settled.
+-- The half-read record is advanced, and the event acts on the terminal that has it.
 unfoldable pub hostStep : ℕ → Terminal → Stepped
 hostStep byte t =
     let advanced = advanceOf (t .state .half) byte in
-    settled (eventStep (t .state .half) (advanced .event) (withState t (withHalf (t .state) (advanced .half))))
+    eventStep (t .state .half) (advanced .event) (withState t (withHalf (t .state) (advanced .half)))

@@ -2,6 +2,7 @@
 // What each function leaves is defined in specs/.
 use page::Mark;
 use sequence::Event;
+use sequence::Reason;
 use state::State;
 use steps::Step;
 ghost use mathlib.Core.Path.{_≡_};
@@ -12,7 +13,7 @@ ghost use Rattle.steps.specs.Steps.{Valid, cursorCell, rowStart, terminalOf};
 ghost use Rattle.steps.specs.Told.{told, tells, written};
 ghost use Rattle.commands.specs.Text.{textStep, lineDown, lineUp, controlStep};
 ghost use Rattle.commands.specs.Commands.{freshStep, escStep, erasing, erasePart, bracketStep};
-ghost use Rattle.commands.specs.Host.{FinalInTable, eventStep, settledState, hostStep};
+ghost use Rattle.commands.specs.Host.{FinalInTable, eventStep, hostStep};
 
 // Text: the cursor's cell takes the character, and the cursor goes on.
 fn text(state: State, characters: &mut [u8], marks: &mut [Mark], character: u8) -> Step
@@ -101,7 +102,7 @@ fn silent_esc_step(state: State, characters: &mut [u8], marks: &mut [Mark], byte
         b'c' => fresh(state, characters, marks), // RIS
         b'`' => steps::quiet(state.disable_input()), // DMI
         b'b' => steps::quiet(state.enable_input()), // EMI
-        _ => steps::refuse(state),
+        _ => steps::refuse(state, Reason::UnknownCommand, byte),
     }
 }
 
@@ -127,6 +128,7 @@ fn erase_part(
     state: State,
     characters: &mut [u8],
     marks: &mut [Mark],
+    letter: u8,
     what: usize,
     first: usize,
     end: usize,
@@ -135,7 +137,7 @@ fn erase_part(
     requires { ⌜ (first ≤ cursorCell state) × (cursorCell state + 1 ≤ end) × (end ≤ length (now marks)) ⌝ }
     ensures { λ r. ⌜
         told r (pageOf (now (characters .exit)) (now (marks .exit)))
-        ≡ tells (erasePart what first end (terminalOf state (now (characters .entry)) (now (marks .entry)))) ⌝ }
+        ≡ tells (erasePart letter what first end (terminalOf state (now (characters .entry)) (now (marks .entry)))) ⌝ }
 {
     let place = state.place();
     let cell = place.cell;
@@ -143,16 +145,22 @@ fn erase_part(
         0 => erase_cells(state, characters, marks, cell, end),
         1 => erase_cells(state, characters, marks, first, cell + 1),
         2 => erase_cells(state, characters, marks, first, end),
-        _ => steps::refuse(state),
+        _ => steps::refuse(state, Reason::WrongArguments, letter),
     }
 }
 
 // EL.
-fn erase_row(state: State, characters: &mut [u8], marks: &mut [Mark], what: usize) -> Step
+fn erase_row(
+    state: State,
+    characters: &mut [u8],
+    marks: &mut [Mark],
+    letter: u8,
+    what: usize,
+) -> Step
     requires { ⌜ Valid (terminalOf state (now characters) (now marks)) ⌝ }
     ensures { λ r. ⌜
         told r (pageOf (now (characters .exit)) (now (marks .exit)))
-        ≡ tells (erasePart what (rowStart state) (rowStart state + state .size .columns)
+        ≡ tells (erasePart letter what (rowStart state) (rowStart state + state .size .columns)
         (terminalOf state (now (characters .entry)) (now (marks .entry)))) ⌝ }
 {
     let place = state.place();
@@ -161,6 +169,7 @@ fn erase_row(state: State, characters: &mut [u8], marks: &mut [Mark], what: usiz
         state,
         characters,
         marks,
+        letter,
         what,
         first,
         first + state.size.columns,
@@ -212,8 +221,12 @@ fn bracket_step(
     let half = before.half;
     let arguments = half.arguments;
     let count = half.count;
-    if table::most_arguments(letter) < count {
-        return steps::refuse(state);
+    let most = table::most_arguments(letter);
+    if most == 0 { // not listed
+        return steps::refuse(state, Reason::UnknownCommand, letter);
+    }
+    if most < count {
+        return steps::refuse(state, Reason::WrongArguments, letter);
     }
     if table::moves::is_move(letter) {
         return table::moves::move_command(state, letter, arguments);
@@ -221,13 +234,13 @@ fn bracket_step(
     let what = table::value(letter, arguments, 0);
     let cells = characters.len();
     match letter {
-        b'W' => table::settings::tab_control(state, what), // CTC
-        b'J' => erase_part(state, characters, marks, what, 0, cells), // ED
-        b'K' => erase_row(state, characters, marks, what), // EL
-        b'm' => table::settings::rendition(state, arguments, count as usize), // SGR
-        b'h' => table::settings::set_mode(state, true, arguments, count as usize), // SM
-        b'l' => table::settings::set_mode(state, false, arguments, count as usize), // RM
-        _ => sending::status_report(state, before, out, at, what), // n: DSR
+        b'W' => table::settings::tab_control(state, letter, what), // CTC
+        b'J' => erase_part(state, characters, marks, letter, what, 0, cells), // ED
+        b'K' => erase_row(state, characters, marks, letter, what), // EL
+        b'm' => table::settings::rendition(state, letter, arguments, count as usize), // SGR
+        b'h' => table::settings::set_mode(state, letter, true, arguments, count as usize), // SM
+        b'l' => table::settings::set_mode(state, letter, false, arguments, count as usize), // RM
+        _ => sending::status_report(state, before, out, at, letter, what), // n: DSR
     }
 }
 
@@ -263,27 +276,8 @@ fn event_step(
             at,
             letter,
         ),
-        Event::Refused => steps::refuse(state),
+        Event::Refused(reason, byte) => steps::refuse(state, reason, byte),
     }
-}
-
-// A refused command sets the soft lock and message 1, and nothing else: every refusal of a command comes through here.
-fn settle(step: Step) -> Step
-    ensures { λ r. ⌜ r ≡ record {
-      state = settledState (step .refused) (step .state);
-      stored = step .stored;
-      sent = step .sent;
-      refused = step .refused;
-      protection = step .protection;
-      exceeds = step .exceeds;
-    } ⌝ }
-{
-    if step.refused {
-        let mut settled = step;
-        settled.state = step.state.refuse();
-        return settled;
-    }
-    step
 }
 
 // The step of a host byte. Its transmission is written into the output from `at` on; where it doesn't fit nothing
@@ -308,5 +302,5 @@ pub fn step(
     let advanced = half.advance(byte);
     let next = state.with_half(advanced.half);
     let event = advanced.event;
-    settle(event_step(next, state, characters, marks, out, at, event))
+    event_step(next, state, characters, marks, out, at, event)
 }

@@ -29,7 +29,7 @@ module _ (t : Terminal) where
   unfolding stepOf keyStep isTyping eventStep escStep sendBlock if_then_else_ _is_to_ _and_
   block-asked _ _ changed-by-266 = refl
   block-asked _ _ full-by-267 = refl
-  block-asked _ _ (full-by-esc-s after-esc) = ap (λ (s : Stepped). s .transmission) (step-is t 0x53 (s-event (t .state .half) after-esc) refl refl)
+  block-asked _ _ (full-by-esc-s after-esc) = ap (λ (s : Stepped). s .transmission) (step-is t 0x53 (s-event (t .state .half) after-esc) refl)
 
   block-sent : Valid t → (full : Bool) (input : Input) (bytes : List ℕ) → stepOf ourRules input t .transmission ≡ blockTransmission full bytes → Asks t full input × (bytes ≡ blockHere full t)
   unfolding stepOf blockTransmission

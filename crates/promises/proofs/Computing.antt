@@ -25,7 +25,7 @@ use Rattle.commands.specs.Text.{textStep}
 use Rattle.sending.specs.Sending.{sendBlock, readyReport, cursorReport, statusReport}
 use Rattle.table.specs.Moves.{toPlace, keptColumn, isMove, moveStep}
 use Rattle.commands.specs.Commands.{escStep, listedStep, bracketStep}
-use Rattle.commands.specs.Host.{eventStep, settledState, settled, hostStep}
+use Rattle.commands.specs.Host.{eventStep, hostStep}
 use Rattle.keys.specs.Keys.{isTyping, isEditing, isFieldMove, isKnown, isLocked, isLockedOut, lacksCell, goneTo, typedStep, fieldBlanked, keyStep}
 use Rattle.terminal.specs.Runs.{stepsOf, fitting, after, bytesSentBy, cellsStoredBy, countOf, refusedBy, protectionBy}
 use Rattle.terminal.specs.Answers.{numberOf, unchanged, afterSteps, changesNothing, gives}
@@ -59,7 +59,7 @@ finding = tt
 
 -- The steps of host bytes and of keys.
 unfoldable pub hostSteps : Unit {0}
-unfolding tests withDigit withNextArgument isControl isCancel outsideSequence afterEsc afterIntermediate afterBracket insideSequence advanceOf textStored markAfterBlock modifiedCleared eachFrom refused inputDisabled decimal placeBytes bytesOf blockTransmission allowed valueOf toPlace keptColumn toNextCell textStep sendBlock escStep readyReport cursorReport statusReport isMove moveStep listedStep bracketStep eventStep settledState settled hostStep
+unfolding tests withDigit withNextArgument isControl isCancel outsideSequence afterEsc afterIntermediate afterBracket insideSequence advanceOf textStored markAfterBlock modifiedCleared eachFrom refused inputDisabled decimal placeBytes bytesOf blockTransmission allowed valueOf toPlace keptColumn toNextCell textStep sendBlock escStep readyReport cursorReport statusReport isMove moveStep listedStep bracketStep eventStep hostStep
 hostSteps = tt
 
 unfoldable pub keySteps : Unit {0}

@@ -34,7 +34,7 @@ last-event = refl
 last-leads : (t : Terminal) → t .state .half ≡ nothingRead → Leads t (0x03 ∷ []) (reading t nothingRead)
 unfolding eventStep
 last-leads t nothing =
-    leads-on 0x03 (step-is t 0x03 (ap (λ (half : HalfRead). advanceOf half 0x03) nothing ∙ last-event) refl refl) refl refl (arrived refl)
+    leads-on 0x03 (step-is t 0x03 (ap (λ (half : HalfRead). advanceOf half 0x03) nothing ∙ last-event) refl) refl refl (arrived refl)
 
 -- A place's row and column are on the page, and they are the cell's.
 record RightPlace (size : Size) (cell : ℕ) (place : Place) : Type 0 where

@@ -109,7 +109,7 @@ unfolding valueOf
 value-is final arguments i some = else-case _ _ _ (ne-eqb (getD arguments i 0) 0 (λ e. omega arith))
 
 module _ (t : Terminal) (row column : ℕ) (some-row : 1 ≤ row) (row-fits : row ≤ t .state .size .rows) (some-column : 1 ≤ column) (column-fits : column ≤ t .state .size .columns) where
-  goes-there : toPlace row column (reading t nothingRead) ≡ placing t row column
+  goes-there : toPlace 0x66 row column (reading t nothingRead) ≡ placing t row column
   unfolding toPlace
   goes-there = then-case _ _ _ (both-hold _ _ (le-leb _ _ row-fits) (le-leb _ _ column-fits))
 
@@ -125,7 +125,7 @@ module _ (t : Terminal) (row column : ℕ) (some-row : 1 ≤ row) (row-fits : ro
 
   final-step : hostStep 0x66 (reading t (columnRead row column)) ≡ placing t row column
   unfolding eventStep
-  final-step = step-is (reading t (columnRead row column)) 0x66 (final-event row column) final-acts refl
+  final-step = step-is (reading t (columnRead row column)) 0x66 (final-event row column) final-acts
 
   pub place-leads : row < 1000 → column < 1000 → Leads t (placeBytes row column 0x66) (placedAt t row column)
   unfolding placeBytes

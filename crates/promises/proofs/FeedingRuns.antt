@@ -9,8 +9,7 @@ use Rattle.sequence.specs.declared.Advanced.{Advanced}
 use Rattle.sequence.specs.Reading.{readsOn, advanceOf}
 use Rattle.state.specs.State.{withHalf}
 use Rattle.steps.specs.Steps.{Terminal, silent, Stepped, withState, goesTo, Valid}
-use Rattle.commands.specs.Host.{eventStep, settled, hostStep}
-use Rattle.commands.proofs.Stepping.{settled-same}
+use Rattle.commands.specs.Host.{eventStep, hostStep}
 use Rattle.commands.proofs.Theorems.{step-keeps-valid, step-keeps-size}
 use Rattle.promises.specs.Rules.{ourRules, stepOf, steps, byteSteps}
 
@@ -18,16 +17,14 @@ use Rattle.promises.specs.Rules.{ourRules, stepOf, steps, byteSteps}
 abbrev pub reading : Terminal → HalfRead → Terminal
 reading t half = withState t (withHalf (t .state) half)
 
--- The step of a byte, by the record and the event to which it leads, where it isn't refused; and of one that is only
--- read on.
-pub step-is : (t : Terminal) (next : ℕ) {advanced : Advanced} {step : Stepped} → advanceOf (t .state .half) next ≡ advanced → eventStep (t .state .half) (advanced .event) (reading t (advanced .half)) ≡ step → step .wasRefused ≡ false → hostStep next t ≡ step
+-- The step of a byte, by the record and the event to which it leads; and of one that is only read on.
+pub step-is : (t : Terminal) (next : ℕ) {advanced : Advanced} {step : Stepped} → advanceOf (t .state .half) next ≡ advanced → eventStep (t .state .half) (advanced .event) (reading t (advanced .half)) ≡ step → hostStep next t ≡ step
 unfolding hostStep
-step-is t next {step = step} is acts accepted =
-    ap (λ (a : Advanced). settled (eventStep (t .state .half) (a .event) (reading t (a .half)))) is ∙ ap settled acts ∙ settled-same step accepted
+step-is t next is acts = ap (λ (a : Advanced). eventStep (t .state .half) (a .event) (reading t (a .half))) is ∙ acts
 
 pub reads-on : (t : Terminal) (next : ℕ) {half : HalfRead} → advanceOf (t .state .half) next ≡ readsOn half → hostStep next t ≡ goesTo (withHalf (t .state) half) t
 unfolding eventStep
-reads-on t next on = step-is t next on refl refl
+reads-on t next on = step-is t next on refl
 
 pub record Quiet (step : Stepped) : Type 0 where
   pub nothing-sent : step .transmission ≡ silent

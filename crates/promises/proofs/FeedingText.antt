@@ -37,7 +37,7 @@ text-step : (t : Terminal) (character : ℕ) → t .state .half ≡ nothingRead 
 unfolding eventStep textStep
 text-step t character nothing printable =
     step-is t character (ap (λ (half : HalfRead). advanceOf half character) nothing ∙ text-event character printable)
-    (ap (λ (half : HalfRead). textStep character (reading t half)) (sym nothing)) refl
+    (ap (λ (half : HalfRead). textStep character (reading t half)) (sym nothing))
 
 -- After text: half-read record and modes stay, and the cursor goes on by one cell, but from the last.
 next-keeps : (s : State) → (toNextCell s .half ≡ s .half) × (toNextCell s .modes ≡ s .modes)

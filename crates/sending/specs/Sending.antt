@@ -7,6 +7,7 @@ use lib.Dec.{eqb}
 use Rattle.words.specs.Choice.{if_then_else_}
 use Rattle.page.specs.Page.{pageOf, modifiedCleared}
 use Rattle.output.specs.Decimal.{placeBytes}
+use Rattle.sequence.specs.declared.Reason.the-variants.{WrongArguments}
 use Rattle.steps.specs.Steps.{Terminal, report, blockTransmission, Stepped, sends, refusing}
 use Rattle.steps.specs.Seen.{blockHere}
 
@@ -21,11 +22,11 @@ unfoldable pub cursorReport : Terminal → Stepped
 cursorReport t =
     sends (report (placeBytes (t .state .cursor .row) (t .state .cursor .column) (code "R"))) (t .state) (t .page)
 
-unfoldable pub statusReport : ℕ → Terminal → Stepped
-statusReport what t =
+unfoldable pub statusReport : ℕ → ℕ → Terminal → Stepped
+statusReport final what t =
     if eqb what 5 then readyReport t
     else if eqb what 6 then cursorReport t
-    else refusing t
+    else refusing WrongArguments final t
 
 -- A block is sent, full or changed; sending clears modified. ESC S sends a full one.
 unfoldable pub sendBlock : Bool → Terminal → Stepped

@@ -2,6 +2,7 @@
 // `before` is the state before the command's last byte; it is handed back where the transmission doesn't fit, and then
 // nothing happens.
 use page::Mark;
+use sequence::Reason;
 use state::State;
 use steps::Step;
 ghost use mathlib.Core.Path.{_≡_};
@@ -98,14 +99,21 @@ fn cursor_report(state: State, before: State, out: &mut [u8], at: usize) -> Step
 }
 
 // DSR: 5 asks for a ready report, 6 for the cursor's place.
-pub fn status_report(state: State, before: State, out: &mut [u8], at: usize, what: usize) -> Step
+pub fn status_report(
+    state: State,
+    before: State,
+    out: &mut [u8],
+    at: usize,
+    letter: u8,
+    what: usize,
+) -> Step
     requires { ⌜ OnPage state ⌝ }
     requires { ⌜ at ≤ length (now out) ⌝ }
     ensures { λ r. ⌜ ((page : Page) →
         record { told = told r page; output = now (out .exit) }
         ≡ written at (now (out .entry))
         (record { state = before; page = page })
-        (statusReport what (record { state = state; page = page }))) ⌝ }
+        (statusReport letter what (record { state = state; page = page }))) ⌝ }
 {
     if what == 5 {
         return ready_report(state, before, out, at);
@@ -113,7 +121,7 @@ pub fn status_report(state: State, before: State, out: &mut [u8], at: usize, wha
     if what == 6 {
         return cursor_report(state, before, out, at);
     }
-    steps::refuse(state)
+    steps::refuse(state, Reason::WrongArguments, letter)
 }
 
 // A full block, for ESC S and key 267, or a changed one, for key 266.

@@ -1,5 +1,6 @@
 -- What an event tells of the byte that gave it:
--- text is 20 to 7E, a command after ESC came after ESC, a final byte is 40 to 7E.
+-- text is 20 to 7E, a command after ESC came after ESC, a final byte is 40 to 7E; a command's byte, and the byte at
+-- which one is refused, is that byte.
 use mathlib.Core.Path.{_≡_, refl}
 use mathlib.Core.Bool.{true}
 use Prim.Native.Nat.{ℕ, _≤_}
@@ -17,8 +18,8 @@ Tells half byte Nothing = Unit {0}
 Tells half byte (Text character) = (character is 0x20 to 0x7E) ≡ true
 Tells half byte (Control control) = Unit {0}
 Tells half byte (EscCommand command) = (half .kind ≡ 1) × (byte ≡ command)
-Tells half byte (BracketCommand final) = (0x40 ≤ final) × (final ≤ 0x7E)
-Tells half byte Refused = Unit {0}
+Tells half byte (BracketCommand final) = (0x40 ≤ final) × (final ≤ 0x7E) × (byte ≡ final)
+Tells half byte (Refused reason at) = byte ≡ at
 
 module _ (half : HalfRead) (byte : ℕ) where
   abbrev EventTells : Advanced → Type 0
@@ -30,7 +31,7 @@ module _ (half : HalfRead) (byte : ℕ) where
       either-line EventTells _ _ _ (λ t. t)
       (λ _. either-line EventTells _ _ _ (λ _. tt)
       (λ _. either-line EventTells _ _ _ (λ _. tt)
-      (λ _. either-line EventTells _ _ _ (λ _. tt) (λ _. tt))))
+      (λ _. either-line EventTells _ _ _ (λ _. refl) (λ _. tt))))
 
   after-esc-tells : half .kind ≡ 1 → EventTells (afterEsc byte)
   unfolding afterEsc Tells
@@ -40,7 +41,7 @@ module _ (half : HalfRead) (byte : ℕ) where
 
   after-intermediate-tells : EventTells (afterIntermediate byte)
   unfolding afterIntermediate Tells
-  after-intermediate-tells = either-line EventTells _ _ _ (λ _. tt) (λ _. tt)
+  after-intermediate-tells = either-line EventTells _ _ _ (λ _. tt) (λ _. refl)
 
   after-bracket-tells : byte ≤ 0x7E → EventTells (afterBracket half byte)
   unfolding afterBracket Tells
@@ -48,7 +49,7 @@ module _ (half : HalfRead) (byte : ℕ) where
       either-line EventTells _ _ _ (λ _. tt)
       (λ _. either-line EventTells _ _ _ (λ _. tt)
       (λ _. either-line EventTells _ _ _ (λ _. tt)
-      (λ low. either-line EventTells _ _ _ (λ _. tt) (λ _. (ltb-false _ _ low, high)))))
+      (λ low. either-line EventTells _ _ _ (λ _. refl) (λ _. (ltb-false _ _ low, high, refl)))))
 
   inside-tells : EventTells (insideSequence half byte)
   unfolding insideSequence Tells
@@ -58,7 +59,7 @@ module _ (half : HalfRead) (byte : ℕ) where
       (λ _. either-line EventTells _ _ _
       (λ printable. either-line EventTells _ _ _ (λ e. after-esc-tells (eqb-true _ _ e))
       (λ _. either-line EventTells _ _ _ (λ _. after-intermediate-tells) (λ _. after-bracket-tells (range-holds _ _ _ printable .1))))
-      (λ _. tt)))
+      (λ _. either-line EventTells _ _ _ (λ _. refl) (λ _. refl))))
 
   pub event-tells : Tells half byte (advanceOf half byte .event)
   unfolding advanceOf

@@ -1,13 +1,14 @@
 -- The definitions of reading, computed on bytes worked out by hand from document 01:
 -- the events, and the record left half read.
 use mathlib.Core.Path.{_≡_, refl}
-use mathlib.Core.List.{List, [], _∷_, map}
+use mathlib.Core.List.{List, [], _∷_, _++_, map}
 use mathlib.Core.Bool.{Bool, true, false}
 use Prim.Native.Char.{code}
 use Prim.Native.Nat.{ℕ}
 use Rattle.words.specs.Choice.{if_then_else_, _and_, _or_, _is_to_}
 use Rattle.words.specs.Text.{bytes}
 use Rattle.sequence.specs.declared.HalfRead.{HalfRead}
+use Rattle.sequence.specs.declared.Reason.the-variants.{UnknownCommand, BrokenSequence, HighByte}
 use Rattle.sequence.specs.declared.Event.{Event}
 use Rattle.sequence.specs.declared.Event.the-variants.{Nothing, Text, Control, EscCommand, BracketCommand, Refused}
 use Rattle.sequence.specs.Record.{nothingRead, escRead, intermediateRead, bracketRead, spoiltRead, largestArgument, argumentsFit, validHalfRead, withDigit, withNextArgument}
@@ -24,7 +25,7 @@ noted (Text byte) later = Text byte ∷ later
 noted (Control byte) later = Control byte ∷ later
 noted (EscCommand byte) later = EscCommand byte ∷ later
 noted (BracketCommand byte) later = BracketCommand byte ∷ later
-noted Refused later = Refused ∷ later
+noted (Refused reason byte) later = Refused reason byte ∷ later
 
 reading : HalfRead → List ℕ → Read
 reading half [] = record { events = []; left = half }
@@ -54,13 +55,14 @@ examples =
     ∷ gives (0x1B ∷ code "[" ∷ code "1" ∷ 0x1A ∷ bytes "A") (Text (code "A") ∷ []) nothingRead
     ∷ gives (0x1B ∷ code "[" ∷ code "1" ∷ 0x1B ∷ []) [] escRead
     ∷ gives (0x1B ∷ 0x1B ∷ bytes "D") (EscCommand (code "D") ∷ []) nothingRead
-    -- other controls and 7F inside one are not executed; 80 to FF is refused anywhere
-    ∷ gives (0x1B ∷ code "[" ∷ code "1" ∷ 0x0A ∷ bytes "A") (Refused ∷ Text (code "A") ∷ []) nothingRead
-    ∷ gives (0x1B ∷ 0x7F ∷ []) (Refused ∷ []) nothingRead
-    ∷ gives (0x80 ∷ 0x1B ∷ 0xFF ∷ []) (Refused ∷ Refused ∷ []) nothingRead
+    -- other controls and 7F inside one are not executed; 80 to FF is refused anywhere, as such, spoilt or not
+    ∷ gives (0x1B ∷ code "[" ∷ code "1" ∷ 0x0A ∷ bytes "A") (Refused BrokenSequence 0x0A ∷ Text (code "A") ∷ []) nothingRead
+    ∷ gives (0x1B ∷ 0x7F ∷ []) (Refused BrokenSequence 0x7F ∷ []) nothingRead
+    ∷ gives (0x80 ∷ 0x1B ∷ 0xFF ∷ []) (Refused HighByte 0x80 ∷ Refused HighByte 0xFF ∷ []) nothingRead
+    ∷ gives (0x1B ∷ bytes "[?" ++ (0x9B ∷ [])) (Refused HighByte 0x9B ∷ []) nothingRead
     -- ESC and intermediates
     ∷ gives (0x1B ∷ bytes "(/") [] intermediateRead
-    ∷ gives (0x1B ∷ bytes "(/BB") (Refused ∷ Text (code "B") ∷ []) nothingRead
+    ∷ gives (0x1B ∷ bytes "(/BB") (Refused UnknownCommand (code "B") ∷ Text (code "B") ∷ []) nothingRead
     -- ESC [ and arguments: omitted, 9,999 and 10,000, eight and nine
     ∷ gives (0x1B ∷ bytes "[") [] bracketRead
     ∷ gives (0x1B ∷ bytes "[H") (BracketCommand (code "H") ∷ []) nothingRead
@@ -68,10 +70,10 @@ examples =
     ∷ gives (0x1B ∷ bytes "[09999") [] (bracket (9999 ∷ 0 ∷ 0 ∷ 0 ∷ 0 ∷ 0 ∷ 0 ∷ 0 ∷ []) 1)
     ∷ gives (0x1B ∷ bytes "[10000") [] spoiltRead
     ∷ gives (0x1B ∷ bytes "[;;;;;;;7") [] (bracket (0 ∷ 0 ∷ 0 ∷ 0 ∷ 0 ∷ 0 ∷ 0 ∷ 7 ∷ []) 8)
-    ∷ gives (0x1B ∷ bytes "[;;;;;;;;m") (Refused ∷ []) nothingRead
+    ∷ gives (0x1B ∷ bytes "[;;;;;;;;m") (Refused BrokenSequence (code "m") ∷ []) nothingRead
     -- spoilt, and nothing adds to it
     ∷ gives (0x1B ∷ bytes "[?5;6") [] spoiltRead
-    ∷ gives (0x1B ∷ bytes "[1 mm") (Refused ∷ Text (code "m") ∷ []) nothingRead
+    ∷ gives (0x1B ∷ bytes "[1 mm") (Refused BrokenSequence (code "m") ∷ Text (code "m") ∷ []) nothingRead
     ∷ []
 
 -- Each of the examples reads as it says.

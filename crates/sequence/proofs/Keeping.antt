@@ -168,7 +168,7 @@ inside-keeps half byte v not-none =
     (λ _. either-line LeavesValid _ _ _ (λ _. after-esc-keeps byte)
     (λ not-esc. either-line LeavesValid _ _ _ (λ _. after-intermediate-keeps byte)
     (λ not-intermediate. after-bracket-keeps half byte (is-bracket half v not-none (eqb-false _ _ not-esc) (eqb-false _ _ not-intermediate)) v)))
-    (λ _. nothing-valid)))
+    (λ _. either-line LeavesValid _ _ _ (λ _. nothing-valid) (λ _. nothing-valid))))
 
 pub advance-keeps : (half : HalfRead) (byte : ℕ) → validHalfRead half ≡ true → validHalfRead (advanceOf half byte .half) ≡ true
 unfolding advanceOf

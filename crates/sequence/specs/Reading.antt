@@ -1,5 +1,5 @@
 -- Document 01, "Reading host bytes", rule by rule (its bullets, numbered from 1): what one host byte does to the
--- half-read record, and the event it gives.
+-- half-read record, and the event it gives; for a refused command its reason and its byte (document 02, M-102).
 -- What an event does to the terminal is told by later definitions.
 use mathlib.Core.Bool.{Bool}
 use Prim.Native.Char.{code}
@@ -9,6 +9,8 @@ use Rattle.words.specs.Choice.{if_then_else_, _or_, _is_to_}
 use Rattle.sequence.specs.Record.{nothingRead, escRead, intermediateRead, bracketRead, spoiltRead}
 use Rattle.sequence.specs.Record.{withDigit, withNextArgument}
 use Rattle.sequence.specs.declared.HalfRead.{HalfRead}
+use Rattle.sequence.specs.declared.Reason.{Reason}
+use Rattle.sequence.specs.declared.Reason.the-variants.{UnknownCommand, BrokenSequence, HighByte}
 use Rattle.sequence.specs.declared.Event.{Event}
 use Rattle.sequence.specs.declared.Event.the-variants.{Nothing, Text, Control, EscCommand}
 use Rattle.sequence.specs.declared.Event.the-variants.{BracketCommand, Refused}
@@ -20,6 +22,10 @@ readsOn half = record { half = half; event = Nothing }
 
 abbrev pub ends : Event → Advanced
 ends event = record { half = nothingRead; event = event }
+
+-- The command is refused, for a reason, at this byte.
+abbrev pub refuses : Reason → ℕ → Advanced
+refuses reason byte = ends (Refused reason byte)
 
 -- Rule 2: the control bytes that act.
 unfoldable pub isControl : ℕ → Bool
@@ -35,7 +41,7 @@ outsideSequence byte =
     if byte is 0x20 to 0x7E then ends (Text byte)
     else if isControl byte then ends (Control byte)
     else if eqb byte 0x1B then readsOn escRead
-    else if leb 0x80 byte then ends Refused
+    else if leb 0x80 byte then refuses HighByte byte
     else ends Nothing
 
 -- Rule 5, a byte 20 to 7E after ESC: an intermediate, the [ of rule 6, or a command, which may be listed or not.
@@ -49,19 +55,20 @@ afterEsc byte =
 unfoldable pub afterIntermediate : ℕ → Advanced
 afterIntermediate byte =
     if leb byte 0x2F then readsOn intermediateRead
-    else ends Refused
+    else refuses UnknownCommand byte
 
--- Rule 6, a byte 20 to 7E after ESC [. The third line is for 20 to 2F, 3A and 3C to 3F.
+-- Rule 6, a byte 20 to 7E after ESC [. The third line is for 20 to 2F, 3A and 3C to 3F; a spoilt sequence is refused
+-- whatever its final byte is.
 unfoldable pub afterBracket : HalfRead → ℕ → Advanced
 afterBracket half byte =
     if byte is code "0" to code "9" then readsOn (withDigit half (byte - code "0"))
     else if eqb byte (code ";") then readsOn (withNextArgument half)
     else if ltb byte 0x40 then readsOn spoiltRead
-    else if half .spoilt then ends Refused
+    else if half .spoilt then refuses BrokenSequence byte
     else ends (BracketCommand byte)
 
 -- Rules 3 to 6, inside a sequence.
--- The last line is for every other byte below 20, 7F, and 80 to FF: refused, and not executed.
+-- The last line is for every other byte below 20, and 7F: refused, and not executed.
 unfoldable pub insideSequence : HalfRead → ℕ → Advanced
 insideSequence half byte =
     if isCancel byte then ends Nothing
@@ -70,7 +77,8 @@ insideSequence half byte =
     (if eqb (half .kind) 1 then afterEsc byte
     else if eqb (half .kind) 2 then afterIntermediate byte
     else afterBracket half byte)
-    else ends Refused
+    else if leb 0x80 byte then refuses HighByte byte
+    else refuses BrokenSequence byte
 
 -- The record and the event after one host byte.
 unfoldable pub advanceOf : HalfRead → ℕ → Advanced

@@ -6,7 +6,7 @@ ghost use Prim.Native.Nat.{_≤_};
 ghost use Rattle.words.specs.Choice.{_is_to_};
 ghost use Rattle.sequence.specs.Record.{largestArgument, argumentsFit, validHalfRead};
 ghost use Rattle.sequence.specs.Record.{withDigit, withNextArgument};
-ghost use Rattle.sequence.specs.Reading.{isControl, isCancel, outsideSequence, afterEsc};
+ghost use Rattle.sequence.specs.Reading.{isControl, isCancel, refuses, outsideSequence, afterEsc};
 ghost use Rattle.sequence.specs.Reading.{afterIntermediate, afterBracket, insideSequence, advanceOf};
 
 // What is half read.
@@ -26,6 +26,17 @@ pub struct HalfRead {
     pub spoilt: bool,
 }
 
+// Why a command is refused: what M-102 of document 02 tells apart.
+pub enum Reason {
+    UnknownCommand,
+    // An argument not allowed, or too many for the command.
+    WrongArguments,
+    // A sequence spoilt, or broken off by a control byte.
+    BrokenSequence,
+    // A byte of 80 or above.
+    HighByte,
+}
+
 // What a byte brings about.
 pub enum Event {
     Nothing,
@@ -35,7 +46,8 @@ pub enum Event {
     EscCommand(u8),
     // ESC [ and the command's final byte; its arguments are those of the record before this byte.
     BracketCommand(u8),
-    Refused,
+    // Why, and the byte at which it was refused.
+    Refused(Reason, u8),
 }
 
 pub struct Advanced {
@@ -78,7 +90,7 @@ const SPOILT: HalfRead = HalfRead {
     spoilt: true,
 };
 
-// What several rules give: a sequence dropped, a new one started, a refused command.
+// What several rules give: a sequence dropped, a new one started.
 const DROPPED: Advanced = Advanced {
     half: NOTHING_READ,
     event: Event::Nothing,
@@ -87,11 +99,6 @@ const DROPPED: Advanced = Advanced {
 const STARTED_ANEW: Advanced = Advanced {
     half: ESC_READ,
     event: Event::Nothing,
-};
-
-const REFUSED: Advanced = Advanced {
-    half: NOTHING_READ,
-    event: Event::Refused,
 };
 
 // Whether n is low to high.
@@ -128,6 +135,16 @@ fn is_cancel(byte: u8) -> bool
     }
 }
 
+// A refused command, for a reason, at a byte: the sequence is over.
+fn refused(reason: Reason, byte: u8) -> Advanced
+    ensures { λ r. ⌜ r ≡ refuses reason byte ⌝ }
+{
+    Advanced {
+        half: NOTHING_READ,
+        event: Event::Refused(reason, byte),
+    }
+}
+
 // Any byte where nothing is half read.
 fn outside_sequence(byte: u8) -> Advanced
     ensures { λ r. ⌜ r ≡ outsideSequence byte ⌝ }
@@ -148,7 +165,7 @@ fn outside_sequence(byte: u8) -> Advanced
         return STARTED_ANEW;
     }
     if 0x80 <= byte {
-        return REFUSED;
+        return refused(Reason::HighByte, byte);
     }
     DROPPED
 }
@@ -185,7 +202,7 @@ fn after_intermediate(byte: u8) -> Advanced
             event: Event::Nothing,
         };
     }
-    REFUSED
+    refused(Reason::UnknownCommand, byte)
 }
 
 // The largest that argument `i`, counted from 0, may be where `reached` of them are reached.
@@ -300,8 +317,8 @@ impl HalfRead {
                 event: Event::Nothing,
             };
         }
-        if self.spoilt {
-            return REFUSED;
+        if self.spoilt { // whatever the final byte is
+            return refused(Reason::BrokenSequence, byte);
         }
         Advanced {
             half: NOTHING_READ,
@@ -330,7 +347,10 @@ impl HalfRead {
             }
             return self.after_bracket(byte);
         }
-        REFUSED // and not executed
+        if 0x80 <= byte {
+            return refused(Reason::HighByte, byte);
+        }
+        refused(Reason::BrokenSequence, byte) // and not executed
     }
 
     // The record and the event after one host byte.

@@ -13,6 +13,7 @@ use Rattle.words.specs.Choice.{_and_, _or_}
 use Rattle.words.specs.Lists.{every}
 use Rattle.words.proofs.Choosing.{either-line, both, both-hold, one-holds, range-holds, range-is}
 use Rattle.sequence.specs.declared.HalfRead.{HalfRead}
+use Rattle.sequence.specs.declared.Reason.{Reason}
 use Rattle.sequence.specs.Record.{validHalfRead}
 use Rattle.sequence.proofs.Keeping.{nothing-valid}
 use Rattle.page.specs.Marks.{isModified}
@@ -281,9 +282,9 @@ module _ (s : State) (valid : validState s ≡ true) where
     valid = whole (withLocks s (record { manual = manual; soft = soft; message = message })) (was .cursor) (was .stops) (was .pen) p (was .half);
   }
 
-  pub refused-keeps-valid : KeepsValid s (refused s)
+  pub refused-keeps-valid : (reason : Reason) (byte : ℕ) → KeepsValid s (refused reason byte s)
   unfolding refused
-  refused-keeps-valid = locks-keep-valid (s .locks .manual) true 1 refl
+  refused-keeps-valid reason byte = locks-keep-valid (s .locks .manual) true 1 refl
 
   pub disabled-keeps-valid : KeepsValid s (inputDisabled s)
   unfolding inputDisabled

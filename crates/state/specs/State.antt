@@ -6,6 +6,7 @@ use mathlib.Core.Path.{_≡_}
 use Prim.Native.Nat.{ℕ, _≤_}
 use lib.ListN.{length, replicate}
 use Rattle.sequence.specs.declared.HalfRead.{HalfRead}
+use Rattle.sequence.specs.declared.Reason.{Reason}
 use Rattle.sequence.specs.Record.{nothingRead}
 use Rattle.state.specs.declared.Size.{Size}
 use Rattle.state.specs.declared.Cursor.{Cursor}
@@ -67,8 +68,8 @@ zeroState =
     }
 
 -- "Reading host bytes", a refused command: the soft lock and message 1, INVALID CMD, and nothing else.
-unfoldable pub refused : State → State
-refused s = withLocks s (record { manual = s .locks .manual; soft = true; message = 1 })
+unfoldable pub refused : Reason → ℕ → State → State
+refused reason byte s = withLocks s (record { manual = s .locks .manual; soft = true; message = 1 })
 
 -- "Commands", ESC ` and ESC b; "keys", 268.
 unfoldable pub inputDisabled : State → State

@@ -15,6 +15,7 @@ pub use pen::pen_underlined;
 pub use pen::pen_unprotected;
 use places::Place;
 use sequence::HalfRead;
+use sequence::Reason;
 ghost use mathlib.Core.Path.{_≡_};
 ghost use Rattle.places.specs.Places.{placeOf, cellAt};
 ghost use Rattle.state.specs.State.{OnPage, withLocks, withHalf, freshState, zeroState};
@@ -120,9 +121,9 @@ impl State {
         next
     }
 
-    // A refused command: the soft lock and INVALID CMD.
-    pub fn refuse(self) -> Self
-        ensures { λ r. ⌜ r ≡ refused self ⌝ }
+    // A refused command, for a reason, at a byte: the soft lock and INVALID CMD.
+    pub fn refuse(self, reason: Reason, byte: u8) -> Self
+        ensures { λ r. ⌜ r ≡ refused reason byte self ⌝ }
     {
         self.with_locks(Locks {
             manual: self.locks.manual,

@@ -14,9 +14,11 @@ use Rattle.words.proofs.Writing.{each-at}
 use Rattle.page.specs.Page.{Page, pageOf, validPage, markAfterBlock, modifiedCleared}
 use Rattle.page.proofs.Keeping.{SameSize, cleared-same-size, cleared-keeps-valid}
 use Rattle.state.specs.declared.Size.{Size}
+use Rattle.sequence.specs.declared.Reason.{Reason}
 use Rattle.state.specs.declared.State.{State}
+use Rattle.state.specs.State.{refused}
 use Rattle.state.specs.Tests.{listedSize, sizeFits}
-use Rattle.state.proofs.Keeping.{KeepsValid, on-page}
+use Rattle.state.proofs.Keeping.{KeepsValid, on-page, refused-keeps-valid}
 use Rattle.steps.specs.Steps.{Terminal, Transmission, silent, report, Stepped, goesTo, stores, sends, refusing, cursorCell, Valid}
 use Rattle.steps.specs.Claims.{Rising, none, markLeft, TouchesOnly, KeepsProtection, KeepsText}
 use Rattle.steps.proofs.Naming.{all-stay-protected, same-characters}
@@ -87,11 +89,11 @@ module _ (t : Terminal) (valid : Valid t) where
     protection = λ _ cell here. refl;
   }
 
-  pub refuses-soundly : Sound t (refusing t)
+  pub refuses-soundly : (reason : Reason) (byte : ℕ) → Sound t (refusing reason byte t)
   unfolding markLeft
-  refuses-soundly = record {
-    valid = valid;
-    size = refl;
+  refuses-soundly reason byte = let keeps = refused-keeps-valid (t .state) (valid .state) reason byte in record {
+    valid = stays-valid (refused reason byte (t .state)) (t .page) keeps same-size (valid .page);
+    size = keeps .size;
     touches = untouched silent (λ mark. refl);
     once = none;
     protection = λ _ cell here. refl;

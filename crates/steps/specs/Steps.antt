@@ -6,7 +6,9 @@ use Prim.Native.Nat.{ℕ, _-_}
 use Rattle.words.specs.Lists.{numbersFrom}
 use Rattle.page.specs.Page.{Page, pageOf, cells, validPage}
 use Rattle.places.specs.Places.{cellAt}
+use Rattle.sequence.specs.declared.Reason.{Reason}
 use Rattle.state.specs.declared.State.{State}
+use Rattle.state.specs.State.{refused}
 use Rattle.state.specs.Tests.{sizeFits, validState}
 
 -- All that a call is lent and given: the state, and the characters and marks.
@@ -74,10 +76,17 @@ sends transmission s page =
       protection = false;
     }
 
--- A command that is refused changes nothing: it hands back that it refuses, and the step of its byte sets lock and
--- message.
-abbrev pub refusing : Terminal → Stepped
-refusing t = record { terminal = t; transmission = silent; cells = []; wasRefused = true; protection = false }
+-- A command is refused, for a reason, at a byte: the state says so, and nothing else changes. This is the one place that
+-- refuses, whatever it is, a command, a sequence or a byte.
+abbrev pub refusing : Reason → ℕ → Terminal → Stepped
+refusing reason byte t =
+    record {
+      terminal = withState t (refused reason byte (t .state));
+      transmission = silent;
+      cells = [];
+      wasRefused = true;
+      protection = false;
+    }
 
 -- The cursor's cell, its row's first, and all cells of the page.
 abbrev pub cursorCell : State → ℕ

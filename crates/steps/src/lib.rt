@@ -1,4 +1,5 @@
 // What the code tells of a step (specs/Told.antt).
+use sequence::Reason;
 use state::State;
 ghost use mathlib.Core.Path.{_≡_};
 ghost use mathlib.Core.List.{List};
@@ -32,12 +33,13 @@ pub fn quiet(state: State) -> Step
     }
 }
 
-// A command that is refused changes nothing and hands back that it refuses; every one that refuses comes through here.
-pub fn refuse(state: State) -> Step
-    ensures { λ r. ⌜ ((page : Page) → told r page ≡ tells (refusing (record { state = state; page = page }))) ⌝ }
+// A command is refused, for a reason, at a byte: every refusal comes through here.
+pub fn refuse(state: State, reason: Reason, byte: u8) -> Step
+    ensures { λ r. ⌜ ((page : Page) →
+        told r page ≡ tells (refusing reason byte (record { state = state; page = page }))) ⌝ }
 {
     Step {
-        state,
+        state: state.refuse(reason, byte),
         stored: 0,
         sent: 0,
         refused: true,

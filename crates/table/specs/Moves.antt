@@ -9,9 +9,11 @@ use Rattle.words.specs.Choice.{if_then_else_, _and_, _or_, _is_to_}
 use Rattle.state.specs.State.{withCursor, cursorAt}
 use Rattle.state.specs.Moves.{upBy, downBy, rightBy, leftBy, toMargin}
 use Rattle.state.specs.Tabs.{tabbedOn, tabbedBack}
+use Rattle.sequence.specs.declared.Reason.the-variants.{WrongArguments}
 use Rattle.steps.specs.Steps.{Terminal, Stepped, goesTo, refusing}
 use Rattle.table.specs.Table.{valueOf}
 
+-- A command that is refused is refused at its final byte.
 -- CHA (source 001, lines 2258 to 2260): past C it is ignored. VPA (lines 2262 to 2268): past R it is refused.
 unfoldable pub toColumn : ℕ → Terminal → Stepped
 toColumn column t =
@@ -19,18 +21,18 @@ toColumn column t =
     goesTo (withCursor (t .state) (cursorAt (t .state .cursor .row) column)) t
     else goesTo (t .state) t
 
-unfoldable pub toRow : ℕ → Terminal → Stepped
-toRow row t =
+unfoldable pub toRow : ℕ → ℕ → Terminal → Stepped
+toRow final row t =
     if leb row (t .state .size .rows) then
     goesTo (withCursor (t .state) (cursorAt row (t .state .cursor .column))) t
-    else refusing t
+    else refusing WrongArguments final t
 
 -- CUP, and HVP (lines 2270 to 2278): past the page refused.
-unfoldable pub toPlace : ℕ → ℕ → Terminal → Stepped
-toPlace row column t =
+unfoldable pub toPlace : ℕ → ℕ → ℕ → Terminal → Stepped
+toPlace final row column t =
     if leb row (t .state .size .rows) and leb column (t .state .size .columns) then
     goesTo (withCursor (t .state) (cursorAt row column)) t
-    else refusing t
+    else refusing WrongArguments final t
 
 -- HVP's column. `row` and `given` are the arguments as read, `column` is `given` with 0 as 1, `present` the cursor's:
 -- an omitted column keeps it, if a row is given.
@@ -55,9 +57,9 @@ moveStep final arguments t =
     else if eqb final (code "E") then goesTo (toMargin (downBy first (t .state))) t  -- CNL
     else if eqb final (code "F") then goesTo (toMargin (upBy first (t .state))) t  -- CPL
     else if eqb final (code "G") then toColumn first t  -- CHA
-    else if eqb final (code "d") then toRow first t  -- VPA
-    else if eqb final (code "H") then toPlace first second t  -- CUP
+    else if eqb final (code "d") then toRow final first t  -- VPA
+    else if eqb final (code "H") then toPlace final first second t  -- CUP
     else if eqb final (code "f") then
-    toPlace first (keptColumn (getD arguments 0 0) (getD arguments 1 0) second (t .state .cursor .column)) t  -- HVP
+    toPlace final first (keptColumn (getD arguments 0 0) (getD arguments 1 0) second (t .state .cursor .column)) t  -- HVP
     else if eqb final (code "I") then goesTo (tabbedOn first (t .state)) t  -- CHT
     else goesTo (tabbedBack first (t .state)) t  -- Z: CBT

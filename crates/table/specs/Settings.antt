@@ -8,15 +8,16 @@ use Rattle.words.specs.Lists.{every}
 use Rattle.state.specs.Tabs.{stopSet, stopCleared, stopsCleared}
 use Rattle.state.specs.Pen.{penPlain, penBold, penUnderlined, penBlinking, penReversed, penConcealed}
 use Rattle.state.specs.Pen.{withPen, withErasure}
+use Rattle.sequence.specs.declared.Reason.the-variants.{WrongArguments}
 use Rattle.steps.specs.Steps.{Terminal, Stepped, goesTo, refusing}
 
 -- CTC (lines 2296 to 2310): 0 set, 2 clear here, 5 clear all.
-unfoldable pub tabControl : ℕ → Terminal → Stepped
-tabControl what t =
+unfoldable pub tabControl : ℕ → ℕ → Terminal → Stepped
+tabControl final what t =
     if eqb what 0 then goesTo (stopSet (t .state)) t
     else if eqb what 2 then goesTo (stopCleared (t .state)) t
     else if eqb what 5 then goesTo (stopsCleared (t .state)) t
-    else refusing t
+    else refusing WrongArguments final t
 
 -- SGR: the values listed, and what each does to the pen.
 unfoldable pub isVisual : ℕ → Bool
@@ -35,13 +36,13 @@ unfoldable pub penAfterAll : List ℕ → ℕ → ℕ
 penAfterAll [] pen = pen
 penAfterAll (value ∷ later) pen = penAfterAll later (penAfter value pen)
 
-unfoldable pub rendition : List ℕ → Terminal → Stepped
-rendition values t =
+unfoldable pub rendition : ℕ → List ℕ → Terminal → Stepped
+rendition final values t =
     if every isVisual values then goesTo (withPen (t .state) (penAfterAll values (t .state .modes .pen))) t
-    else refusing t
+    else refusing WrongArguments final t
 
 -- SM and RM: mode 6, erasure.
-unfoldable pub setMode : Bool → List ℕ → Terminal → Stepped
-setMode on values t =
+unfoldable pub setMode : ℕ → Bool → List ℕ → Terminal → Stepped
+setMode final on values t =
     if every (λ value. eqb value 6) values then goesTo (withErasure (t .state) on) t
-    else refusing t
+    else refusing WrongArguments final t

@@ -1,4 +1,5 @@
 // Document 01, "Commands": the commands of ESC [ that only move the cursor.
+use sequence::Reason;
 use state::State;
 use steps::Step;
 ghost use mathlib.Core.Path.{_≡_};
@@ -19,27 +20,28 @@ fn to_column(state: State, column: usize) -> Step
 }
 
 // VPA: past the last row it is refused.
-fn to_row(state: State, row: usize) -> Step
-    ensures { λ r. ⌜ ((page : Page) → told r page ≡ tells (toRow row (record { state = state; page = page }))) ⌝ }
+fn to_row(state: State, letter: u8, row: usize) -> Step
+    ensures { λ r. ⌜ ((page : Page) →
+        told r page ≡ tells (toRow letter row (record { state = state; page = page }))) ⌝ }
 {
     if state.size.rows < row {
-        return steps::refuse(state);
+        return steps::refuse(state, Reason::WrongArguments, letter);
     }
     steps::quiet(state.moved_to(row, state.cursor.column))
 }
 
 // CUP and HVP: past the page they are refused.
-fn to_place(state: State, row: usize, column: usize) -> Step
+fn to_place(state: State, letter: u8, row: usize, column: usize) -> Step
     ensures { λ r. ⌜ ((page : Page) →
-        told r page ≡ tells (toPlace row column (record { state = state; page = page }))) ⌝ }
+        told r page ≡ tells (toPlace letter row column (record { state = state; page = page }))) ⌝ }
 {
     if row <= state.size.rows {
         if column <= state.size.columns {
             return steps::quiet(state.moved_to(row, column));
         }
-        return steps::refuse(state);
+        return steps::refuse(state, Reason::WrongArguments, letter);
     }
-    steps::refuse(state)
+    steps::refuse(state, Reason::WrongArguments, letter)
 }
 
 // HVP's column: 0 with a row above 0 keeps the column.
@@ -92,12 +94,13 @@ pub fn move_command(state: State, letter: u8, arguments: [u16; 8]) -> Step
         b'E' => steps::quiet(state.down_by(first).to_margin()), // CNL
         b'F' => steps::quiet(state.up_by(first).to_margin()), // CPL
         b'G' => to_column(state, first), // CHA
-        b'H' => to_place(state, first, second), // CUP
+        b'H' => to_place(state, letter, first, second), // CUP
         b'I' => steps::quiet(state.tab_on(first)), // CHT
-        b'd' => to_row(state, first), // VPA
+        b'd' => to_row(state, letter, first), // VPA
         // HVP
         b'f' => to_place(
             state,
+            letter,
             first,
             kept_column(row, given, second, state.cursor.column),
         ),

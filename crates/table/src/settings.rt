@@ -1,5 +1,6 @@
 // Document 01, "Commands": the commands of ESC [ that set tab stops, the pen and the mode.
 use page::Mark;
+use sequence::Reason;
 use state::State;
 use steps::Step;
 ghost use mathlib.Core.Path.{_≡_};
@@ -13,15 +14,16 @@ ghost use Rattle.steps.specs.Told.{told, tells};
 ghost use Rattle.table.specs.Settings.{tabControl, isVisual, penAfter, penAfterAll, rendition, setMode};
 
 // CTC: 0 sets a tab stop, 2 clears it, 5 clears all.
-pub fn tab_control(state: State, what: usize) -> Step
+pub fn tab_control(state: State, letter: u8, what: usize) -> Step
     requires { ⌜ OnPage state ⌝ }
-    ensures { λ r. ⌜ ((page : Page) → told r page ≡ tells (tabControl what (record { state = state; page = page }))) ⌝ }
+    ensures { λ r. ⌜ ((page : Page) →
+        told r page ≡ tells (tabControl letter what (record { state = state; page = page }))) ⌝ }
 {
     match what {
         0 => steps::quiet(state.set_stop()),
         2 => steps::quiet(state.clear_stop()),
         5 => steps::quiet(state.clear_stops()),
-        _ => steps::refuse(state),
+        _ => steps::refuse(state, Reason::WrongArguments, letter),
     }
 }
 
@@ -99,26 +101,26 @@ fn pen_after_all(values: [u16; 8], count: usize, pen: Mark) -> Mark
 }
 
 // SGR: all values are tested before any acts.
-pub fn rendition(state: State, values: [u16; 8], count: usize) -> Step
+pub fn rendition(state: State, letter: u8, values: [u16; 8], count: usize) -> Step
     requires { ⌜ count ≤ 8 ⌝ }
     ensures { λ r. ⌜ ((page : Page) →
-        told r page ≡ tells (rendition (take count values) (record { state = state; page = page }))) ⌝ }
+        told r page ≡ tells (rendition letter (take count values) (record { state = state; page = page }))) ⌝ }
 {
     if all_visual(values, count) {
         let pen = pen_after_all(values, count, state.modes.pen);
         return steps::quiet(state.with_pen(pen));
     }
-    steps::refuse(state)
+    steps::refuse(state, Reason::WrongArguments, letter)
 }
 
 // SM and RM: mode 6.
-pub fn set_mode(state: State, on: bool, values: [u16; 8], count: usize) -> Step
+pub fn set_mode(state: State, letter: u8, on: bool, values: [u16; 8], count: usize) -> Step
     requires { ⌜ count ≤ 8 ⌝ }
     ensures { λ r. ⌜ ((page : Page) →
-        told r page ≡ tells (setMode on (take count values) (record { state = state; page = page }))) ⌝ }
+        told r page ≡ tells (setMode letter on (take count values) (record { state = state; page = page }))) ⌝ }
 {
     if all_six(values, count) {
         return steps::quiet(state.with_erasure(on));
     }
-    steps::refuse(state)
+    steps::refuse(state, Reason::WrongArguments, letter)
 }

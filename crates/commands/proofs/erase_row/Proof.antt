@@ -45,7 +45,7 @@ returns c =
     let column = start .args .state .cursor .column in
     let here = cell-is (size .columns) _ (c .before .before .before .before .before .before .before .before .before .before .place .ensures) in
     c .before .before .before .before .erase-part .ensures
-    ∙ ap (λ (cell : ℕ). tells (erasePart (start .args .what) (cell - (column - 1)) (cell - (column - 1) + size .columns) (record { state = start .args .state; page = pageOf (start .args .characters .now) (start .args .marks .now) }))) here
+    ∙ ap (λ (cell : ℕ). tells (erasePart (start .args .letter) (start .args .what) (cell - (column - 1)) (cell - (column - 1) + size .columns) (record { state = start .args .state; page = pageOf (start .args .characters .now) (start .args .marks .now) }))) here
 
 pub erase-row-spec : {M : Type 1} → statement M
 erase-row-spec =

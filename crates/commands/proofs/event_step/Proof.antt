@@ -48,8 +48,8 @@ returns-5 c =
 returns-6 : tie.Need-returns-6
 unfolding eventStep bytesOf
 returns-6 c =
-    let start = c .before .before .before .before .before .before in
-    rw (c .before .enum-told2 .given .1)
+    let start = c .before .before .before .before .before .before .before in
+    rw (c .before .before .event5 .given .1)
     (told-silent _ _ _ _ _ _ (c .refuse .ensures (pageOf (start .args .characters .now) (start .args .marks .now))) refl)
 
 pub event-step-spec : {M : Type 1} → statement M

@@ -6,7 +6,7 @@ use Rattle.sequence.proofs.Events.{Tells}
 use Rattle.sequence.proofs.Keeping.{eight-at-most}
 use Rattle.state.proofs.Keeping.{parts}
 use Rattle.steps.specs.Steps.{Terminal}
-use Rattle.commands.proofs.Stepping.{next-valid, host-is, tells-of, settled-written}
+use Rattle.commands.proofs.Stepping.{next-valid, host-is, tells-of}
 use Rattle.commands.proofs.step.Statement.{statement}
 use Rattle.commands.proofs.step.Tie as tie
 
@@ -23,17 +23,17 @@ event-step-requires c κs =
       next-valid t (start .args .byte) _ _ advanced next (start .pre .0),
       (
         start .pre .1,
-        λ final is. tells-of t (start .args .byte) _ _ advanced next (BracketCommand final) is,
+        λ final is. let tells = tells-of t (start .args .byte) _ _ advanced next (BracketCommand final) is in (tells .0, tells .1),
         eight-at-most _ (parts (start .args .state) (start .pre .0 .state) .half),
       ),
     )
 
 returns : tie.Need-returns
 returns c =
-    let start = c .before .before .before .before .before .before .before .before .before .before .before .before .before .before .before .before .before in
+    let start = c .before .before .before .before .before .before .before .before .before .before .before .before .before .before .before .before in
     let t : Terminal = record { state = start .args .state; page = pageOf (start .args .characters .now) (start .args .marks .now) } in
-    rw (c .settle .ensures, host-is t (start .args .byte) _ _ (c .before .before .before .before .before .before .before .before .before .before .before .before .advance .ensures) (c .before .before .before .before .before .before .before .before .before .before .before .with-half .ensures) _ refl)
-    (settled-written _ _ _ _ _ _ _ (c .before .before .before .before .before .before .before .event-step .ensures))
+    rw (host-is t (start .args .byte) _ _ (c .before .before .before .before .before .before .before .before .before .before .before .advance .ensures) (c .before .before .before .before .before .before .before .before .before .before .with-half .ensures) _ refl)
+    (c .before .before .before .before .before .before .event-step .ensures)
 
 pub step-spec : {M : Type 1} → statement M
 step-spec =
@@ -42,7 +42,6 @@ step-spec =
     advance-requires
     (λ c κs. search needs)
     event-step-requires
-    (λ c κs. search needs)
     (λ c. search needs)
     (λ c. search needs)
     (λ c. search needs)

@@ -14,5 +14,6 @@ outside-sequence-spec =
     (λ c κs. search needs)
     (λ c. search reading)
     (λ c. search reading)
-    (λ c. search reading)
+    (λ c κs. search needs)
+    (λ c. rw (c .refused .ensures) (search reading))
     (λ c. search reading))

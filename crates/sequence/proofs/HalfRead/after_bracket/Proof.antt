@@ -25,5 +25,6 @@ after-bracket-spec =
     (λ c κs. search needs)
     (λ c. rw (c .with-next-argument .ensures) (search reading))
     (λ c. search reading)
-    (λ c. search reading)
+    (λ c κs. search needs)
+    (λ c. rw (c .refused .ensures) (search reading))
     (λ c. search reading))

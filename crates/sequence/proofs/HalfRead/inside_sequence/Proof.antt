@@ -25,4 +25,7 @@ inside-sequence-spec =
     (λ c. search reading)
     after-bracket-requires
     (λ c. search reading)
-    (λ c. search reading))
+    (λ c κs. search needs)
+    (λ c. rw (c .refused .ensures) (search reading))
+    (λ c κs. search needs)
+    (λ c. rw (c .refused2 .ensures) (search reading)))
