@@ -6,7 +6,9 @@ use crate::wrong;
 pub const ROOM: usize = 65_536;
 /// Bytes of characters, and of marks, that `calls` keeps.
 pub const KEPT: usize = 8_192;
-pub const FIELDS: usize = 180;
+/// Frame 28's number for the byte at which a command was refused; 20 up to it are the tab stops.
+pub const REFUSED_AT: usize = 180;
+pub const FIELDS: usize = REFUSED_AT + 1;
 const FILL: u8 = 0xA5;
 
 /// A program over lines: it prints what one input line gives.
@@ -194,7 +196,8 @@ impl Dump {
         say(format!("cursor {:05} {:05}\n", state.row, state.column));
         say(format!("pen {:02X} erasure {}\n", state.pen, flag(state.erasure)));
         let (manual, soft) = (flag(state.manual), flag(state.soft));
-        say(format!("manual {manual} soft {soft} message {:05}\n", state.message));
+        say(format!("manual {manual} soft {soft} message {:05} ", state.message));
+        say(format!("byte {:02X}\n", state.refused_at));
         let stops = state.stops.iter().map(|&stop| if stop { 'T' } else { '.' });
         say(format!("stops {}\n", stops.collect::<String>()));
         say(format!("half {:05} spoilt {} ", half.kind, flag(half.spoilt)));
@@ -337,6 +340,7 @@ pub fn fields(state: &State) -> Vec<u16> {
     list.extend([state.message, half.kind, half.spoilt.into(), half.count].map(u16::from));
     list.extend(half.arguments);
     list.extend(state.stops.map(u16::from));
+    list.push(state.refused_at.into());
     list
 }
 
@@ -360,6 +364,7 @@ fn set_field(state: &mut State, field: u16, value: u16) -> Option<()> {
         11 => half.count = byte?,
         12..=19 => half.arguments[usize::from(field) - 12] = value,
         20..=179 => state.stops[usize::from(field) - 20] = flag,
+        180 => state.refused_at = byte?,
         _ => return None,
     }
     Some(())

@@ -15,6 +15,8 @@ struct Generator {
     keys: VecDeque<u32>,
     /// The keys are for the page as the host bytes leave it, and wait for them.
     keys_wait: bool,
+    /// The host bytes go out a few at a time, so that a dump shows each of their refusals.
+    few_at_once: bool,
     first_size: (u16, u16),
     /// How far single bytes have been gone through; the seeds share this work.
     step: usize,
@@ -32,6 +34,7 @@ pub fn transcript(seed: u64, frames: usize) -> Vec<u8> {
         host: VecDeque::new(),
         keys: VecDeque::new(),
         keys_wait: false,
+        few_at_once: false,
         first_size,
         step: seed as usize % 128 * 12,
         dense: first_size == (48, 160) && seed / 9 % 2 == 0,
@@ -145,6 +148,7 @@ impl Generator {
         if !self.host.is_empty() {
             let most = match self.random.below(10) {
                 _ if painting => 255,
+                _ if self.few_at_once => self.random.between(1, 6),
                 0..=2 => self.random.between(1, 4),
                 3..=5 => self.random.between(5, 40),
                 _ => 255,
@@ -154,8 +158,13 @@ impl Generator {
         if !self.keys.is_empty() {
             return self.press();
         }
-        self.keys_wait = false;
-        match self.random.below(108) {
+        (self.keys_wait, self.few_at_once) = (false, false);
+        match self.random.below(124) {
+            108.. => {
+                self.host = self.stream().refusals().into();
+                self.keys = self.random.pick(&[&[268][..], &[65, 268], &[]]).to_vec().into();
+                self.few_at_once = self.random.chance(50);
+            }
             100.. => {
                 self.host = self.stream().long_fields().into();
                 self.keys = self.stream().field_keys().into();

@@ -1,8 +1,8 @@
 //! Random inputs for `calls`: damaged states and pages, lent lengths, rooms, long calls.
 
-use crate::frames::{fields, put_hex, Calls, Program, FIELDS, KEPT, ROOM};
+use crate::frames::{fields, put_hex, Calls, Program, FIELDS, KEPT, REFUSED_AT, ROOM};
 use crate::random::Random;
-use crate::streams::{any_size, Stream};
+use crate::streams::{any_size, Stream, BEGUN};
 use crate::terminal::{self, COLUMNS, ROWS};
 use std::collections::VecDeque;
 use std::ops::Range;
@@ -42,17 +42,20 @@ pub fn calls(seed: u64, frames: usize) -> Vec<u8> {
     generator.text
 }
 
-/// Damage everywhere, in order: every cell's character and mark, every part of the state, every kind of half-read record;
+/// Damage everywhere, in order: every cell's character and mark, every part of the state, every kind of half-read record,
+/// every byte beside every message; then every byte outside a sequence and after each beginning of one;
 /// on the other sizes the cells and parts that depend on the size.
 pub fn sweep() -> Vec<u8> {
     let mut sweep = Sweep { text: Vec::new() };
     sweep.cells(24, 80, 1);
     sweep.parts(24, 80, 0..FIELDS);
     sweep.half_read();
+    sweep.messages();
+    sweep.bytes();
     for (rows, columns) in [(27, 132), (48, 160)] {
         sweep.cells(rows, columns, 97);
         sweep.parts(rows, columns, 0..4);
-        sweep.parts(rows, columns, 19 + usize::from(columns)..FIELDS);
+        sweep.parts(rows, columns, 19 + usize::from(columns)..REFUSED_AT);
     }
     sweep.text
 }
@@ -96,7 +99,8 @@ impl Sweep {
         for number in numbers {
             let values = match number {
                 0..=3 => vec![0, 1, rows, rows + 1, columns, columns + 1, 48, 160, 65_535],
-                4 | 8 | 9 | 11 => vec![1, 2, 3, 4, 32, 127, 128, 255],
+                4 | 8 | 9 | 11 => vec![1, 2, 3, 4, 5, 32, 127, 128, 255],
+                REFUSED_AT => vec![1, 127, 128, 255, 256],
                 12..=19 => vec![1, 9_999, 10_000, 65_535],
                 _ => vec![1, 65_535],
             };
@@ -122,6 +126,30 @@ impl Sweep {
             }
         }
         (9..12).for_each(|number| self.emit(&field(number, 0)));
+    }
+
+    /// A byte of 0 is right beside any message there is, the others beside all but message 0.
+    fn messages(&mut self) {
+        for message in 0..=6 {
+            self.emit(&field(8, message));
+            for byte in 0..=255 {
+                self.emit(&field(REFUSED_AT, byte));
+                self.probe((message + byte) % 2 == 0);
+            }
+        }
+        self.emit(&field(8, 0));
+        self.emit(&field(REFUSED_AT, 0));
+    }
+
+    /// Each refusal leaves its message and byte, over those of the one before.
+    fn bytes(&mut self) {
+        let mut begun = vec![&b"\x18"[..]];
+        begun.extend(BEGUN.iter().map(|begun| begun.as_bytes()));
+        for begun in begun {
+            for byte in 0..=255 {
+                self.emit(&[&[0x21], begun, &[byte]].concat());
+            }
+        }
     }
 
     /// No argument, then one at a time.
@@ -184,7 +212,7 @@ impl Generator {
         if !self.plan.is_empty() {
             return;
         }
-        match self.random.below(110) {
+        match self.random.below(126) {
             0..=1 => self.plan_start(),
             2..=3 => self.plan_refused_start(),
             4..=5 => self.plan_lengths(),
@@ -195,6 +223,7 @@ impl Generator {
             53..=56 => self.plan_long(),
             57..=62 => self.plan_pattern(),
             63..=80 => self.plan_keys(),
+            110.. => self.plan_refusals(),
             100.. => self.plan_long_fields(),
             _ => self.push_host_scene(),
         }
@@ -217,9 +246,11 @@ impl Generator {
             }
         }
         self.push_if(state.pen & 0x82 != 0, field(4, u16::from(state.pen & 0x7D)));
-        self.push_if(state.message > 1, field(8, 1));
+        self.push_if(state.message > 4, field(8, 4));
+        self.push_if(state.message == 0 && state.refused_at != 0, field(REFUSED_AT, 0));
         let mut mended = state.clone();
-        (mended.row, mended.column, mended.pen, mended.message) = (1, 1, 0, 0);
+        (mended.row, mended.column, mended.pen) = (1, 1, 0);
+        (mended.message, mended.refused_at) = (0, 0);
         mended.stops = [false; 160];
         if !mended.sound() {
             for number in (9..20).filter(|&n| fields(&state)[n] != 0) {
@@ -324,7 +355,7 @@ impl Generator {
                     cell(self.random.pick(&[0x26, 0x27]), past, 0xFF)
                 }
                 3 => {
-                    let number = self.random.between(20, FIELDS - 1);
+                    let number = self.random.between(20, REFUSED_AT - 1);
                     field(number, 1)
                 }
                 4..=6 => {
@@ -332,7 +363,7 @@ impl Generator {
                     continue;
                 }
                 _ => {
-                    let number = self.random.below(9);
+                    let number = self.random.pick(&[0, 1, 2, 3, 4, 5, 6, 7, 8, REFUSED_AT]);
                     field(number, self.odd_value(number))
                 }
             };
@@ -360,8 +391,8 @@ impl Generator {
             1 => self.random.pick(&[0, 80, 132, 160, 81, 65_535]),
             2 => self.random.pick(&[0, 1, rows, rows + 1, 65_535]),
             3 => self.random.pick(&[0, 1, columns, columns + 1, 65_535]),
-            4 => self.random.below(256) as u16,
-            8 => self.random.pick(&[0, 1, 2, 3, 128, 255]),
+            4 | REFUSED_AT => self.random.below(256) as u16,
+            8 => self.random.pick(&[0, 1, 2, 3, 4, 5, 6, 128, 255]),
             _ => self.random.pick(&[0, 1, 2, 256, 65_535]),
         }
     }
@@ -394,10 +425,51 @@ impl Generator {
         }
     }
 
-    /// Edits that keep the state sound: cursor, pen, modes, locks off, a cell, a stop.
+    /// Any message up to two past the last, any byte, or both; the two need not go together.
+    fn push_message(&mut self) {
+        let message = self.random.below(7) as u16;
+        let byte = if self.random.chance(20) { 0 } else { u16::from(self.random.byte()) };
+        let which = self.random.below(4);
+        self.push_if(which != 0, field(8, message));
+        self.push_if(which != 1, field(REFUSED_AT, byte));
+    }
+
+    /// Refusals in calls of any length, message and byte set by hand, and what clears them or
+    /// comes over them.
+    fn plan_refusals(&mut self) {
+        if self.random.chance(60) {
+            self.push_refusals();
+        }
+        if self.random.chance(60) {
+            self.push_message();
+        }
+        match self.random.below(8) {
+            0 => self.push(b"\x21\x1Bb".to_vec()),
+            1 => self.push(b"\x21\x1Bc".to_vec()),
+            2..=4 => self.push(long(0x23, 268)),
+            5 => self.push_refusals(),
+            _ => self.push_call(),
+        }
+    }
+
+    fn push_refusals(&mut self) {
+        let most = self.random.pick(&[255, 255, 20, 3]);
+        for part in self.stream().refusals().chunks(most) {
+            self.push([&[0x21][..], part].concat());
+        }
+    }
+
+    /// Edits that keep the state sound: cursor, pen, modes, locks off, a cell, a stop, a message.
     fn plan_good_edits(&mut self) {
         for _ in 0..self.random.between(1, 3) {
-            match self.random.below(9) {
+            match self.random.below(10) {
+                // Any byte is sound beside any message, and with the lock off too.
+                9 => {
+                    let message = self.random.between(1, 4) as u16;
+                    let byte = u16::from(self.random.byte());
+                    self.push(field(8, message));
+                    self.push(field(REFUSED_AT, byte));
+                }
                 // 24 by 160 and 48 by 80 lend the same number of cells.
                 8 if self.cells() == 3_840 => {
                     self.size = if self.size.0 == 24 { (48, 80) } else { (24, 160) };
@@ -563,7 +635,8 @@ impl Generator {
     }
 
     fn plan_bad_line(&mut self) {
-        let line: Vec<u8> = match self.random.below(16) {
+        let line: Vec<u8> = match self.random.below(17) {
+            16 => self.random.pick(&["2800B40100", "2800B4FFFF", "2800B400"]).into(),
             0 => b"".to_vec(),
             1 => b"2141\r".to_vec(),
             2 => b"21 41".to_vec(),
@@ -576,7 +649,7 @@ impl Generator {
             9 => self.random.pick(&["2420010000", "2400002001", "2500010001", "25FFFFFFFF"]).into(),
             10 => self.random.pick(&["26200041", "27200041", "26FFFF20", "27FFFF00"]).into(),
             11 => {
-                self.random.pick(&["2800B40001", "28FFFF0001", "2801000000", "28000B0100"]).into()
+                self.random.pick(&["2800B50001", "28FFFF0001", "2801000000", "28000B0100"]).into()
             }
             12 => self.random.pick(&["2800040100", "2800080101", "280009FFFF", "28000B01"]).into(),
             13 => self.random.pick(&["220001000241", "22FFFFFFFF41", "2200"]).into(),

@@ -1,4 +1,4 @@
-//! A second terminal after document 01 and M-101, to be compared byte for byte with another one.
+//! A second terminal after document 01, M-101 and M-102, to be compared byte for byte with another.
 
 mod compare;
 mod frames;
@@ -21,7 +21,7 @@ const USAGE: &str = "usage: second [--wrong N] COMMAND
   transcript | dump | calls                         standard input to standard output
   generate SEED FRAMES | generate-calls SEED FRAMES
   compare MODE PROGRAM.. -- SEED_FROM SEED_COUNT FRAMES
-  sweep PROGRAM..                                   its `calls`, with damage everywhere in turn
+  sweep PROGRAM..                                   its `calls`, with damage everywhere and every byte in turn
   rooms PROGRAM..                                   its `calls`, at every room up to a message's length
   teeth SEED_FROM SEED_COUNT FRAMES";
 

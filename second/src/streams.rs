@@ -4,10 +4,29 @@ use crate::random::Random;
 use crate::terminal::{State, COLUMNS, PROTECTED, ROWS};
 
 const FINALS: &[u8] = b"ABCDEFGdHfIZWJKmhlnHfmJKG";
+/// Final bytes after ESC [, and second bytes after ESC, that no command has.
+const UNLISTED: &[u8] = b"@LMNOPQRSTUVXY[\\]^_`abcegijkopqrstuvwxyz{|}~";
+const UNLISTED_AFTER_ESCAPE: &[u8] =
+    b"0123456789:;<=>?@ABCFGIJKLNOPQRTUXYZ\\]^_adefghijklmnopqrstuvwxyz{|}~";
 const UNKNOWN_KEYS: &[u32] = &[0, 1, 13, 27, 31, 127, 128, 200, 255, 269, 270, 288, 512, 65_535];
 const NOISE: &[u8] = &[
     0x00, 0x07, 0x08, 0x09, 0x0A, 0x0B, 0x0D, 0x0E, 0x17, 0x18, 0x19, 0x1A, 0x1B, 0x1C, 0x1F, 0x7F,
     0x80, 0x84, 0x85, 0x8D, 0x9A, 0x9B, 0xA0, 0xFF,
+];
+
+/// Beginnings of a sequence of each kind, spoilt or not, with enough arguments and with too many.
+pub const BEGUN: &[&str] = &[
+    "\x1B",
+    "\x1B(",
+    "\x1B #",
+    "\x1B[",
+    "\x1B[1",
+    "\x1B[6;6",
+    "\x1B[;;;;;;;",
+    "\x1B[?",
+    "\x1B[5 ",
+    "\x1B[10000",
+    "\x1B[;;;;;;;;1",
 ];
 
 pub fn any_size(random: &mut Random) -> (u16, u16) {
@@ -138,6 +157,9 @@ impl<'a> Stream<'a> {
                 self.pen();
             }
             self.escape(b'V');
+            if self.random.chance(8) {
+                self.pen();
+            }
             self.text(10);
             self.escape(b'W');
             match self.random.below(3) {
@@ -366,6 +388,11 @@ impl<'a> Stream<'a> {
             1..=5 if listed == 8 => self.random.between(2, 8),
             _ => listed.min(2 - usize::from(self.random.chance(45))),
         };
+        self.arguments(last, count, odd);
+    }
+
+    /// An ESC [ sequence of so many arguments.
+    fn arguments(&mut self, last: u8, count: usize, odd: usize) {
         self.put(b"\x1B[");
         for index in 0..count {
             let argument = self.argument(last, index, odd);
@@ -466,6 +493,156 @@ impl<'a> Stream<'a> {
             let after =
                 self.random.pick(&["m", "5", "0n", "4;H", "H", ";1m", "C", "A", "\x18", "h"]);
             self.put(after.as_bytes());
+        }
+        self.bytes
+    }
+
+    /// No command is so called, whatever its arguments.
+    fn unknown(&mut self) {
+        match self.random.below(4) {
+            0 => {
+                let byte = self.random.pick(UNLISTED_AFTER_ESCAPE);
+                self.escape(byte);
+            }
+            1 => {
+                let first = self.random.pick(&["(", "#", " ", "$)", "/ !"]);
+                let byte = self.random.between(0x30, 0x7E) as u8;
+                self.put(format!("\x1B{first}").as_bytes());
+                self.put(&[byte]);
+            }
+            _ => {
+                let last = self.random.pick(UNLISTED);
+                let count = self.random.pick(&[0, 1, 1, 2, 3, 8]);
+                self.arguments(last, count, 10);
+            }
+        }
+    }
+
+    /// Up to eight arguments, which is too many for most commands and spoils none.
+    fn too_many(&mut self) {
+        let last = self.random.pick(b"ABCDEFGdHfIZWJKn");
+        let listed = if matches!(last, b'H' | b'f') { 2 } else { 1 };
+        let most = self.random.pick(&[3, 3, 8]);
+        let count = self.random.between(listed + 1, most);
+        self.arguments(last, count, 10);
+    }
+
+    /// A listed command with one value that it doesn't take.
+    fn value_not_allowed(&mut self) {
+        let last = self.random.pick(b"dHfWJKmhln");
+        let beyond = self.random.pick(&[1, 2, 100, 9_000]);
+        let (row, column) = (self.rows + beyond, self.columns + beyond);
+        let list = match last {
+            b'd' => row.to_string(),
+            b'H' | b'f' => match self.random.below(4) {
+                0 => format!("{row}"),
+                1 => format!("{row};1"),
+                2 => format!(";{column}"),
+                _ => format!("{};{column}", self.rows),
+            },
+            b'm' => self.list_with_one(&["0", "1", "4", "7", ""], &["2", "3", "6", "9", "99"]),
+            b'h' | b'l' => self.list_with_one(&["6"], &["0", "", "5", "7", "66", "9999"]),
+            b'n' => self.random.pick(&["", "0", "1", "4", "7", "56", "9999"]).into(),
+            b'W' => self.random.pick(&["1", "3", "4", "6", "25", "9999"]).into(),
+            _ => self.random.pick(&["3", "4", "12", "9999"]).into(),
+        };
+        self.put(format!("\x1B[{list}").as_bytes());
+        self.put(&[last]);
+    }
+
+    /// Up to eight arguments, one of them, at any place, from the second list.
+    fn list_with_one(&mut self, good: &[&str], bad: &[&str]) -> String {
+        let mut list = vec![self.random.pick(bad)];
+        for _ in 0..self.random.pick(&[0, 0, 1, 1, 2, 7]) {
+            let place = self.random.between(0, list.len());
+            list.insert(place, self.random.pick(good));
+        }
+        list.join(";")
+    }
+
+    /// Spoilt in each of the ways, and often more than once, before a final byte of either sort.
+    fn spoilt(&mut self) {
+        let before = self.random.pick(&["", "", "1", "5;", "2;3"]);
+        let spoils =
+            self.random.pick(&["?", "?", " ", "/", ":", "<", "=", ">", "10000", ";;;;;;;;"]);
+        let after = self.random.pick(&["", "", "5", "1;1", "?", "!", "99999"]);
+        let finals = if self.random.chance(50) { FINALS } else { UNLISTED };
+        let last = self.random.pick(finals);
+        self.put(format!("\x1B[{before}{spoils}{after}").as_bytes());
+        self.put(&[last]);
+    }
+
+    fn begun(&mut self) {
+        let begun = self.random.pick(BEGUN);
+        self.put(begun.as_bytes());
+    }
+
+    /// Any control byte, NUL and 7F above all; 18, 1A and 1B give no message here.
+    fn broken_off(&mut self) {
+        self.begun();
+        let byte = match self.random.below(4) {
+            0 => 0x00,
+            1 => 0x7F,
+            _ => self.random.between(0x01, 0x1F) as u8,
+        };
+        self.put(&[byte]);
+    }
+
+    /// 80 to FF, outside a sequence too.
+    fn high(&mut self) {
+        if self.random.chance(70) {
+            self.begun();
+        }
+        let byte = self.random.between(0x80, 0xFF) as u8;
+        self.put(&[byte]);
+    }
+
+    /// What neither sets a message nor clears it.
+    fn no_refusal(&mut self) {
+        let part = self.random.pick(&[
+            "\x00",
+            "\x7F",
+            "\x07",
+            "x",
+            "\x18",
+            "\x1A",
+            "\x1B[?\x18",
+            "\x1B[10000\x1A",
+            "\x1B\x1B[H",
+            "\x1B(\x1B[m",
+            "\x1B[9999G",
+            "\x1B`",
+            "\x1B[5n",
+        ]);
+        self.put(part.as_bytes());
+    }
+
+    fn refusal(&mut self) {
+        match self.random.below(13) {
+            0 | 1 => self.unknown(),
+            2 | 3 => self.too_many(),
+            4 | 5 => self.value_not_allowed(),
+            6..=8 => self.spoilt(),
+            9 | 10 => self.broken_off(),
+            _ => self.high(),
+        }
+    }
+
+    /// Refusals for every reason, one over another or with something between; then, often, what
+    /// clears the last one.
+    pub fn refusals(mut self) -> Vec<u8> {
+        for _ in 0..self.random.between(1, 4) {
+            self.refusal();
+            match self.random.below(10) {
+                0 | 1 => self.no_refusal(),
+                2 => self.escape(b'b'),
+                _ => {}
+            }
+        }
+        match self.random.below(20) {
+            0..=5 => self.escape(b'b'),
+            6 => self.escape(b'c'),
+            _ => {}
         }
         self.bytes
     }

@@ -1,5 +1,5 @@
-//! The terminal of document 01 with request M-101's fields: page, state, host bytes, commands,
-//! keys, blocks and numbers.
+//! The terminal of document 01 with request M-101's fields and M-102's messages: page, state, host
+//! bytes, commands, keys, blocks and numbers.
 
 use crate::wrong;
 
@@ -17,6 +17,13 @@ const NONE: u8 = 0;
 const ESCAPE: u8 = 1;
 const INTERMEDIATE: u8 = 2;
 const BRACKET: u8 = 3;
+
+// Messages: why the last refused command was refused.
+const NO_MESSAGE: u8 = 0;
+const UNKNOWN: u8 = 1;
+const ARGUMENT: u8 = 2;
+const BROKEN: u8 = 3;
+const HIGH: u8 = 4;
 
 /// The half-read sequence; parts that its kind doesn't use are zero.
 #[derive(Clone, Copy, Debug, PartialEq, Eq)]
@@ -38,8 +45,12 @@ pub struct State {
     pub manual: bool,
     pub soft: bool,
     pub message: u8,
+    /// The byte at which the message's command was refused; 0 without a message.
+    pub refused_at: u8,
     pub half: Half,
     pub stops: [bool; 160],
+    /// Wrong edit 43's own memory, shown nowhere; 0 in the right program.
+    pub wrongly_spoilt_by: u8,
 }
 
 #[derive(Clone, Copy, Debug, PartialEq, Eq)]
@@ -128,9 +139,11 @@ impl State {
         erasure: false,
         manual: false,
         soft: false,
-        message: 0,
+        message: NO_MESSAGE,
+        refused_at: 0,
         half: Half::OUTSIDE,
         stops: [false; 160],
+        wrongly_spoilt_by: 0,
     };
 
     /// Cursor 1;1, plain pen, no stops, erasure mode reset, no lock or message, nothing half read.
@@ -143,13 +156,21 @@ impl State {
         (1..=self.rows).contains(&self.row)
             && (1..=self.columns).contains(&self.column)
             && self.pen & !(PROTECTED | VISUAL) == 0
-            && self.message <= 1
+            && self.message <= HIGH
+            && (self.message != NO_MESSAGE || self.refused_at == 0)
             && self.half.sound()
             && !self.stops[usize::from(self.columns)..].contains(&true)
     }
 
     fn locked(&self) -> bool {
         self.manual || self.soft
+    }
+
+    /// A message never stays without its byte, nor the byte without it.
+    fn lift_soft_lock(&mut self) {
+        self.soft = false;
+        self.message = NO_MESSAGE;
+        self.refused_at = 0;
     }
 
     /// The next stop to the right, else the last column.
@@ -432,19 +453,20 @@ impl Screen<'_> {
     fn byte(&mut self, byte: u8) -> Result<(), NoRoom> {
         let inside = self.state.half.kind != NONE;
         match byte {
-            0x1A if inside && wrong::is(8) => self.refuse(),
+            0x1A if inside && wrong::is(8) => self.refuse(BROKEN, byte),
             0x18 | 0x1A => self.state.half = Half::OUTSIDE,
             0x1B => self.state.half = Half::of(ESCAPE, false, 0),
             0x80.. if wrong::is(32) && !inside => {}
-            0x80.. => self.refuse(),
+            0x80.. => self.refuse(HIGH, byte),
             0x7F if inside && wrong::is(7) => {}
+            0x7F if inside && wrong::is(46) => self.refuse(HIGH, byte),
             0x0D if inside && wrong::is(21) => self.control(byte),
-            0x00..=0x1F | 0x7F if inside => self.refuse(),
+            0x00..=0x1F | 0x7F if inside => self.refuse(BROKEN, byte),
             0x00..=0x1F | 0x7F => self.control(byte),
             _ => match self.state.half.kind {
                 ESCAPE => return self.after_escape(byte),
                 INTERMEDIATE if byte < 0x30 => {}
-                INTERMEDIATE => self.refuse(),
+                INTERMEDIATE => self.refuse(UNKNOWN, byte),
                 BRACKET => return self.after_bracket(byte),
                 _ => self.text(byte),
             },
@@ -452,11 +474,16 @@ impl Screen<'_> {
         Ok(())
     }
 
-    /// Soft lock and message 1; a half-read sequence is over; nothing else changes.
-    fn refuse(&mut self) {
+    /// Soft lock, message and byte, over those of an earlier refusal; a half-read sequence is over;
+    /// nothing else changes.
+    fn refuse(&mut self, message: u8, byte: u8) {
         self.state.half = Half::OUTSIDE;
         self.state.soft = true;
-        self.state.message = 1;
+        if wrong::is(44) && self.state.message != NO_MESSAGE {
+            return;
+        }
+        self.state.message = message;
+        self.state.refused_at = byte;
     }
 
     /// Text takes the pen, is not modified, and never scrolls.
@@ -546,11 +573,10 @@ impl Screen<'_> {
             b'`' => self.state.manual = true,
             b'b' => {
                 self.state.manual = false;
-                self.state.soft = false;
-                self.state.message = 0;
+                self.state.lift_soft_lock();
             }
             _ => {
-                self.refuse();
+                self.refuse(UNKNOWN, byte);
                 return Ok(());
             }
         }
@@ -574,19 +600,44 @@ impl Screen<'_> {
 
     /// A byte after ESC [, 20 to 7E.
     fn after_bracket(&mut self, byte: u8) -> Result<(), NoRoom> {
+        let spoilt_before = self.state.half.spoilt;
         match byte {
             b'0'..=b'9' => self.state.half.digit(byte - b'0'),
             b';' => self.state.half.next_argument(),
             0x00..=0x3F => self.state.half.spoil(),
-            _ => {
-                if self.sequence(byte)? {
-                    self.state.half = Half::OUTSIDE;
-                } else {
-                    self.refuse();
-                }
-            }
+            _ => return self.finish(byte),
+        }
+        if wrong::is(43) && self.state.half.spoilt && !spoilt_before {
+            self.state.wrongly_spoilt_by = byte;
         }
         Ok(())
+    }
+
+    /// The final byte of an ESC [ sequence: done, or refused there.
+    fn finish(&mut self, last: u8) -> Result<(), NoRoom> {
+        let message = Screen::refusal(&self.state.half, last);
+        if message != NO_MESSAGE {
+            let spoiler = wrong::is(43) && message == BROKEN;
+            self.refuse(message, if spoiler { self.state.wrongly_spoilt_by } else { last });
+        } else if self.sequence(last)? {
+            self.state.half = Half::OUTSIDE;
+        } else {
+            self.refuse(ARGUMENT, last);
+        }
+        Ok(())
+    }
+
+    /// Why a sequence is refused whatever its values are: spoilt before unknown, and both before
+    /// too many arguments.
+    fn refusal(half: &Half, last: u8) -> u8 {
+        match Screen::allowed(last) {
+            0 if wrong::is(42) => UNKNOWN,
+            _ if half.spoilt => BROKEN,
+            0 => UNKNOWN,
+            most if half.count <= most => NO_MESSAGE,
+            _ if wrong::is(47) => UNKNOWN,
+            _ => ARGUMENT,
+        }
     }
 
     /// How many arguments a final byte allows; unlisted ones allow none.
@@ -599,12 +650,10 @@ impl Screen<'_> {
         }
     }
 
-    /// A finished ESC [ sequence; false if it is refused, and then nothing has changed.
+    /// A listed command with no more arguments than it takes; false if a value isn't allowed, and
+    /// then nothing has changed.
     fn sequence(&mut self, last: u8) -> Result<bool, NoRoom> {
         let half = self.state.half;
-        if half.spoilt || half.count > Screen::allowed(last) {
-            return Ok(false);
-        }
         let arguments = &half.arguments[..usize::from(half.count)];
         let number = arguments[0];
         let many = number.max(1);
@@ -780,10 +829,13 @@ impl Screen<'_> {
             266 => self.send_block(true)?,
             267 => self.send_block(false)?,
             _ => {
-                self.state.soft = false;
-                self.state.message = 0;
+                let refused_at = self.state.refused_at;
+                self.state.lift_soft_lock();
                 if wrong::is(17) {
                     self.state.manual = false;
+                }
+                if wrong::is(45) {
+                    self.state.refused_at = refused_at;
                 }
             }
         }

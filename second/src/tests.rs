@@ -1,6 +1,7 @@
-//! Document 01's examples, and request M-101's fields.
+//! Document 01's examples, request M-101's fields and M-102's messages.
 
 use crate::frames::{lines, Mode};
+use crate::generate::transcript;
 use crate::generate_calls::sweep;
 use crate::terminal::{host, key, start, Answer, State, COLUMNS, MODIFIED, PROTECTED, ROWS};
 use std::collections::BTreeSet;
@@ -48,7 +49,12 @@ impl Page {
     }
 
     fn refused(&self) -> bool {
-        self.state.soft && self.state.message == 1
+        self.state.soft && self.state.message != 0
+    }
+
+    /// The message and the byte beside it.
+    fn told(&self) -> (u8, u8) {
+        (self.state.message, self.state.refused_at)
     }
 
     fn room(mut self, room: usize) -> Page {
@@ -342,7 +348,7 @@ fn longest_blocks() {
 #[test]
 fn calls_frames() {
     let output = Mode::Calls.run(b"2400030002\n2100\n21");
-    let zeros = "0".repeat(720);
+    let zeros = "0".repeat(724);
     let call = format!("01{}\n00000 {zeros}\n000000\n0000\n", "0".repeat(24));
     assert_eq!(String::from_utf8_lossy(&output), format!("00\n{call}{call}"));
 }
@@ -366,4 +372,248 @@ fn sweep_refuses_damaged_cells() {
         before = frame;
     }
     assert_eq!((cells.len(), told.next()), (2 * 1_982, None));
+}
+
+/// Message and byte that host bytes leave on a fresh page, read as one call and byte by byte.
+fn told(bytes: &[u8]) -> (u8, u8) {
+    let (mut whole, mut cut) = (Page::fresh(), Page::fresh());
+    assert_eq!(whole.host(bytes).number, 0);
+    for byte in bytes {
+        assert_eq!(cut.host(&[*byte]).number, 0);
+    }
+    assert_eq!(whole.state, cut.state);
+    assert_eq!(whole.state.soft, whole.state.message != 0);
+    whole.told()
+}
+
+#[test]
+fn reasons() {
+    for (bytes, message, byte) in [
+        (&b"\x1B(B"[..], 1, 0x42),
+        (b"\x1B[?5Q", 3, 0x51),
+        (b"\x1B[5Q", 1, 0x51),
+        (b"\x1B[1;1;1H", 2, 0x48),
+        (b"\x1B[1;99m", 2, 0x6D),
+        (b"\x1B[1\x00", 3, 0x00),
+        (b"\x1B[?\x9B", 4, 0x9B),
+        (b"\x1By", 1, 0x79),
+    ] {
+        assert_eq!(told(bytes), (message, byte));
+    }
+}
+
+/// Where more than one reason holds, the first of 4, 3, 1, 2 is told.
+#[test]
+fn order_of_reasons() {
+    for (bytes, message, byte) in [
+        (&b"\x1B[?\xFF"[..], 4, 0xFF),
+        (b"\x1B[?\x7F", 3, 0x7F),
+        (b"\x1B[?5m", 3, b'm'),
+        (b"\x1B[1;1;1;1;1;1;1;1;1m", 3, b'm'),
+        (b"\x1B[;;;;;;;;H", 3, b'H'),
+        (b"\x1B[10000C", 3, b'C'),
+        (b"\x1B[99;10000H", 3, b'H'),
+        (b"\x1B[1;2;3~", 1, b'~'),
+        (b"\x1B[;;;;;;;@", 1, b'@'),
+        (b"\x1B[99;;d", 2, b'd'),
+        (b"\x1B[1;A", 2, b'A'),
+        (b"\x1B[99;1G", 2, b'G'),
+    ] {
+        assert_eq!(told(bytes), (message, byte));
+    }
+}
+
+const LISTED: &[u8] = b"ABCDEFGHIJKWZdfhlmn";
+
+/// The message that document 01 and M-102 give a byte after this beginning; 0 if it isn't refused.
+fn message_of(begun: &[u8], byte: u8) -> u8 {
+    let last = (0x40..=0x7E).contains(&byte);
+    let listed = LISTED.contains(&byte);
+    match (begun, byte) {
+        (_, 0x80..) => 4,
+        (_, 0x18 | 0x1A | 0x1B) | (b"", _) => 0,
+        (_, 0x00..=0x1F | 0x7F) => 3,
+        (b"\x1B", _) => u8::from(byte > 0x2F && !b"DEMHVWSc`b[".contains(&byte)),
+        (b"\x1B(", _) => u8::from(byte > 0x2F),
+        (b"\x1B[?" | b"\x1B[10000" | b"\x1B[;;;;;;;;", _) if last => 3,
+        (b"\x1B[", b'h' | b'l' | b'n') => 2,
+        (b"\x1B[0;4", b'H' | b'f' | b'm') => 0,
+        (b"\x1B[0;4", _) if listed => 2,
+        _ => u8::from(last && !listed),
+    }
+}
+
+#[test]
+fn every_byte_after_every_beginning() {
+    for begun in [
+        &b""[..],
+        b"\x1B",
+        b"\x1B(",
+        b"\x1B[",
+        b"\x1B[0;4",
+        b"\x1B[?",
+        b"\x1B[10000",
+        b"\x1B[;;;;;;;;",
+    ] {
+        for byte in 0..=255 {
+            let message = message_of(begun, byte);
+            let byte_told = if message == 0 { 0 } else { byte };
+            assert_eq!(told(&[begun, &[byte]].concat()), (message, byte_told), "{begun:?}");
+        }
+    }
+}
+
+/// A listed value is taken; another is told as an argument, at the final byte.
+#[test]
+fn values_not_allowed() {
+    for (last, allowed) in [
+        (b'W', &[0, 2, 5][..]),
+        (b'J', &[0, 1, 2]),
+        (b'K', &[0, 1, 2]),
+        (b'm', &[0, 1, 4, 5, 7, 8]),
+        (b'h', &[6]),
+        (b'l', &[6]),
+        (b'n', &[5, 6]),
+    ] {
+        for value in (0..200).chain([9_998, 9_999]) {
+            let good = allowed.contains(&value);
+            let bytes = [format!("\x1B[{value}").as_bytes(), &[last]].concat();
+            assert_eq!(told(&bytes), if good { (0, 0) } else { (2, last) });
+        }
+    }
+    for bytes in [&b"\x1B[25d"[..], b"\x1B[25H", b"\x1B[1;81H", b"\x1B[25f", b"\x1B[0;81f"] {
+        assert_eq!(told(bytes), (2, bytes[bytes.len() - 1]));
+    }
+    assert_eq!(told(b"\x1B[81G"), (0, 0));
+}
+
+#[test]
+fn later_refusal_overwrites() {
+    let mut page = Page::fresh();
+    for (bytes, message, byte) in [
+        (&b"\x1By"[..], 1, 0x79),
+        (b"\x1B[99d", 2, 0x64),
+        (b"\x80", 4, 0x80),
+        (b"\x1B[1\x00", 3, 0x00),
+        (b"\x1By\x1Bz", 1, 0x7A),
+        (b"\x1B[?\x1B[H", 1, 0x7A),
+        (b"\x1B\x18\x1B[?\x1A\x00\x7F\x07text", 1, 0x7A),
+    ] {
+        assert_eq!(page.host(bytes).number, 0);
+        assert_eq!((page.told(), page.state.soft), ((message, byte), true));
+    }
+}
+
+#[test]
+fn clearing_message_and_byte() {
+    for bytes in [&b"\x1Bb"[..], b"\x1Bc"] {
+        let mut page = Page::fresh();
+        page.host(b"\x1B`\x1By");
+        assert_eq!(page.host(bytes).number, 0);
+        assert_eq!((page.told(), page.state.soft, page.state.manual), ((0, 0), false, false));
+        assert_eq!(page.key(65).number, 0);
+    }
+    for bytes in [&b"\x1By"[..], b"\x1B`\x1B[?m", b"\x1B(\x00", b"\xFF"] {
+        let mut page = Page::fresh();
+        page.host(bytes);
+        let manual = page.state.manual;
+        assert!(page.refused());
+        assert_eq!((page.key(65).number, page.key(268).number), (5, 0));
+        assert_eq!((page.told(), page.state.soft, page.state.manual), ((0, 0), false, manual));
+        assert_eq!(page.key(65).number, if manual { 5 } else { 0 });
+    }
+}
+
+/// A command that lacks room leaves the message of the one before it.
+#[test]
+fn no_room_leaves_the_message() {
+    let mut page = Page::fresh().room(3);
+    assert_eq!(page.host(b"\x1By\x1B[5n").number, 3);
+    assert_eq!(page.told(), (1, 0x79));
+}
+
+#[test]
+fn message_and_byte_in_range() {
+    let mut state = Page::fresh().state;
+    for message in 0..=255 {
+        for byte in 0..=255 {
+            for soft in [false, true] {
+                (state.message, state.refused_at, state.soft) = (message, byte, soft);
+                let sound = if message == 0 { byte == 0 } else { message <= 4 };
+                assert_eq!(state.sound(), sound);
+            }
+        }
+    }
+}
+
+#[test]
+fn message_and_byte_out_of_range() {
+    let calls: [fn(&mut Page) -> Answer; 2] = [|page| page.host(b"\x1Bb"), |page| page.key(268)];
+    for (message, byte, number) in [(0, 1, 2), (0, 0x80, 2), (5, 0, 2), (5, 0x41, 2), (3, 0, 0)] {
+        for call in calls {
+            let mut page = Page::fresh();
+            (page.state.message, page.state.refused_at) = (message, byte);
+            assert_eq!(call(&mut page).number, number);
+            assert_eq!(page.told(), if number == 0 { (0, 0) } else { (message, byte) });
+        }
+    }
+}
+
+#[test]
+fn dump_shows_the_byte() {
+    let output = Mode::Dump.run(b"001850\n011B5B3F3551\n02010C\n");
+    let shown: Vec<_> = lines(&output).filter(|line| line.starts_with(b"manual")).collect();
+    let line = |soft, message, byte| {
+        format!("manual 0 soft {soft} message {message:05} byte {byte:02X}").into_bytes()
+    };
+    assert_eq!(shown, [line(0, 0, 0), line(1, 3, 0x51), line(0, 0, 0)]);
+}
+
+/// Field 180 is the last of the state, and a byte; 181 is none.
+#[test]
+fn calls_show_the_byte() {
+    let input = b"2000180050\n2800080004\n2800B400FF\n21\n2800B40100\n2800B50000\n2800080000\n21";
+    let output = Mode::Calls.run(input);
+    let short: Vec<_> = lines(&output).filter(|line| line.len() < 1_000).collect();
+    let numbers: Vec<_> = short.iter().map(|line| &line[..2]).collect();
+    let want = ["00", "00", "00", "00", "00", "00", "FF", "FF", "00", "02", "00"];
+    assert_eq!(numbers, want.map(str::as_bytes));
+    for (line, message, byte) in [(1, 0, 0), (5, 4, 0xFF), (10, 0, 0xFF)] {
+        let state = &short[line][6..];
+        assert_eq!(state.len(), 181 * 4);
+        assert_eq!(state[8 * 4..9 * 4], *format!("{message:04X}").as_bytes());
+        assert_eq!(state[180 * 4..], *format!("{byte:04X}").as_bytes());
+    }
+}
+
+/// Message and byte as the dump of a generated transcript shows them, each time they change.
+fn shown(seed: u64) -> Vec<(u8, u8)> {
+    let output = Mode::Dump.run(&transcript(seed, 300));
+    let of_line = |line: &[u8]| {
+        let text = std::str::from_utf8(line).ok()?.strip_prefix("manual ")?;
+        let words: Vec<_> = text.split(' ').collect();
+        Some((words[4].parse().ok()?, u8::from_str_radix(words[6], 16).ok()?))
+    };
+    let mut all: Vec<_> = lines(&output).filter_map(of_line).collect();
+    all.dedup();
+    all
+}
+
+/// Every reason comes up often, at most of its bytes, and over another one.
+#[test]
+fn generated_refusals() {
+    let all: Vec<_> = (1..=60).map(shown).collect();
+    let told = |message| {
+        let of_message = all.iter().flatten().filter(move |told| told.0 == message);
+        let bytes: Vec<u8> = of_message.map(|told| told.1).collect();
+        (bytes.len(), bytes.into_iter().collect::<BTreeSet<u8>>())
+    };
+    for (message, often, different) in [(1, 400, 70), (2, 400, 19), (3, 600, 80), (4, 150, 64)] {
+        let (times, bytes) = told(message);
+        assert!(times > often && bytes.len() >= different, "{message}: {times}, {bytes:?}");
+    }
+    assert!(told(2).1.into_iter().eq(LISTED.iter().copied()));
+    assert!(told(3).1.contains(&0x00) && told(3).1.contains(&0x7F));
+    let over = |pair: &&[(u8, u8)]| pair[0].0 != 0 && pair[1].0 != 0;
+    assert!(all.iter().flat_map(|told| told.windows(2)).filter(over).count() > 300);
 }
