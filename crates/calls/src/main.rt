@@ -142,7 +142,7 @@ fn print_changed(changed: usize)
 
 // All parts of a state, two bytes each.
 fn print_state(state: State) {
-    let mut bytes = [0u8; 360];
+    let mut bytes = [0u8; 362];
     let mut part = 0;
     while part < damage::PARTS {
         let value = damage::part_of(state, part);
@@ -395,13 +395,14 @@ fn set_cell(cells: &mut [u8], frame: &[u8])
     confirm();
 }
 
-// Pen, message, kind and count are bytes.
+// Pen, message, kind, count and the byte beside the message are bytes.
 fn largest(part: usize) -> usize {
     match part {
         4 => 255,
         8 => 255,
         9 => 255,
         11 => 255,
+        180 => 255,
         _ => 65535,
     }
 }

@@ -9,7 +9,7 @@ use Rattle.output.specs.Decimal.{decimal, placeBytes}
 use Rattle.places.specs.Places.{placeOf}
 use Rattle.fields.specs.Fields.{joined, startsField, endFrom, fieldEnd, fieldsFrom, fieldsOf}
 use Rattle.blocks.specs.Blocks.{entryBytes, encode, entryOf, isInBlock, entriesSent, block}
-use Rattle.state.specs.State.{refused, inputDisabled, inputEnabled}
+use Rattle.state.specs.State.{messageOf, refused, inputDisabled, inputEnabled}
 use Rattle.state.specs.Moves.{backBy, onBy, upBy, downBy, rightBy, leftBy, toMargin, toNextCell}
 use Rattle.state.specs.Tabs.{stopSet, stopCleared, stopsCleared, stopRight, stopLeft, stopsOn, stopsBack, tabbedOn, tabbedBack}
 use Rattle.steps.specs.Steps.{bytesOf, blockTransmission}
@@ -33,7 +33,7 @@ readings = tt
 
 -- What becomes of the state.
 unfoldable states : Unit {0}
-unfolding tests refused inputDisabled inputEnabled backBy onBy upBy downBy rightBy leftBy toMargin toNextCell stopSet stopCleared stopsCleared stopRight stopLeft stopsOn stopsBack tabbedOn tabbedBack isVisual penAfter penAfterAll
+unfolding tests messageOf refused inputDisabled inputEnabled backBy onBy upBy downBy rightBy leftBy toMargin toNextCell stopSet stopCleared stopsCleared stopRight stopLeft stopsOn stopsBack tabbedOn tabbedBack isVisual penAfter penAfterAll
 states = tt
 
 -- What becomes of the page.

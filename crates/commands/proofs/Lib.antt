@@ -10,4 +10,5 @@ pub mod Stepping
 pub mod Computing
 pub mod Streams
 pub mod Examples
+pub mod Messages
 pub mod Cells

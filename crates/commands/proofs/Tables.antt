@@ -26,8 +26,7 @@ use Rattle.state.specs.declared.State.{State}
 use Rattle.state.specs.State.{OnPage, withHalf, refused}
 use Rattle.state.specs.Moves.{downBy, toMargin}
 use Rattle.state.specs.Pen.{validPen}
-use Rattle.state.specs.Tests.{validState}
-use Rattle.state.proofs.Keeping.{KeepsValid, size-bounds, on-page, parts, up-keeps-valid, down-keeps-valid, right-keeps-valid, left-keeps-valid, margin-keeps-valid, next-cell-keeps-valid, cursor-keeps-valid, tab-on-keeps-valid, tab-back-keeps-valid, stop-set-keeps-valid, stop-cleared-keeps-valid, stops-cleared-keeps-valid, pen-keeps-valid, protected-keeps-pen, unprotected-keeps-pen, erasure-keeps-valid, disabled-keeps-valid, enabled-keeps-valid, refused-keeps-valid, half-keeps-valid, fresh-valid}
+use Rattle.state.proofs.Keeping.{KeepsValid, size-bounds, on-page, parts, up-keeps-valid, down-keeps-valid, right-keeps-valid, left-keeps-valid, margin-keeps-valid, next-cell-keeps-valid, cursor-keeps-valid, tab-on-keeps-valid, tab-back-keeps-valid, stop-set-keeps-valid, stop-cleared-keeps-valid, stops-cleared-keeps-valid, pen-keeps-valid, protected-keeps-pen, unprotected-keeps-pen, erasure-keeps-valid, disabled-keeps-valid, enabled-keeps-valid, half-keeps-valid, fresh-valid}
 use Rattle.steps.specs.Steps.{Terminal, silent, report, fullBlock, blockTransmission, Stepped, withState, goesTo, stores, sends, refusing, cursorCell, Valid, rowStart}
 use Rattle.steps.specs.Claims.{markLeft, Refusal}
 use Rattle.steps.proofs.Storing.{Stored, text-stored, blank-stored, up-stored, down-stored, erasing-stored}
@@ -304,11 +303,13 @@ whatever-half-read Asked t half step holds = let sound = holds .sound in record 
 }
 
 -- What is left of a refused command, which did nothing else.
-refusal-left : (reason : Reason) (byte : ℕ) (t : Terminal) (half : HalfRead) → Refusal t (refusing reason byte (withState t (withHalf (t .state) half)))
+refusal-left : (reason : Reason) (byte : ℕ) (t : Terminal) (half : HalfRead) → Refusal byte t (refusing reason byte (withState t (withHalf (t .state) half)))
 unfolding refused
 refusal-left reason byte t half = record {
   soft-lock = refl;
-  invalid-command = refl;
+  reason = reason;
+  message = refl;
+  byte-kept = refl;
   manual-lock = refl;
   page = refl;
   size = refl;
@@ -334,6 +335,6 @@ module _ (byte : ℕ) (t : Terminal) (valid : Valid t) where
   unfolding hostStep
   host-holds = whatever-half-read _ t (next .state .half) _ (byte-holds .host)
 
-  pub host-refusal : hostStep byte t .wasRefused ≡ true → Refusal t (hostStep byte t)
+  pub host-refusal : hostStep byte t .wasRefused ≡ true → Refusal byte t (hostStep byte t)
   unfolding hostStep
   host-refusal was = let refusal = byte-holds .refusal was in rw (refusal .is) (refusal-left (refusal .reason) byte t (next .state .half))

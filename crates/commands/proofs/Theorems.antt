@@ -51,8 +51,8 @@ module _ (byte : ℕ) (t : Terminal) (valid : Valid t) where
   pub step-names-none : hostStep byte t .cells ≡ [] → KeepsText (t .page) (hostStep byte t .terminal .page)
   step-names-none no-cell = names-none t (hostStep byte t) valid (host-holds byte t valid .sound) no-cell
 
-  -- A refused command sets the soft lock and message 1, and all else stays but the half-read record.
-  pub step-refused : hostStep byte t .wasRefused ≡ true → Refusal t (hostStep byte t)
+  -- A refused command sets the soft lock, a reason's message and this byte; all else stays but the half-read record.
+  pub step-refused : hostStep byte t .wasRefused ≡ true → Refusal byte t (hostStep byte t)
   step-refused was = host-refusal byte t valid was
 
   -- Only ESC S sends a full block, and it has all fields of the page; no byte sends a changed block.

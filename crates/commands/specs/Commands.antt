@@ -46,7 +46,8 @@ erasing from end t =
     let erasure = t .state .modes .erasure in
     stores (cellsErased erasure from end (t .page)) erasure (t .state) (erased erasure from end (t .page))
 
--- ED and EL, in a range of cells: what comes after the cursor, what comes before it, each with its cell, or everything.
+-- ED and EL, in a range of cells: what comes after the cursor, what comes before it, each with its cell, or everything;
+-- else refused at the final byte.
 unfoldable pub erasePart : ℕ → ℕ → ℕ → ℕ → Terminal → Stepped
 erasePart final what first end t =
     if eqb what 0 then erasing (cursorCell (t .state)) end t
@@ -70,7 +71,7 @@ listedStep final arguments count t =
     else statusReport final first t  -- n: DSR
 
 -- The table is consulted before anything else: a command that isn't listed is unknown, and one with more arguments than
--- it may have is refused too.
+-- it may have is refused for its arguments.
 unfoldable pub bracketStep : ℕ → HalfRead → Terminal → Stepped
 bracketStep final half t =
     if eqb (allowed final .most) 0 then refusing UnknownCommand final t

@@ -1,6 +1,7 @@
 -- The state's parts by number, in the order of second/FORMATS.md, section "calls": a test reads and sets any of them.
 -- 0 rows, 1 columns, 2 the cursor's row, 3 its column, 4 pen, 5 erasure mode, 6 manual lock, 7 soft lock, 8 message,
--- 9 kind of the half-read record, 10 its spoilt flag, 11 its count, 12 to 19 its arguments, 20 to 179 the tab stops.
+-- 9 kind of the half-read record, 10 its spoilt flag, 11 its count, 12 to 19 its arguments, 20 to 179 the tab stops,
+-- 180 the byte beside the message.
 use mathlib.Core.Bool.{Bool, false}
 use mathlib.Core.List.{List, [], _∷_}
 use Prim.Native.Nat.{ℕ, _-_, _%_}
@@ -41,6 +42,7 @@ partOf s part =
     if ltb part 12 then getD (firstParts s) part 0
     else if ltb part 20 then getD (s .half .arguments) (part - 12) 0
     else if ltb part 180 then flagNumber (getD (s .stops) (part - 20) false)
+    else if eqb part 180 then s .locks .byte
     else 0
 
 -- What a part of this number becomes where a part is set: only that one changes. A byte takes the value's low byte.
@@ -74,6 +76,7 @@ withPart s part value =
             manual = chosen 6 part (isOn value) (s .locks .manual);
             soft = chosen 7 part (isOn value) (s .locks .soft);
             message = chosen 8 part (value % 256) (s .locks .message);
+            byte = chosen 180 part (value % 256) (s .locks .byte);
           };
       stops = stopsWith (s .stops) part value;
       half =

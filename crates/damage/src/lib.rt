@@ -11,7 +11,7 @@ ghost use Rattle.damage.specs.Parts.{flagNumber, isOn, firstParts, partO
 ghost use Rattle.damage.specs.Parts.{chosen, argumentsWith, stopsWith, withPart};
 
 // As many parts as a state has.
-pub const PARTS: usize = 180;
+pub const PARTS: usize = 181;
 
 fn flag_number(flag: bool) -> usize
     ensures { λ r. ⌜ r ≡ flagNumber flag ⌝ }
@@ -57,6 +57,9 @@ pub fn part_of(state: State, part: usize) -> usize
     if part < 180 {
         let stops = state.stops;
         return flag_number(stops[part - 20]);
+    }
+    if part == 180 {
+        return state.locks.byte as usize;
     }
     0
 }
@@ -139,6 +142,7 @@ pub fn with_part(state: State, part: usize, value: u16) -> State
             manual: flag_with(6, part, value, state.locks.manual),
             soft: flag_with(7, part, value, state.locks.soft),
             message: byte_with(8, part, value, state.locks.message),
+            byte: byte_with(180, part, value, state.locks.byte),
         },
         stops: stops_with(stops, part, value),
         half: HalfRead {

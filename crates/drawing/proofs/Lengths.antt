@@ -38,7 +38,7 @@ pub pen-length : (modes : Modes) → length (penLine modes) ≡ 17
 unfolding penLine
 pen-length modes = refl
 
-pub locks-length : (locks : Locks) → length (locksLine locks) ≡ 30
+pub locks-length : (locks : Locks) → length (locksLine locks) ≡ 38
 unfolding locksLine
 locks-length locks = refl
 
@@ -56,7 +56,7 @@ pub half-length : (half : HalfRead) → length (halfLine half) ≡ 90
 unfolding halfLine
 half-length half = simp (length-append, all-arguments-length (half .arguments))
 
-pub state-length : (state : State) → length (stateLines state) ≡ 340
+pub state-length : (state : State) → length (stateLines state) ≡ 348
 unfolding stateLines
 state-length state = simp (length-append, pen-length (state .modes), locks-length (state .locks), stops-length (state .stops), half-length (state .half))
 
@@ -83,7 +83,7 @@ module _ (state : State) (characters marks : List ℕ) where
   parts-length = simp length-append
 
   -- For a caller's room.
-  pub drawn-length : length characters ≡ state .size .rows * state .size .columns → length marks ≡ state .size .rows * state .size .columns → length (drawn state characters marks) ≡ 340 + state .size .rows * (state .size .columns + 3) + state .size .rows * (2 * state .size .columns + 2)
+  pub drawn-length : length characters ≡ state .size .rows * state .size .columns → length marks ≡ state .size .rows * state .size .columns → length (drawn state characters marks) ≡ 348 + state .size .rows * (state .size .columns + 3) + state .size .rows * (2 * state .size .columns + 2)
   drawn-length c m =
       let columns = state .size .columns in
       let shown = rows-length false columns (columns + 3) (λ row h. rw h at (character-line-length row refl)) (state .size .rows) characters c in

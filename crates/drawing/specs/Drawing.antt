@@ -2,7 +2,7 @@
 --     size 00024 00080
 --     cursor 00001 00006
 --     pen 00 erasure 0
---     manual 0 soft 0 message 00000
+--     manual 0 soft 0 message 00000 byte 00
 --     stops ....T...                                      (160 of them, column 1 first)
 --     half 00003 spoilt 0 count 00002 arguments 00001 00005 00000 00000 00000 00000 00000 00000
 --     |KN  .          |                                   (R lines)
@@ -60,6 +60,8 @@ locksLine locks =
     flagged (bytes "manual ") (locks .manual)
     ++ flagged (bytes " soft ") (locks .soft)
     ++ numbered (bytes " message ") (locks .message)
+    ++ bytes " byte "
+    ++ hexByte (locks .byte)
     ++ lineEnd
 
 abbrev pub allStops : List Bool → List ℕ

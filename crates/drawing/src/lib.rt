@@ -60,12 +60,14 @@ fn put_modes(text: &mut [u8], at: usize, modes: Modes) -> usize
 }
 
 fn put_locks(text: &mut [u8], at: usize, locks: Locks) -> usize
-    requires { ⌜ at + 30 ≤ length (now text) ⌝ }
+    requires { ⌜ at + 38 ≤ length (now text) ⌝ }
     ensures { λ r. ⌜ Wrote at (locksLine locks) (now (text .entry)) r (now (text .exit)) ⌝ }
 {
     let soft = put_flag(text, at, b"manual ", locks.manual);
     let message = put_flag(text, soft, b" soft ", locks.soft);
-    let end = put_number(text, message, b" message ", locks.message as usize);
+    let word = put_number(text, message, b" message ", locks.message as usize);
+    let byte = numerals::put_all(text, word, b" byte ");
+    let end = numerals::put_hex_byte(text, byte, locks.byte);
     output::put_byte(text, end, b'\n')
 }
 
@@ -126,7 +128,7 @@ fn put_half(text: &mut [u8], at: usize, half: HalfRead) -> usize
 
 fn put_state(text: &mut [u8], at: usize, state: State) -> usize
     requires { ⌜ FiveDigitsEach state ⌝ }
-    requires { ⌜ at + 340 ≤ length (now text) ⌝ }
+    requires { ⌜ at + 348 ≤ length (now text) ⌝ }
     ensures { λ r. ⌜ Wrote at (stateLines state) (now (text .entry)) r (now (text .exit)) ⌝ }
 {
     let stops = state.stops;

@@ -231,14 +231,14 @@ as-worked-out : map asRun examples ≡ map (λ (e : Example). e .seen) examples
 unfolding characters marks on asRun goesOn storedOn sentOn goes stored sent closed ends whole examples if_then_else_ _and_ _or_ _is_to_ within eachFrom numbersFrom onPart selected unprotected typed tagged blanked closedUp movedRight markAfterBlock modifiedCleared placeOf decimal placeBytes joined startsField fieldStart endFrom fieldEnd fieldsFrom fieldsOf orElse firstField lastField firstAfter lastBefore nextField previousField firstUnprotectedFrom firstUnprotected nextUnprotected entryBytes encode entryOf someModified isInBlock entriesSent block unlocked backBy onBy upBy downBy rightBy leftBy bytesOf blockTransmission sendBlock isTyping goneTo typedStep toNextField toPreviousField toFirstUnprotected fieldBlanked restShifted keyStep
 as-worked-out = refl
 
--- 268: soft lock and message are cleared; the manual lock, and all else, stays. It is the one key that a lock lets
--- pass.
-locked : Bool → Bool → ℕ → Terminal
-locked manual soft message =
+-- 268: soft lock, message and byte are cleared; the manual lock, and all else, stays. It is the one key that a lock
+-- lets pass.
+locked : Bool → Bool → ℕ → ℕ → Terminal
+locked manual soft message byte =
     let t = on (pageOf characters marks) 1 3 in
-    record { state = withLocks (t .state) (record { manual = manual; soft = soft; message = message }); page = t .page }
+    record { state = withLocks (t .state) (record { manual = manual; soft = soft; message = message; byte = byte }); page = t .page }
 
-unlocks : map (λ (t : Terminal). keyStep 268 t .terminal) (locked false true 1 ∷ locked true true 1 ∷ locked true false 0 ∷ []) ≡ (locked false false 0 ∷ locked true false 0 ∷ locked true false 0 ∷ [])
+unlocks : map (λ (t : Terminal). keyStep 268 t .terminal) (locked false true 1 0x42 ∷ locked true true 3 0 ∷ locked true false 0 0 ∷ []) ≡ (locked false false 0 0 ∷ locked true false 0 0 ∷ locked true false 0 0 ∷ [])
 unfolding characters marks on locked if_then_else_ _and_ _is_to_ isTyping unlocked keyStep
 unlocks = refl
 
@@ -246,7 +246,7 @@ lockedOut : Terminal → List Bool
 lockedOut t = map (λ (key : ℕ). isLockedOut key (t .state)) (0x41 ∷ 256 ∷ 267 ∷ 268 ∷ [])
 
 -- Either lock keeps the other keys out.
-locks-out : map lockedOut (locked false true 1 ∷ locked true false 0 ∷ locked false false 0 ∷ []) ≡ ((true ∷ true ∷ true ∷ false ∷ []) ∷ (true ∷ true ∷ true ∷ false ∷ []) ∷ (false ∷ false ∷ false ∷ false ∷ []) ∷ [])
+locks-out : map lockedOut (locked false true 1 0x42 ∷ locked true false 0 0 ∷ locked false false 0 0 ∷ []) ≡ ((true ∷ true ∷ true ∷ false ∷ []) ∷ (true ∷ true ∷ true ∷ false ∷ []) ∷ (false ∷ false ∷ false ∷ false ∷ []) ∷ [])
 unfolding characters marks on locked lockedOut _and_ _or_ isLocked isLockedOut
 locks-out = refl
 

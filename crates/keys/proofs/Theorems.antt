@@ -81,12 +81,12 @@ module _ (key : ℕ) (t : Terminal) where
   pub key-keeps-protection : KeepsProtection (t .page) (keyStep key t .terminal .page)
   key-keeps-protection cell _ = no-key-changes-protection cell
 
-  -- Only 268 changes a lock or the message.
+  -- Only 268 changes a lock, the message or its byte.
   pub only-268-unlocks : (key ≡ 268 → ⊥) → keyStep key t .terminal .state .locks ≡ t .state .locks
   only-268-unlocks = key-always key t .locks
 
--- 268 clears the soft lock and the message, and does nothing else.
-pub unlocked-step : (t : Terminal) → keyStep 268 t ≡ goesTo (withLocks (t .state) (record { manual = t .state .locks .manual; soft = false; message = 0 })) t
+-- 268 clears the soft lock, the message and its byte, and does nothing else.
+pub unlocked-step : (t : Terminal) → keyStep 268 t ≡ goesTo (withLocks (t .state) (record { manual = t .state .locks .manual; soft = false; message = 0; byte = 0 })) t
 unfolding keyStep isTyping _is_to_ _and_ if_then_else_ unlocked
 unlocked-step t = refl
 

@@ -14,10 +14,10 @@ use Rattle.blocks.specs.Blocks.{entryBytes, encode, entryOf, someModified, isIn
 use Rattle.blocks.specs.Decode.{inFront, split, readNumber, readEntry, decode}
 use Rattle.blocks.specs.Lay.{samePlace, laidOn, lay}
 use Rattle.blocks.specs.Finding.{endsReport, endsHead, outside, inside, afterByte, blocksFrom}
-use Rattle.state.specs.State.{refused, inputDisabled, unlocked}
+use Rattle.state.specs.State.{messageOf, refused, inputDisabled, unlocked}
 use Rattle.state.specs.Moves.{onBy, rightBy}
 use Rattle.state.specs.Pen.{validPen}
-use Rattle.state.specs.Tests.{listedRows, listedColumns, listedSize, sizeFits, cursorFits, stopsFit, validState}
+use Rattle.state.specs.Tests.{listedRows, listedColumns, listedSize, sizeFits, cursorFits, stopsFit, validMessage, validState}
 use Rattle.steps.specs.Steps.{bytesOf, blockTransmission}
 use Rattle.table.specs.Table.{allowed, valueOf}
 use Rattle.state.specs.Moves.{toNextCell}
@@ -40,7 +40,7 @@ unfolding if_then_else_ _and_ _or_ _is_to_
 tests = tt
 
 unfoldable pub validity : Unit {0}
-unfolding tests every argumentsFit largestArgument validHalfRead validPage validPen listedRows listedColumns listedSize sizeFits cursorFits stopsFit validState
+unfolding tests every argumentsFit largestArgument validHalfRead validPage validPen listedRows listedColumns listedSize sizeFits cursorFits stopsFit validMessage validState
 validity = tt
 
 -- The bytes of a block whose fields are known, and a block laid over a copy.
@@ -59,7 +59,7 @@ finding = tt
 
 -- The steps of host bytes and of keys.
 unfoldable pub hostSteps : Unit {0}
-unfolding tests withDigit withNextArgument isControl isCancel outsideSequence afterEsc afterIntermediate afterBracket insideSequence advanceOf textStored markAfterBlock modifiedCleared eachFrom refused inputDisabled decimal placeBytes bytesOf blockTransmission allowed valueOf toPlace keptColumn toNextCell textStep sendBlock escStep readyReport cursorReport statusReport isMove moveStep listedStep bracketStep eventStep hostStep
+unfolding tests withDigit withNextArgument isControl isCancel outsideSequence afterEsc afterIntermediate afterBracket insideSequence advanceOf textStored markAfterBlock modifiedCleared eachFrom messageOf refused inputDisabled decimal placeBytes bytesOf blockTransmission allowed valueOf toPlace keptColumn toNextCell textStep sendBlock escStep readyReport cursorReport statusReport isMove moveStep listedStep bracketStep eventStep hostStep
 hostSteps = tt
 
 unfoldable pub keySteps : Unit {0}

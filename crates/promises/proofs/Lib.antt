@@ -14,6 +14,9 @@ pub mod Sending
 pub mod OurLaws
 pub mod FeedingRuns
 pub mod Asking
+pub mod Arguments
+pub mod Reasoning
+pub mod Messages
 pub mod FeedingReads
 pub mod FeedingPlace
 pub mod FeedingCells

@@ -1,4 +1,5 @@
--- What is promised and kept: the three demands (specs/Demands.antt), and what else is promised (specs/Further.antt).
+-- What is promised and kept: the three demands (specs/Demands.antt), and what else is promised (specs/Further.antt,
+-- specs/Reasons.antt).
 use mathlib.Core.Path.{_≡_}
 use Rattle.terminal.specs.Answers.{Outcome, given}
 use Rattle.terminal.specs.Calls.{startCall, hostCall, keyCall}
@@ -7,6 +8,7 @@ use Rattle.promises.specs.Rules.{Rules, ourRules}
 use Rattle.promises.specs.Entries.{Entries, ourEntries}
 use Rattle.promises.specs.Contracts.{ourContracts}
 use Rattle.promises.specs.Demands.{Demand1, Follows, Demand2, Demand3}
+use Rattle.promises.specs.Reasons.{Reasons, MessageStays}
 use Rattle.promises.specs.Further.{AllSame, OneResult, SameEntries, OneTerminal, ValidByTheTable, StaysValid, StartsWithOneField, SameHoweverCut, Continuing, Progress, CallsAreSteps, BlocksKeep, SendsBlocks, Bounded, CopyingSteps, OmissionSteps}
 use Rattle.promises.proofs.OurLaws.{our-step-laws, our-keeps}
 use Rattle.promises.proofs.Doing.{by-the-table}
@@ -16,6 +18,8 @@ use Rattle.promises.proofs.Calling.{calls-are-steps-of, continuing-of, 
 use Rattle.promises.proofs.Feeding.{our-feeding-back}
 use Rattle.promises.proofs.Sending.{blocks-keep-of, bounded-of, progress-of}
 use Rattle.promises.proofs.Asking.{our-sends-blocks}
+use Rattle.promises.proofs.Reasoning.{our-reasons}
+use Rattle.promises.proofs.Messages.{our-message-stays}
 use Rattle.promises.proofs.Copied.{copying-of}
 use Rattle.promises.proofs.Omitted.{omission-of}
 use Rattle.promises.proofs.CopiedCalls.{finding-of, copying-calls-of}
@@ -52,7 +56,7 @@ one-result = record {
   of-key = λ t key lent. only-outcome (keyCall t key lent);
 }
 
--- Demand 1 and Follows leave one terminal, whatever the rules; with document 01's it is ours.
+-- Demand 1 and Follows leave one terminal, whatever the rules; with `ourRules` it is ours.
 pub one-terminal : (rules : Rules) → OneTerminal rules
 one-terminal rules one other first follows first-too follows-too =
     same-entries rules one other
@@ -100,3 +104,9 @@ copying-steps = copying-of ourRules our-step-laws
 
 pub omission-steps : OmissionSteps ourRules
 omission-steps = omission-of ourRules our-step-laws
+
+pub reasons : Reasons ourRules
+reasons = our-reasons
+
+pub message-stays : MessageStays ourRules
+message-stays = our-message-stays

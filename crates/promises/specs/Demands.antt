@@ -1,5 +1,6 @@
--- The three demands, in their order: of rules (what a step does, document 01's definitions) and of entries (what runs).
--- `demands` (proofs/Theorems.antt) is that ours keep them. What else is promised stands in Further.antt.
+-- The three demands, in their order: of rules (what a step does, by definition) and of entries (what runs).
+-- `demands` (proofs/Theorems.antt) is that ours keep them. What else is promised stands in Further.antt and
+-- Reasons.antt.
 use mathlib.Core.Path.{_≡_}
 use mathlib.Core.Bool.{false}
 use mathlib.Core.List.{List, [], _∷_, _++_}

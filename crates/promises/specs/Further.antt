@@ -1,5 +1,6 @@
 -- What else is promised, beside the three demands: of contracts, of entries with the rules that they follow, and of
--- rules alone. The theorems are in proofs/Theorems.antt; that none is empty, the wrong terminals show (crates/wrong).
+-- rules alone. Why a byte is refused has a page of its own (Reasons.antt). The theorems are in proofs/Theorems.antt;
+-- that none is empty, the wrong terminals show (crates/wrong).
 use mathlib.Core.Path.{_≡_}
 use mathlib.Core.Bool.{Bool, true, false}
 use mathlib.Core.List.{List, [], _∷_, map}

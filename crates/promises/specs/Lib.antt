@@ -5,3 +5,4 @@ pub mod Copying
 pub mod Demands
 pub mod Contracts
 pub mod Further
+pub mod Reasons

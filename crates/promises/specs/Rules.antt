@@ -13,7 +13,7 @@ pub record Rules : Type 0 where
   pub onByte : ℕ → Terminal → Stepped
   pub onKey : ℕ → Terminal → Stepped
 
--- Those of document 01.
+-- Those of documents 01 and 02.
 abbrev pub ourRules : Rules
 ourRules = record { onByte = hostStep; onKey = keyStep }
 

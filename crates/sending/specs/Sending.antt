@@ -11,7 +11,7 @@ use Rattle.sequence.specs.declared.Reason.the-variants.{WrongArguments}
 use Rattle.steps.specs.Steps.{Terminal, report, blockTransmission, Stepped, sends, refusing}
 use Rattle.steps.specs.Seen.{blockHere}
 
--- DSR: 5 gives ESC [ 0 n, 6 gives CPR, ESC [ row ; column R.
+-- DSR: 5 gives ESC [ 0 n, 6 gives CPR, ESC [ row ; column R; else it is refused at its final byte.
 abbrev pub readyBytes : List ℕ
 readyBytes = 0x1B ∷ code "[" ∷ code "0" ∷ code "n" ∷ []
 

@@ -30,7 +30,7 @@ module _ (half : HalfRead) (v : Valid half) (not-none : half .kind ≡ 0 → ⊥
       (λ _ p. let low = leb-true (half .kind) 2 (both p .0) in absurd (omega arith)))
       v
 
-  is-bracket : half .kind ≡ 3
+  pub is-bracket : half .kind ≡ 3
   is-bracket = bracket-facts .0
 
   pub arguments-counted : (1 ≤ half .count) × (half .count ≤ 8)

@@ -6,14 +6,15 @@ use mathlib.Core.Logic.{_⊎_, inl, inr, ⊎-elim}
 use Prim.Native.Nat.{ℕ, zero, suc, _-_, _<_, _≤_}
 use native.Mathlib.Omega.{arith}
 use borrow.Author.Tests.{ltb-true, leb-true, eqb-true, lt-ltb, not-true}
-use lib.Dec.{leb, eqb}
+use lib.Dec.{eqb}
 use lib.ListN.{set, replicate}
 use lib.Seq.{drop-set-lt}
-use Rattle.words.specs.Choice.{_and_, _or_}
+use Rattle.words.specs.Choice.{if_then_else_, _and_, _or_}
 use Rattle.words.specs.Lists.{every}
 use Rattle.words.proofs.Choosing.{either-line, both, both-hold, one-holds, range-holds, range-is}
 use Rattle.sequence.specs.declared.HalfRead.{HalfRead}
 use Rattle.sequence.specs.declared.Reason.{Reason}
+use Rattle.sequence.specs.declared.Reason.the-variants.{UnknownCommand, WrongArguments, BrokenSequence, HighByte}
 use Rattle.sequence.specs.Record.{validHalfRead}
 use Rattle.sequence.proofs.Keeping.{nothing-valid}
 use Rattle.page.specs.Marks.{isModified}
@@ -21,12 +22,13 @@ use Rattle.page.proofs.Bits.{OthersStay, other-bit, set-others, cleared-others}
 use Rattle.page.proofs.Keeping.{mark-stays-valid}
 use Rattle.state.specs.declared.Size.{Size}
 use Rattle.state.specs.declared.Cursor.{Cursor}
+use Rattle.state.specs.declared.Locks.{Locks}
 use Rattle.state.specs.declared.State.{State}
-use Rattle.state.specs.State.{OnPage, withCursor, cursorAt, withLocks, withStops, withHalf, freshState, refused, inputDisabled, inputEnabled, unlocked}
+use Rattle.state.specs.State.{OnPage, withCursor, cursorAt, withLocks, withStops, withHalf, noLocks, freshState, messageOf, refused, inputDisabled, inputEnabled, unlocked}
 use Rattle.state.specs.Moves.{backBy, onBy, upBy, downBy, rightBy, leftBy, toMargin, toNextCell}
 use Rattle.state.specs.Tabs.{stopSet, stopCleared, stopsCleared, stopsOn, stopsBack, tabbedOn, tabbedBack}
 use Rattle.state.specs.Pen.{penProtected, penUnprotected, penPlain, penBold, penUnderlined, penBlinking, penReversed, penConcealed, validPen, withPen, withErasure}
-use Rattle.state.specs.Tests.{listedRows, listedColumns, listedSize, cursorFits, stopsFit, validState}
+use Rattle.state.specs.Tests.{listedRows, listedColumns, listedSize, cursorFits, stopsFit, validMessage, validState}
 use Rattle.state.proofs.Laws.{OneTo, right-within, left-within}
 use Rattle.state.proofs.Pens.{clears-visual}
 
@@ -58,12 +60,24 @@ size-bounds size p =
     ⊎-elim (λ e. (omega arith, omega arith)) (⊎-elim (λ e. (omega arith, omega arith)) (λ e. (omega arith, omega arith))) (columns-listed (size .columns) (both p .1)) in
     record { some-rows = rows .0; rows-most = rows .1; some-columns = columns .0; columns-most = columns .1 }
 
+-- No message has no byte, and every reason has a message.
+no-message : validMessage noLocks ≡ true
+unfolding validMessage if_then_else_
+no-message = refl
+
+reason-has-message : (reason : Reason) (manual : Bool) (byte : ℕ) → validMessage (record { manual = manual; soft = true; message = messageOf reason; byte = byte }) ≡ true
+unfolding validMessage messageOf if_then_else_
+reason-has-message UnknownCommand manual byte = refl
+reason-has-message WrongArguments manual byte = refl
+reason-has-message BrokenSequence manual byte = refl
+reason-has-message HighByte manual byte = refl
+
 -- The five tests of a valid state.
 pub record Parts (s : State) : Type 0 where
   pub cursor : cursorFits (s .size) (s .cursor) ≡ true
   pub stops : stopsFit (s .size .columns) (s .stops) ≡ true
   pub pen : validPen (s .modes .pen) ≡ true
-  pub message : leb (s .locks .message) 1 ≡ true
+  pub message : validMessage (s .locks) ≡ true
   pub half : validHalfRead (s .half) ≡ true
 
 module _ (s : State) where
@@ -76,7 +90,7 @@ module _ (s : State) where
       let last = both (after-pen .1) in
       record { cursor = after-cursor .0; stops = after-stops .0; pen = after-pen .0; message = last .0; half = last .1 }
 
-  whole : cursorFits (s .size) (s .cursor) ≡ true → stopsFit (s .size .columns) (s .stops) ≡ true → validPen (s .modes .pen) ≡ true → leb (s .locks .message) 1 ≡ true → validHalfRead (s .half) ≡ true → validState s ≡ true
+  whole : cursorFits (s .size) (s .cursor) ≡ true → stopsFit (s .size .columns) (s .stops) ≡ true → validPen (s .modes .pen) ≡ true → validMessage (s .locks) ≡ true → validHalfRead (s .half) ≡ true → validState s ≡ true
   unfolding validState
   whole cursor stops pen message half = both-hold _ _ cursor (both-hold _ _ stops (both-hold _ _ pen (both-hold _ _ message half)))
 
@@ -276,27 +290,24 @@ module _ (s : State) (valid : validState s ≡ true) where
   erasure-keeps-valid erasure = record { size = refl; valid = valid }
 
   -- locks and message
-  locks-keep-valid : (manual soft : Bool) (message : ℕ) → leb message 1 ≡ true → KeepsValid s (withLocks s (record { manual = manual; soft = soft; message = message }))
-  locks-keep-valid manual soft message p = record {
-    size = refl;
-    valid = whole (withLocks s (record { manual = manual; soft = soft; message = message })) (was .cursor) (was .stops) (was .pen) p (was .half);
-  }
+  locks-keep-valid : (locks : Locks) → validMessage locks ≡ true → KeepsValid s (withLocks s locks)
+  locks-keep-valid locks p = record { size = refl; valid = whole (withLocks s locks) (was .cursor) (was .stops) (was .pen) p (was .half) }
 
   pub refused-keeps-valid : (reason : Reason) (byte : ℕ) → KeepsValid s (refused reason byte s)
   unfolding refused
-  refused-keeps-valid reason byte = locks-keep-valid (s .locks .manual) true 1 refl
+  refused-keeps-valid reason byte = locks-keep-valid _ (reason-has-message reason (s .locks .manual) byte)
 
   pub disabled-keeps-valid : KeepsValid s (inputDisabled s)
-  unfolding inputDisabled
-  disabled-keeps-valid = locks-keep-valid true (s .locks .soft) (s .locks .message) (was .message)
+  unfolding inputDisabled validMessage
+  disabled-keeps-valid = locks-keep-valid _ (was .message)
 
   pub enabled-keeps-valid : KeepsValid s (inputEnabled s)
   unfolding inputEnabled
-  enabled-keeps-valid = locks-keep-valid false false 0 refl
+  enabled-keeps-valid = locks-keep-valid noLocks no-message
 
   pub unlocked-keeps-valid : KeepsValid s (unlocked s)
-  unfolding unlocked
-  unlocked-keeps-valid = locks-keep-valid (s .locks .manual) false 0 refl
+  unfolding unlocked validMessage if_then_else_
+  unlocked-keeps-valid = locks-keep-valid _ no-message
 
   -- the half-read record
   pub half-keeps-valid : (half : HalfRead) → validHalfRead half ≡ true → KeepsValid s (withHalf s half)
@@ -311,4 +322,4 @@ fresh-valid size listed =
     let bounds = size-bounds size listed in
     whole (freshState size)
     (in-range size (record { row = 1; column = 1 }) (omega arith, bounds .some-rows) (omega arith, bounds .some-columns))
-    (no-stops-fit (size .columns) 160) (pen-in-range 0 (omega arith) refl) refl nothing-valid
+    (no-stops-fit (size .columns) 160) (pen-in-range 0 (omega arith) refl) no-message nothing-valid

@@ -6,22 +6,23 @@ use mathlib.Core.Logic.{⊎-elim, _↔_}
 use Prim.Native.Nat.{ℕ, zero, suc, _+_, _-_, _<_, _≤_}
 use native.Mathlib.Omega.{arith}
 use borrow.Author.Tests.{ltb-true, ltb-false, leb-true, leb-false, eqb-true, eqb-false, not-true, not-false}
-use lib.Dec.{leb, eqb}
+use lib.Dec.{eqb}
 use lib.ListN.{length, getD, drop}
 use lib.Seq.{getD-drop}
 use Rattle.words.specs.Choice.{_and_, _or_}
 use Rattle.words.specs.Lists.{every}
-use Rattle.words.proofs.Choosing.{true-is-not-false, both, neither, one-fails, range-holds, range-fails, refuted}
+use Rattle.words.proofs.Choosing.{true-is-not-false, both, neither, one-fails, range-holds, range-fails, refuted, either-way, then-case, else-case}
 use Rattle.words.proofs.Passing.{passes}
 use Rattle.sequence.specs.Record.{validHalfRead}
 use Rattle.sequence.proofs.Range.{out-of-range}
 use Rattle.page.specs.Marks.{isModified, validCharacter, validMark}
 use Rattle.page.specs.Page.{Page, validPage}
 use Rattle.state.specs.declared.Size.{Size}
+use Rattle.state.specs.declared.Locks.{Locks}
 use Rattle.state.specs.declared.State.{State}
 use Rattle.state.specs.Pen.{validPen}
-use Rattle.state.specs.Tests.{listedRows, listedColumns, listedSize, sizeFits, cursorFits, stopsFit, validState}
-use Rattle.state.specs.Lines.{Line1, rows-not-listed, columns-not-listed, characters-not-as-long, marks-not-as-long, Line2, above-first-row, below-last-row, before-first-column, past-last-column, cell-too-low, cell-too-high, marks-bit-7, stop-past-last-column, pen-bit-7, pen-modified, message-neither-0-nor-1, half-read-out-of-range}
+use Rattle.state.specs.Tests.{listedRows, listedColumns, listedSize, sizeFits, cursorFits, stopsFit, validMessage, validState}
+use Rattle.state.specs.Lines.{Line1, rows-not-listed, columns-not-listed, characters-not-as-long, marks-not-as-long, Line2, above-first-row, below-last-row, before-first-column, past-last-column, cell-too-low, cell-too-high, marks-bit-7, stop-past-last-column, pen-bit-7, pen-modified, message-above-4, byte-without-message, half-read-out-of-range}
 use Rattle.state.proofs.Laws.{OneTo}
 use Rattle.state.proofs.Keeping.{rows-listed, columns-listed, parts, row-range, column-range, pen-range}
 
@@ -31,7 +32,7 @@ none-of n a b c p =
     let later = neither (neither p .1) in
     (eqb-false n a (neither p .0), eqb-false n b (later .0), eqb-false n c (later .1))
 
-some-fails : {A : Type 0} (test : A → Bool) (other : A) (list : List A) → every test list ≡ false → (k : ℕ) × (k < length list) × (test (getD list k other) ≡ false)
+pub some-fails : {A : Type 0} (test : A → Bool) (other : A) (list : List A) → every test list ≡ false → (k : ℕ) × (k < length list) × (test (getD list k other) ≡ false)
 unfolding every
 some-fails test other [] p = absurd (true-is-not-false p)
 some-fails test other (x ∷ rest) p =
@@ -71,6 +72,14 @@ module _ (size : Size) (page : Page) where
   pub line-1 : (sizeFits size page ≡ false) ↔ Line1 size page
   line-1 = (line-1-holds, λ line. refuted _ (λ p. not-line-1 p line))
 
+-- What a valid message is.
+message-range : (locks : Locks) → validMessage locks ≡ true → (locks .message ≤ 4) × (locks .message ≡ 0 → locks .byte ≡ 0)
+unfolding validMessage
+message-range locks p =
+    either-way (eqb (locks .message) 0)
+    (λ none. let zero = eqb-true (locks .message) 0 none in (omega arith, λ _. eqb-true _ _ (sym (then-case _ _ _ none) ∙ p)))
+    (λ some. (leb-true _ _ (sym (else-case _ _ _ some) ∙ p), λ none. absurd (eqb-false _ _ some none)))
+
 -- Line 2, clause by clause.
 module _ (s : State) (page : Page) where
   cursor-off : cursorFits (s .size) (s .cursor) ≡ false → Line2 s page
@@ -93,8 +102,12 @@ module _ (s : State) (page : Page) where
   unfolding validPen
   pen-out p = ⊎-elim (λ q. pen-bit-7 (ltb-false _ _ q)) (λ q. pen-modified (not-false _ q)) (one-fails p)
 
-  message-out : leb (s .locks .message) 1 ≡ false → Line2 s page
-  message-out p = let more = leb-false (s .locks .message) 1 p in message-neither-0-nor-1 (λ e. omega arith) (λ e. omega arith)
+  message-out : validMessage (s .locks) ≡ false → Line2 s page
+  unfolding validMessage
+  message-out p =
+      either-way (eqb (s .locks .message) 0)
+      (λ none. byte-without-message (eqb-true _ _ none) (eqb-false _ _ (sym (then-case _ _ _ none) ∙ p)))
+      (λ some. message-above-4 (leb-false _ _ (sym (else-case _ _ _ some) ∙ p)))
 
   cell-out : every validCharacter (page .characters) ≡ false → Line2 s page
   cell-out p =
@@ -140,6 +153,9 @@ module _ (s : State) (page : Page) (valid : validState s ≡ true) (fine : valid
   pen-is : (s .modes .pen < 0x80) × (isModified (s .modes .pen) ≡ false)
   pen-is = pen-range (s .modes .pen) (parts s valid .pen)
 
+  message-is : (s .locks .message ≤ 4) × (s .locks .message ≡ 0 → s .locks .byte ≡ 0)
+  message-is = message-range (s .locks) (parts s valid .message)
+
   not-line-2 : Line2 s page → ⊥
   not-line-2 (above-first-row off) = omega (arith, row-is .0)
   not-line-2 (below-last-row off) = omega (arith, row-is .1)
@@ -151,7 +167,8 @@ module _ (s : State) (page : Page) (valid : validState s ≡ true) (fine : valid
   not-line-2 (stop-past-last-column column past set) = true-is-not-false (sym set ∙ no-stop-past (s .size .columns) (s .stops) (parts s valid .stops) (column - 1) (omega arith))
   not-line-2 (pen-bit-7 high) = omega (arith, pen-is .0)
   not-line-2 (pen-modified set) = true-is-not-false (sym set ∙ pen-is .1)
-  not-line-2 (message-neither-0-nor-1 not-0 not-1) = let most = leb-true (s .locks .message) 1 (parts s valid .message) in omega arith
+  not-line-2 (message-above-4 high) = omega (arith, message-is .0)
+  not-line-2 (byte-without-message none some) = some (message-is .1 none)
   not-line-2 (half-read-out-of-range out) = true-is-not-false (sym (parts s valid .half) ∙ out-of-range (s .half) .1 out)
 
 pub line-2 : (s : State) (page : Page) → ((validState s and validPage page) ≡ false) ↔ Line2 s page

@@ -34,6 +34,8 @@ pub data Line2 (s : State) (page : Page) : Type 0 where
   -- the other ranges
   pen-bit-7 : 0x80 ≤ s .modes .pen → Line2 s page
   pen-modified : isModified (s .modes .pen) ≡ true → Line2 s page
-  message-neither-0-nor-1 : (s .locks .message ≡ 0 → ⊥) → (s .locks .message ≡ 1 → ⊥) → Line2 s page
+  -- message and byte, as M-102 has them
+  message-above-4 : 4 < s .locks .message → Line2 s page
+  byte-without-message : s .locks .message ≡ 0 → (s .locks .byte ≡ 0 → ⊥) → Line2 s page
   -- the half-read record's clauses have a table of their own
   half-read-out-of-range : HalfReadOutOfRange (s .half) → Line2 s page

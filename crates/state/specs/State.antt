@@ -7,6 +7,7 @@ use Prim.Native.Nat.{ℕ, _≤_}
 use lib.ListN.{length, replicate}
 use Rattle.sequence.specs.declared.HalfRead.{HalfRead}
 use Rattle.sequence.specs.declared.Reason.{Reason}
+use Rattle.sequence.specs.declared.Reason.the-variants.{UnknownCommand, WrongArguments, BrokenSequence, HighByte}
 use Rattle.sequence.specs.Record.{nothingRead}
 use Rattle.state.specs.declared.Size.{Size}
 use Rattle.state.specs.declared.Cursor.{Cursor}
@@ -43,6 +44,10 @@ pub record Arrays (s : State) : Type 0 where
   pub stops : length (s .stops) ≡ 160
   pub arguments : length (s .half .arguments) ≡ 8
 
+-- No lock, no message, and so no byte.
+abbrev pub noLocks : Locks
+noLocks = record { manual = false; soft = false; message = 0; byte = 0 }
+
 -- A fresh page's state: cursor 1;1, plain pen, erasure mode reset, no lock or message, no tab stops, nothing half read.
 abbrev pub freshState : Size → State
 freshState size =
@@ -50,7 +55,7 @@ freshState size =
       size = size;
       cursor = record { row = 1; column = 1 };
       modes = record { pen = 0; erasure = false };
-      locks = record { manual = false; soft = false; message = 0 };
+      locks = noLocks;
       stops = replicate 160 false;
       half = nothingRead;
     }
@@ -62,24 +67,36 @@ zeroState =
       size = record { rows = 0; columns = 0 };
       cursor = record { row = 0; column = 0 };
       modes = record { pen = 0; erasure = false };
-      locks = record { manual = false; soft = false; message = 0 };
+      locks = noLocks;
       stops = replicate 160 false;
       half = nothingRead;
     }
 
--- "Reading host bytes", a refused command: the soft lock and message 1, INVALID CMD, and nothing else.
+-- Document 02, M-102: 1 unknown command; 2 an argument not allowed, or too many; 3 a sequence spoilt, or broken off;
+-- 4 a byte of 80 or above.
+unfoldable pub messageOf : Reason → ℕ
+messageOf UnknownCommand = 1
+messageOf WrongArguments = 2
+messageOf BrokenSequence = 3
+messageOf HighByte = 4
+
+-- "Reading host bytes", a refused command: the soft lock, and by M-102 the reason's message and the byte at which it
+-- was refused, in place of those of a command refused before; and nothing else.
 unfoldable pub refused : Reason → ℕ → State → State
-refused reason byte s = withLocks s (record { manual = s .locks .manual; soft = true; message = 1 })
+refused reason byte s =
+    withLocks s (record { manual = s .locks .manual; soft = true; message = messageOf reason; byte = byte })
 
 -- "Commands", ESC ` and ESC b; "keys", 268.
 unfoldable pub inputDisabled : State → State
-inputDisabled s = withLocks s (record { manual = true; soft = s .locks .soft; message = s .locks .message })
+inputDisabled s =
+    let locks = s .locks in
+    withLocks s (record { manual = true; soft = locks .soft; message = locks .message; byte = locks .byte })
 
 unfoldable pub inputEnabled : State → State
-inputEnabled s = withLocks s (record { manual = false; soft = false; message = 0 })
+inputEnabled s = withLocks s noLocks
 
 unfoldable pub unlocked : State → State
-unlocked s = withLocks s (record { manual = s .locks .manual; soft = false; message = 0 })
+unlocked s = withLocks s (record { manual = s .locks .manual; soft = false; message = 0; byte = 0 })
 
 -- The cursor is on a page of no more than 48 x 160 cells.
 pub record OnPage (s : State) : Type 0 where

@@ -5,12 +5,13 @@ use mathlib.Core.List.{List}
 use Prim.Native.Nat.{ℕ, _*_}
 use lib.Dec.{leb, eqb}
 use lib.ListN.{length, drop}
-use Rattle.words.specs.Choice.{_and_, _or_, _is_to_}
+use Rattle.words.specs.Choice.{if_then_else_, _and_, _or_, _is_to_}
 use Rattle.words.specs.Lists.{every}
 use Rattle.page.specs.Page.{Page, cells}
 use Rattle.sequence.specs.Record.{validHalfRead}
 use Rattle.state.specs.declared.Size.{Size}
 use Rattle.state.specs.declared.Cursor.{Cursor}
+use Rattle.state.specs.declared.Locks.{Locks}
 use Rattle.state.specs.declared.State.{State}
 use Rattle.state.specs.Pen.{validPen}
 
@@ -39,11 +40,17 @@ cursorFits size cursor = cursor .row is 1 to size .rows and cursor .column is 1 
 unfoldable pub stopsFit : ℕ → List Bool → Bool
 stopsFit columns stops = every not (drop columns stops)
 
+-- M-102: the message is 0 to 4, and where there is none there is no byte.
+unfoldable pub validMessage : Locks → Bool
+validMessage locks =
+    if eqb (locks .message) 0 then eqb (locks .byte) 0
+    else leb (locks .message) 4
+
 -- The state's own part of line 2 is not given.
 unfoldable pub validState : State → Bool
 validState s =
     cursorFits (s .size) (s .cursor)
     and stopsFit (s .size .columns) (s .stops)
     and validPen (s .modes .pen)
-    and leb (s .locks .message) 1
+    and validMessage (s .locks)
     and validHalfRead (s .half)

@@ -19,7 +19,7 @@ use sequence::Reason;
 ghost use mathlib.Core.Path.{_≡_};
 ghost use Rattle.places.specs.Places.{placeOf, cellAt};
 ghost use Rattle.state.specs.State.{OnPage, withLocks, withHalf, freshState, zeroState};
-ghost use Rattle.state.specs.State.{refused, inputDisabled, inputEnabled, unlocked};
+ghost use Rattle.state.specs.State.{messageOf, refused, inputDisabled, inputEnabled, unlocked};
 
 pub struct Size {
     pub rows: usize,
@@ -37,11 +37,13 @@ pub struct Modes {
     pub erasure: bool,
 }
 
-// Manual input disabled, the soft lock, and the message: 0 none, 1 INVALID CMD.
+// Manual input disabled, the soft lock, and the message: 0 none, 1 to 4 why a command was refused (`message_of`).
 pub struct Locks {
     pub manual: bool,
     pub soft: bool,
     pub message: u8,
+    // at which it was refused; 0 without a message
+    pub byte: u8,
 }
 
 pub struct State {
@@ -72,7 +74,20 @@ const UNLOCKED: Locks = Locks {
     manual: false,
     soft: false,
     message: 0,
+    byte: 0,
 };
+
+// The message that tells a reason.
+fn message_of(reason: Reason) -> u8
+    ensures { λ r. ⌜ r ≡ messageOf reason ⌝ }
+{
+    match reason {
+        Reason::UnknownCommand => 1,
+        Reason::WrongArguments => 2,
+        Reason::BrokenSequence => 3,
+        Reason::HighByte => 4,
+    }
+}
 
 impl State {
     // A fresh page's state.
@@ -112,7 +127,7 @@ impl State {
         Place::at(self.cursor.row, self.cursor.column, self.size.columns)
     }
 
-    // Other locks and another message.
+    // Other locks, another message and byte.
     fn with_locks(self, locks: Locks) -> Self
         ensures { λ r. ⌜ r ≡ withLocks self locks ⌝ }
     {
@@ -121,14 +136,15 @@ impl State {
         next
     }
 
-    // A refused command, for a reason, at a byte: the soft lock and INVALID CMD.
+    // A refused command: the soft lock, the reason's message and the byte, in place of those of one before.
     pub fn refuse(self, reason: Reason, byte: u8) -> Self
         ensures { λ r. ⌜ r ≡ refused reason byte self ⌝ }
     {
         self.with_locks(Locks {
             manual: self.locks.manual,
             soft: true,
-            message: 1,
+            message: message_of(reason),
+            byte,
         })
     }
 
@@ -140,17 +156,18 @@ impl State {
             manual: true,
             soft: self.locks.soft,
             message: self.locks.message,
+            byte: self.locks.byte,
         })
     }
 
-    // ESC b takes every lock off, and the message.
+    // ESC b takes every lock off, and message and byte.
     pub fn enable_input(self) -> Self
         ensures { λ r. ⌜ r ≡ inputEnabled self ⌝ }
     {
         self.with_locks(UNLOCKED)
     }
 
-    // Key 268 takes the soft lock off, and the message.
+    // Key 268 takes the soft lock off, and message and byte.
     pub fn unlock(self) -> Self
         ensures { λ r. ⌜ r ≡ unlocked self ⌝ }
     {
@@ -158,6 +175,7 @@ impl State {
             manual: self.locks.manual,
             soft: false,
             message: 0,
+            byte: 0,
         })
     }
 

@@ -1,5 +1,6 @@
 // What a call asks of the state before anything else; see specs/Tests.antt.
 use crate::Cursor;
+use crate::Locks;
 use crate::Size;
 use crate::State;
 use page::Mark;
@@ -7,7 +8,7 @@ ghost use mathlib.Core.Path.{_≡_};
 ghost use Rattle.page.specs.Page.{pageOf};
 ghost use Rattle.state.specs.Pen.{validPen};
 ghost use Rattle.state.specs.Tests.{listedRows, listedColumns, listedSize, sizeFits, cursorFits};
-ghost use Rattle.state.specs.Tests.{stopsFit, validState};
+ghost use Rattle.state.specs.Tests.{stopsFit, validMessage, validState};
 
 // A page may have 24, 27 or 48 rows.
 fn is_listed_rows(rows: usize) -> bool
@@ -73,6 +74,16 @@ fn is_valid_pen(pen: Mark) -> bool
     !page::is_modified(pen)
 }
 
+// A message in range, 0 to 4, and no byte where there is none.
+fn is_valid_message(locks: Locks) -> bool
+    ensures { λ r. ⌜ r ≡ validMessage locks ⌝ }
+{
+    if locks.message == 0 {
+        return locks.byte == 0;
+    }
+    locks.message <= 4
+}
+
 impl Size {
     // Whether it is one of the nine sizes.
     pub fn is_listed(self) -> bool
@@ -114,7 +125,7 @@ impl State {
         if !is_valid_pen(self.modes.pen) {
             return false;
         }
-        if 1 < self.locks.message {
+        if !is_valid_message(self.locks) {
             return false;
         }
         self.half.is_valid()

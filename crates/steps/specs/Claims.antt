@@ -4,6 +4,8 @@ use mathlib.Core.List.{List, [], _∷_, List·Memᴰ}
 use mathlib.Core.Path.{_≡_}
 use Prim.Native.Nat.{ℕ, _+_, _<_, _≤_}
 use lib.ListN.{length, getD}
+use Rattle.sequence.specs.declared.Reason.{Reason}
+use Rattle.state.specs.State.{messageOf}
 use Rattle.page.specs.Marks.{unprotected}
 use Rattle.page.specs.Page.{Page, markAfterBlock}
 use Rattle.steps.specs.Steps.{Terminal, Transmission, silent, report, fullBlock, changedBlock, Stepped}
@@ -62,10 +64,13 @@ StoresNoCell step = step .cells ≡ []
 abbrev pub counted : Stepped → ℕ
 counted step = length (step .cells)
 
--- A refused command sets the soft lock and message 1; all else is as it was, but for the half-read record.
-pub record Refusal (t : Terminal) (step : Stepped) : Type 0 where
+-- A refused command sets the soft lock, the message of some reason, and the byte at which it was refused; all else is
+-- as it was, but for the half-read record.
+pub record Refusal (byte : ℕ) (t : Terminal) (step : Stepped) : Type 0 where
   pub soft-lock : step .terminal .state .locks .soft ≡ true
-  pub invalid-command : step .terminal .state .locks .message ≡ 1
+  pub reason : Reason
+  pub message : step .terminal .state .locks .message ≡ messageOf reason
+  pub byte-kept : step .terminal .state .locks .byte ≡ byte
   pub manual-lock : step .terminal .state .locks .manual ≡ t .state .locks .manual
   pub page : step .terminal .page ≡ t .page
   pub size : step .terminal .state .size ≡ t .state .size

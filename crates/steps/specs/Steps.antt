@@ -76,8 +76,8 @@ sends transmission s page =
       protection = false;
     }
 
--- A command is refused, for a reason, at a byte: the state says so, and nothing else changes. This is the one place that
--- refuses, whatever it is, a command, a sequence or a byte.
+-- A command is refused, for a reason, at a byte: the state says so, and nothing else changes. This is the one place
+-- that refuses, whatever it is, a command, a sequence or a byte.
 abbrev pub refusing : Reason → ℕ → Terminal → Stepped
 refusing reason byte t =
     record {

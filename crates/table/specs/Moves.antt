@@ -1,4 +1,5 @@
--- Document 01, "Commands": the commands of the table that only move the cursor.
+-- Document 01, "Commands": the commands of the table that only move the cursor. `final` is the final byte, which is
+-- named where the command is refused.
 use mathlib.Core.Bool.{Bool}
 use mathlib.Core.List.{List}
 use Prim.Native.Nat.{ℕ}
@@ -13,7 +14,6 @@ use Rattle.sequence.specs.declared.Reason.the-variants.{WrongArguments}
 use Rattle.steps.specs.Steps.{Terminal, Stepped, goesTo, refusing}
 use Rattle.table.specs.Table.{valueOf}
 
--- A command that is refused is refused at its final byte.
 -- CHA (source 001, lines 2258 to 2260): past C it is ignored. VPA (lines 2262 to 2268): past R it is refused.
 unfoldable pub toColumn : ℕ → Terminal → Stepped
 toColumn column t =
@@ -60,6 +60,7 @@ moveStep final arguments t =
     else if eqb final (code "d") then toRow final first t  -- VPA
     else if eqb final (code "H") then toPlace final first second t  -- CUP
     else if eqb final (code "f") then
-    toPlace final first (keptColumn (getD arguments 0 0) (getD arguments 1 0) second (t .state .cursor .column)) t  -- HVP
+    toPlace final first  -- HVP
+    (keptColumn (getD arguments 0 0) (getD arguments 1 0) second (t .state .cursor .column)) t
     else if eqb final (code "I") then goesTo (tabbedOn first (t .state)) t  -- CHT
     else goesTo (tabbedBack first (t .state)) t  -- Z: CBT

@@ -1,4 +1,5 @@
--- Document 01, "Commands": the commands of the table that set tab stops, the pen and the mode.
+-- Document 01, "Commands": the commands of the table that set tab stops, the pen and the mode. `final` is the final
+-- byte, which is named where the command is refused.
 use mathlib.Core.Bool.{Bool}
 use mathlib.Core.List.{List, [], _∷_}
 use Prim.Native.Nat.{ℕ}

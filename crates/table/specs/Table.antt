@@ -14,7 +14,7 @@ pub record Allowed : Type 0 where
 abbrev pub takes : ℕ → ℕ → Allowed
 takes most zeroIs = record { most = most; zeroIs = zeroIs }
 
--- A command that isn't listed may have none, and each sequence has one at least: so it is refused.
+-- 0 stands for a command that isn't listed: a sequence has one argument at least, and a listed one may have one.
 unfoldable pub allowed : ℕ → Allowed
 allowed final =
     if final is code "A" to code "D" then takes 1 1  -- CUU, CUD, CUF, CUB

@@ -3,6 +3,7 @@
 use mathlib.Core.Path.{_≡_, refl}
 use mathlib.Core.List.{List, [], _∷_, _++_, map}
 use mathlib.Core.Bool.{Bool, true, false}
+use Prim.Native.Char.{code}
 use Prim.Native.Nat.{ℕ}
 use Prim.Native.String.{String}
 use lib.ListN.{take, replicate}
@@ -17,10 +18,10 @@ use Rattle.page.specs.Page.{pageOf, validPage, textStored, markAfterBlock, modi
 use Rattle.places.specs.Places.{placeOf}
 use Rattle.fields.specs.Fields.{joined, startsField, endFrom, fieldEnd, fieldsFrom, fieldsOf}
 use Rattle.blocks.specs.Blocks.{entryBytes, encode, entryOf, someModified, isInBlock, entriesSent, block}
-use Rattle.state.specs.State.{refused}
+use Rattle.state.specs.State.{messageOf, refused}
 use Rattle.state.specs.Moves.{onBy, rightBy}
 use Rattle.state.specs.Pen.{validPen}
-use Rattle.state.specs.Tests.{listedRows, listedColumns, listedSize, sizeFits, cursorFits, stopsFit, validState}
+use Rattle.state.specs.Tests.{listedRows, listedColumns, listedSize, sizeFits, cursorFits, stopsFit, validMessage, validState}
 use Rattle.steps.specs.Steps.{Terminal, bytesOf, blockTransmission}
 use Rattle.table.specs.Table.{allowed, valueOf}
 use Rattle.state.specs.Moves.{toNextCell}
@@ -52,13 +53,15 @@ last given (call ∷ later) = last (outcome call (given .terminal)) later
 started : Outcome
 started = startCall (record { rows = 24; columns = 80 }) (pageOf (replicate 1920 0) (replicate 1920 0))
 
--- What document 01 tells of a call: number, cursor, soft lock, message, cells stored, bytes sent.
+-- What document 01 tells of a call: number, cursor, soft lock, message (by M-102, with its byte), cells stored, bytes
+-- sent.
 record Seen : Type 0 where
   number : ℕ
   row : ℕ
   column : ℕ
   locked : Bool
   message : ℕ
+  byte : ℕ
   stored : ℕ
   sent : List ℕ
 
@@ -70,6 +73,7 @@ seen given =
       column = given .terminal .state .cursor .column;
       locked = given .terminal .state .locks .soft;
       message = given .terminal .state .locks .message;
+      byte = given .terminal .state .locks .byte;
       stored = given .stored;
       sent = take (given .sent) (given .output);
     }
@@ -78,16 +82,19 @@ record Example : Type 0 where
   calls : List ExampleCall
   gives : Seen
 
--- A cursor and a count, no lock; and a refused command.
+-- A cursor and a count, no lock; and a refused command, at 1;1, with its message and byte.
 goes : ℕ → ℕ → ℕ → Seen
-goes row column stored = record { number = 0; row = row; column = column; locked = false; message = 0; stored = stored; sent = [] }
+goes row column stored =
+    record { number = 0; row = row; column = column; locked = false; message = 0; byte = 0; stored = stored; sent = [] }
 
 refuses : ℕ → ℕ → Seen
-refuses row column = record { number = 0; row = row; column = column; locked = true; message = 1; stored = 0; sent = [] }
+refuses message byte =
+    record { number = 0; row = 1; column = 1; locked = true; message = message; byte = byte; stored = 0; sent = [] }
 
 -- A key at 1;1 that stores nothing.
 keyed : ℕ → List ℕ → Seen
-keyed number sent = record { number = number; row = 1; column = 1; locked = false; message = 0; stored = 0; sent = sent }
+keyed number sent =
+    record { number = number; row = 1; column = 1; locked = false; message = 0; byte = 0; stored = 0; sent = sent }
 
 infix 68 _leave_
 _leave_ : List ExampleCall → Seen → Example
@@ -106,10 +113,10 @@ examples : List Example
 examples =
     -- ESC [ 24 ; 80 H and ESC [ 25 ; 1 H
     (at24x80 ∷ []) leave goes 24 80 0
-    ∷ (sequence "25;1H" ∷ []) leave refuses 1 1
+    ∷ (sequence "25;1H" ∷ []) leave refuses 2 (code "H")
     -- ESC [ 81 G and ESC [ 25 d
     ∷ (sequence "81G" ∷ []) leave goes 1 1 0
-    ∷ (sequence "25d" ∷ []) leave refuses 1 1
+    ∷ (sequence "25d" ∷ []) leave refuses 2 (code "d")
     -- from 4;20: ESC [ 3 G, ESC [ 5 f, ESC [ 5 H
     ∷ (at4x20 ∷ sequence "3G" ∷ []) leave goes 4 3 0
     ∷ (at4x20 ∷ sequence "5f" ∷ []) leave goes 5 20 0
@@ -117,10 +124,10 @@ examples =
     -- text A at 24;80
     ∷ (at24x80 ∷ host 0 (bytes "A") ∷ []) leave goes 1 1 1
     -- nine arguments to m
-    ∷ (sequence "1;1;1;1;1;1;1;1;1m" ∷ []) leave refuses 1 1
+    ∷ (sequence "1;1;1;1;1;1;1;1;1m" ∷ []) leave refuses 3 (code "m")
     -- 9999 to C, and 10000
     ∷ (sequence "9999C" ∷ []) leave goes 1 80 0
-    ∷ (sequence "10000C" ∷ []) leave refuses 1 1
+    ∷ (sequence "10000C" ∷ []) leave refuses 3 (code "C")
     -- an empty host call
     ∷ (host 0 [] ∷ []) leave goes 1 1 0
     -- key 266 with no room, and with room for one byte, nothing modified
@@ -130,5 +137,5 @@ examples =
 
 -- Each leaves what document 01 says.
 as-document-01 : map (λ (e : Example). seen (last started (e .calls))) examples ≡ map (λ (e : Example). e .gives) examples
-unfolding outcome last started seen goes refuses keyed _leave_ sequence at4x20 at24x80 examples if_then_else_ _and_ _or_ _is_to_ within every eachFrom numbersFrom selected placed argumentsFit largestArgument validHalfRead withDigit withNextArgument isControl isCancel outsideSequence afterEsc afterIntermediate afterBracket insideSequence advanceOf unprotected validPage textStored markAfterBlock modifiedCleared placeOf joined startsField endFrom fieldEnd fieldsFrom fieldsOf entryBytes encode entryOf someModified isInBlock entriesSent block refused onBy rightBy validPen listedRows listedColumns listedSize sizeFits cursorFits stopsFit validState bytesOf blockTransmission allowed valueOf toNextCell textStep freshStep sendBlock toColumn toRow toPlace keptColumn isMove moveStep listedStep bracketStep eventStep hostStep isTyping isEditing isFieldMove isKnown isLocked isLockedOut lacksCell keyStep stepsOf fitting after bytesSentBy cellsStoredBy countOf refusedBy protectionBy numberOf unchanged afterSteps changesNothing gives firstOf exceedsRoom passesLine2 startLines hostRefusals keyRefusals hostLines keyLines startStep startCall hostCall keyCall
+unfolding outcome last started seen goes refuses keyed _leave_ sequence at4x20 at24x80 examples if_then_else_ _and_ _or_ _is_to_ within every eachFrom numbersFrom selected placed argumentsFit largestArgument validHalfRead withDigit withNextArgument isControl isCancel outsideSequence afterEsc afterIntermediate afterBracket insideSequence advanceOf unprotected validPage textStored markAfterBlock modifiedCleared placeOf joined startsField endFrom fieldEnd fieldsFrom fieldsOf entryBytes encode entryOf someModified isInBlock entriesSent block messageOf refused onBy rightBy validPen listedRows listedColumns listedSize sizeFits cursorFits stopsFit validMessage validState bytesOf blockTransmission allowed valueOf toNextCell textStep freshStep sendBlock toColumn toRow toPlace keptColumn isMove moveStep listedStep bracketStep eventStep hostStep isTyping isEditing isFieldMove isKnown isLocked isLockedOut lacksCell keyStep stepsOf fitting after bytesSentBy cellsStoredBy countOf refusedBy protectionBy numberOf unchanged afterSteps changesNothing gives firstOf exceedsRoom passesLine2 startLines hostRefusals keyRefusals hostLines keyLines startStep startCall hostCall keyCall
 as-document-01 = refl

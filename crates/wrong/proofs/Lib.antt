@@ -1,4 +1,5 @@
 pub mod WrongAnswers
+pub mod WrongReasons
 pub mod WrongContracts
 pub mod WrongReads
 pub mod WrongKeys

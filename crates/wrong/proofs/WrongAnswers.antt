@@ -25,7 +25,7 @@ use Rattle.promises.specs.Rules.{ourRules, byteSteps}
 use Rattle.promises.specs.Entries.{Entries, read, keyPress}
 use Rattle.promises.specs.Demands.{Numbers, Refusals}
 use Rattle.promises.specs.Further.{StaysValid}
-use Rattle.wrong.specs.Entries.{alwaysRefuses, lockedBeforeUnknown, blanksRefusedStart, clearsTagsRefused, losesSequenceOn3, leavesRow0, setsMessage2}
+use Rattle.wrong.specs.Entries.{alwaysRefuses, lockedBeforeUnknown, blanksRefusedStart, clearsTagsRefused, losesSequenceOn3, leavesRow0, setsMessage5, leavesByte}
 use Rattle.promises.proofs.Theorems.{demand-1}
 use Rattle.promises.proofs.Sheets.{sheet, at, sheet-block}
 use Rattle.promises.proofs.Computing.{tests, validity, blockBytes, hostSteps, keySteps, calls, streams}
@@ -43,7 +43,7 @@ abbrev pub oneField : Terminal
 oneField = at 1 (sheet (bytes "A    ") (2 ∷ 1 ∷ 1 ∷ 1 ∷ 1 ∷ []))
 
 abbrev locked : Terminal
-locked = withState oneField (withLocks (oneField .state) (record { manual = false; soft = true; message = 1 }))
+locked = withState oneField (withLocks (oneField .state) (record { manual = false; soft = true; message = 1; byte = 0x42 }))
 
 one-field-valid : Valid oneField
 unfolding validity
@@ -116,8 +116,16 @@ leavesRow0-breaks-stays-valid kept =
     let off-page : false ≡ true = kept .through-calls oneField one-field-valid (read [] [] ∷ []) .state in
     true-is-not-false (sym off-page)
 
-pub setsMessage2-breaks-stays-valid : StaysValid setsMessage2 → ⊥
+pub setsMessage5-breaks-stays-valid : StaysValid setsMessage5 → ⊥
 unfolding calls keySteps streams
-setsMessage2-breaks-stays-valid kept =
+setsMessage5-breaks-stays-valid kept =
     let out-of-range : false ≡ true = kept .through-calls oneField one-field-valid (keyPress 259 [] ∷ []) .state in
     true-is-not-false (sym out-of-range)
+
+-- 268 under the soft lock leaves a byte and no message.
+pub leavesByte-breaks-stays-valid : StaysValid leavesByte → ⊥
+unfolding calls keySteps streams
+leavesByte-breaks-stays-valid kept =
+    let valid : Valid locked = record { size = refl; state = refl; page = refl } in
+    let byte-alone : false ≡ true = kept .through-calls locked valid (keyPress 268 [] ∷ []) .state in
+    true-is-not-false (sym byte-alone)

@@ -75,7 +75,7 @@ telling refused protection o =
 abbrev pub withPage : Page → Terminal → Terminal
 withPage page t = record { state = t .state; page = page }
 
-abbrev withNothingRead : Terminal → Terminal
+abbrev pub withNothingRead : Terminal → Terminal
 withNothingRead t = withState t (withHalf (t .state) nothingRead)
 
 abbrev pub withTagsCleared : Terminal → Terminal
@@ -238,13 +238,23 @@ leavesRow0 = changingHost (λ o.
     let s = o .terminal .state in
     leaving (withState (o .terminal) (withCursor s (cursorAt 0 (s .cursor .column)))) o)
 
--- A key sets message 2.
-abbrev pub setsMessage2 : Entries
-setsMessage2 = withKey (λ t key output.
+-- What a key leaves, with another message and byte.
+abbrev messaging : ℕ → ℕ → Outcome → Outcome
+messaging message byte o =
+    let s = o .terminal .state in
+    let locks : Locks = record { manual = s .locks .manual; soft = s .locks .soft; message = message; byte = byte } in
+    leaving (withState (o .terminal) (withLocks s locks)) o
+
+-- A key sets message 5.
+abbrev pub setsMessage5 : Entries
+setsMessage5 = withKey (λ t key output. messaging 5 0 (keyCall t key output))
+
+-- 268 takes the message away and leaves its byte.
+abbrev pub leavesByte : Entries
+leavesByte = withKey (λ t key output.
     let outcome = keyCall t key output in
-    let s = outcome .terminal .state in
-    let locks : Locks = record { manual = s .locks .manual; soft = s .locks .soft; message = 2 } in
-    leaving (withState (outcome .terminal) (withLocks s locks)) outcome)
+    if eqb key 268 then messaging 0 (t .state .locks .byte) outcome
+    else outcome)
 
 -- Continuing. A call given 3 tells of no cells stored, though commands before it were done.
 abbrev pub forgetsCountOn3 : Entries

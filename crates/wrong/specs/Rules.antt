@@ -1,19 +1,23 @@
--- Wrong rules, each document 01's with a fault, and entries that follow them. What they do, they tell, and follow: so
+-- Wrong rules, each ours with a fault, and entries that follow them. What they do, they tell, and follow: so
 -- demand 1 and Follows can't tell them from ours, but what is promised of rules, and demand 3, can.
-use mathlib.Core.Bool.{Bool, true, false}
+use mathlib.Core.Bool.{Bool, true, false, not}
 use mathlib.Core.List.{List, [], _∷_, _++_, map, flatMap}
 use Prim.Native.Nat.{ℕ, _+_, _-_, _%_}
 use lib.Dec.{eqb, leb}
 use lib.ListN.{length, take, drop, set, replicate}
-use Rattle.words.specs.Choice.{if_then_else_, _and_}
+use Rattle.words.specs.Choice.{if_then_else_, _and_, _is_to_}
 use Rattle.words.specs.Lists.{selected}
+use Rattle.sequence.specs.declared.Reason.the-variants.{UnknownCommand}
 use Rattle.page.specs.Marks.{isProtected, withoutModified}
 use Rattle.page.specs.Page.{Page, pageOf}
 use Rattle.fields.specs.Fields.{Field}
 use Rattle.blocks.specs.Blocks.{encode}
+use Rattle.state.specs.declared.Locks.{Locks}
+use Rattle.state.specs.State.{withLocks, noLocks}
 use Rattle.steps.specs.Steps.{Terminal, Transmission, silent, report, fullBlock, changedBlock, Stepped, stores, sends}
-use Rattle.steps.specs.Steps.{cursorCell}
+use Rattle.steps.specs.Steps.{cursorCell, withState, refusing}
 use Rattle.steps.specs.Seen.{cellsHere, characterAt, unprotectedAt, modifiedAt, fieldsHere, entryHere, blockHere}
+use Rattle.table.specs.Table.{allowed}
 use Rattle.commands.specs.Host.{hostStep}
 use Rattle.keys.specs.Keys.{isTyping, keyStep}
 use Rattle.terminal.specs.declared.Answer.the-variants.{NoRoom}
@@ -22,7 +26,7 @@ use Rattle.terminal.specs.Answers.{Outcome, gives}
 use Rattle.terminal.specs.Tests.{_answers_, firstOf, exceedsRoom, keyLines}
 use Rattle.promises.specs.Rules.{Rules}
 use Rattle.promises.specs.Entries.{Entries}
-use Rattle.wrong.specs.Entries.{withKey, withPage, withTagsCleared}
+use Rattle.wrong.specs.Entries.{withKey, withPage, withNothingRead, withTagsCleared}
 
 abbrev withOnByte : (ℕ → Terminal → Stepped) → Rules
 withOnByte onByte = record { onByte = onByte; onKey = keyStep }
@@ -113,6 +117,68 @@ abbrev pub joinsLastToFirst : Rules
 joinsLastToFirst = sendingOn 267 (λ t.
     let both = unprotectedAt t 0 and unprotectedAt t (cellsHere t - 1) in
     fullBlock (encode (map (entryHere t) (drop (if both then 1 else 0) (fieldsHere t)))))
+
+-- Why a command is refused. A spoilt sequence is first looked up in the table: an unknown final byte is given 1.
+abbrev pub unknownBeforeSpoilt : Rules
+unknownBeforeSpoilt = withOnByte (λ b t.
+    if t .state .half .spoilt and b is 0x40 to 0x7E and eqb (allowed b .most) 0 then
+    refusing UnknownCommand b (withNothingRead t)
+    else hostStep b t)
+
+-- A step that leaves other locks; one that leaves another byte beside the message.
+abbrev leavingLocks : Locks → Stepped → Stepped
+leavingLocks locks step =
+    record {
+      terminal = withState (step .terminal) (withLocks (step .terminal .state) locks);
+      transmission = step .transmission;
+      cells = step .cells;
+      wasRefused = step .wasRefused;
+      protection = step .protection;
+    }
+
+abbrev leavingByte : ℕ → Stepped → Stepped
+leavingByte byte step =
+    let left = step .terminal .state .locks in
+    leavingLocks (record { manual = left .manual; soft = left .soft; message = left .message; byte = byte }) step
+
+-- The byte that spoilt is kept: it goes beside the message as it comes, and is left there at the final byte.
+abbrev pub keepsSpoilingByte : Rules
+keepsSpoilingByte = withOnByte (λ b t.
+    let step = hostStep b t in
+    if t .state .half .spoilt and step .wasRefused then leavingByte (t .state .locks .byte) step
+    else if step .terminal .state .half .spoilt then leavingByte b step
+    else step)
+
+-- A command refused while a message stands leaves that message's byte.
+abbrev pub keepsFirstByte : Rules
+keepsFirstByte = withOnByte (λ b t.
+    let step = hostStep b t in
+    if step .wasRefused and not (eqb (t .state .locks .message) 0) then leavingByte (t .state .locks .byte) step
+    else step)
+
+-- A refused command tells its message and byte and locks nothing.
+abbrev pub locksNothing : Rules
+locksNothing = withOnByte (λ b t.
+    let step = hostStep b t in
+    let left = step .terminal .state .locks in
+    let soft = t .state .locks .soft in
+    let unlocked : Locks = record { manual = left .manual; soft = soft; message = left .message; byte = left .byte } in
+    if step .wasRefused then leavingLocks unlocked step
+    else step)
+
+-- Message and byte. Text clears them,
+abbrev pub textClears : Rules
+textClears = withOnByte (λ b t.
+    if eqb (t .state .half .kind) 0 and b is 0x20 to 0x7E then leavingLocks noLocks (hostStep b t)
+    else hostStep b t)
+
+-- or 268 takes the soft lock off and leaves them.
+abbrev pub unlocksOnly : Rules
+unlocksOnly = withOnKey (λ key t.
+    let was = t .state .locks in
+    let locks : Locks = record { manual = was .manual; soft = false; message = was .message; byte = was .byte } in
+    if eqb key 268 then leavingLocks locks (keyStep key t)
+    else keyStep key t)
 
 -- The copy. A changed block has those fields whose first cell is modified.
 unfoldable pub firstCellBlock : Terminal → List ℕ

@@ -20,4 +20,6 @@ part-of-spec =
     (λ c. search needs)
     (λ c κs. search needs)
     (λ c. rw (c .flag-number .ensures) (search tests))
+    (λ c. search needs)
+    (λ c. search tests)
     (λ c. search tests))

@@ -10,9 +10,12 @@ use Rattle.drawing.proofs.put_locks.Tie as tie
 returns : tie.Need-returns
 unfolding locksLine
 returns c =
-    let start = c .before .before .before .before .before .before .before .before .before .before .before .before .before .before .before .before .before .before .before .before .before in
+    let start = c .before .before .before .before .before .before .before .before .before .before .before .before .before .before .before .before .before .before .before .before .before .before .before .before .before .before .before .before .before .before in
     let room : start .args .at ≤ length (start .args .text .now) = omega arith in
-    wrote-then room (wrote-then room (wrote-then room (c .before .before .before .before .before .before .before .before .before .before .before .before .before .before .before .before .before .put-flag .ensures) (c .before .before .before .before .before .before .before .before .before .before .before .before .put-flag2 .ensures)) (c .before .before .before .before .before .before .put-number .ensures)) (c .before .before .put-byte .ensures)
+    let locks = wrote-then room (c .before .before .before .before .before .before .before .before .before .before .before .before .before .before .before .before .before .before .before .before .before .before .before .before .before .before .put-flag .ensures) (c .before .before .before .before .before .before .before .before .before .before .before .before .before .before .before .before .before .before .before .before .before .put-flag2 .ensures) in
+    let message = wrote-then room locks (c .before .before .before .before .before .before .before .before .before .before .before .before .before .before .before .put-number .ensures) in
+    let word = wrote-then room message (c .before .before .before .before .before .before .before .before .before .before .put-all .ensures) in
+    wrote-then room (wrote-then room word (c .before .before .before .before .before .before .put-hex-byte .ensures)) (c .before .before .put-byte .ensures)
 
 pub put-locks-spec : {M : Type 1} → statement M
 put-locks-spec =
@@ -24,6 +27,9 @@ put-locks-spec =
     (λ c κs. search needs)
     (λ c. search needs)
     (λ c. search needs)
+    (λ c κs. search needs)
+    (λ c. search needs)
+    (λ c κs. search needs)
     (λ c κs. search needs)
     (λ c κs. search needs)
     (λ c. search needs)

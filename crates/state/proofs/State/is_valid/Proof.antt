@@ -1,6 +1,6 @@
 use mathlib.Core.Path.{sym, _∙_}
 use borrow.Author.Needs.{needs}
-use borrow.Author.Tests.{le-leb, lt-leb, not-true, not-false}
+use borrow.Author.Tests.{not-true, not-false}
 use Rattle.words.proofs.Choosing.{first-decides, first-fails}
 use Rattle.state.specs.Tests.{validState}
 use Rattle.state.proofs.State.is_valid.Statement.{statement}
@@ -39,7 +39,7 @@ returns-4 c =
     (first-decides _ _ (sym (cursor .before .cursor-fits .ensures) ∙ not-false _ (cursor .if1 .left))
     ∙ first-decides _ _ (sym (stops .before .stops-fit .ensures) ∙ not-false _ (stops .if2 .left))
     ∙ first-decides _ _ (sym (pen .before .is-valid-pen .ensures) ∙ not-false _ (pen .if3 .left))
-    ∙ first-fails _ _ (lt-leb _ _ (c .if4 .taken)))
+    ∙ first-fails _ _ (sym (c .before .is-valid-message .ensures) ∙ not-true _ (c .if4 .taken)))
 
 returns-5 : tie.Need-returns-5
 unfolding validState
@@ -53,7 +53,7 @@ returns-5 c =
     (first-decides _ _ (sym (cursor .before .cursor-fits .ensures) ∙ not-false _ (cursor .if1 .left))
     ∙ first-decides _ _ (sym (stops .before .stops-fit .ensures) ∙ not-false _ (stops .if2 .left))
     ∙ first-decides _ _ (sym (pen .before .is-valid-pen .ensures) ∙ not-false _ (pen .if3 .left))
-    ∙ first-decides _ _ (le-leb _ _ (message .if4 .left)))
+    ∙ first-decides _ _ (sym (message .before .is-valid-message .ensures) ∙ not-false _ (message .if4 .left)))
 
 pub is-valid-spec : {M : Type 1} → statement M
 is-valid-spec =
@@ -65,6 +65,7 @@ is-valid-spec =
     returns-2
     (λ c κs. search needs)
     returns-3
+    (λ c κs. search needs)
     returns-4
     (λ c κs. search needs)
     returns-5)

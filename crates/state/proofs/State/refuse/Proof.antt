@@ -5,4 +5,4 @@ use Rattle.state.proofs.State.refuse.Tie as tie
 
 pub refuse-spec : {M : Type 1} → statement M
 unfolding refused
-refuse-spec = tie.close (tie.spec (λ c κs. search needs) (λ c. search needs))
+refuse-spec = tie.close (tie.spec (λ c κs. search needs) (λ c κs. search needs) (λ c. rw (c .with-locks .ensures, c .before .message-of .ensures)))
