@@ -48,6 +48,7 @@ pub struct Given {
     pub manual: bool,
     pub soft: bool,
     pub message: u8,
+    pub byte: u8,
     pub kind: u8,
     pub count: u8,
     pub spoilt: bool,
@@ -72,7 +73,7 @@ fn state_of(given: Given) -> State {
     let size = Size { rows: given.rows, columns: given.columns };
     let cursor = Cursor { row: given.row, column: given.column };
     let modes = Modes { pen: given.pen, erasure: given.erasure };
-    let locks = Locks { manual: given.manual, soft: given.soft, message: given.message };
+    let locks = Locks { manual: given.manual, soft: given.soft, message: given.message, byte: given.byte };
     let half = HalfRead { kind: given.kind, arguments, count: given.count, spoilt: given.spoilt };
     State { size, cursor, modes, locks, stops, half }
 }
@@ -98,6 +99,7 @@ fn back_of(reply: Reply) -> Back {
         manual: locks.manual,
         soft: locks.soft,
         message: locks.message,
+        byte: locks.byte,
         kind: half.kind,
         count: half.count,
         spoilt: half.spoilt,

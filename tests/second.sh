@@ -13,6 +13,8 @@ for program in ./run $second; do
         $program transcript <sample/$session.txt | cmp - sample/$session.out
     done
     $program dump <sample/page.txt | cmp - sample/page.out
+    # the messages of M-102, with their bytes
+    $program dump <sample/refused.txt | grep '^manual' | cmp - sample/refused.out
 done
 
 new=$(date +%s)
@@ -23,7 +25,7 @@ for mode in transcript dump; do
 done
 
 # what transcripts can't reach: any lent lengths, room, damaged state and up to 65,537 bytes; damage everywhere in turn;
-# every room up to a message's length
+# every room up to a transmission's length
 $second compare calls ./run calls -- 1 60 100
 $second compare calls ./run calls -- "$new" 50 100
 $second sweep ./run calls
