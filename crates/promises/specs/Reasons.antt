@@ -86,7 +86,8 @@ pub record Shows (message byte : ℕ) (step : Stepped) : Type 0 where
   pub message-shown : step .terminal .state .locks .message ≡ message
   pub byte-shown : step .terminal .state .locks .byte ≡ byte
 
--- A command was refused, with a message and at a byte; the soft lock is set, and all else is as it was (`Refusal`).
+-- A command was refused, with a message and at a byte; the soft lock is set, and all else but the half-read record is as
+-- it was (`Refusal`).
 pub record RefusedWith (message byte : ℕ) (t : Terminal) (step : Stepped) : Type 0 where
   pub was-refused : step .wasRefused ≡ true
   pub shows : Shows message byte step
@@ -99,7 +100,8 @@ pub record Reasons (rules : Rules) : Type 1 where
   pub not-refused : (t : Terminal) → Valid t → (byte : ℕ)
       → (rules .onByte byte t .wasRefused ≡ false) ↔ Decides (reasonTable byte t) 0
 
--- What clears them: ESC b, ESC c and key 268. No other host byte that is not refused changes them, and no other key.
+-- What clears message and byte: ESC b, ESC c and key 268. No other host byte that is not refused changes them, nor any
+-- other key.
 pub data Clears (half : HalfRead) : ℕ → Type 0 where
   esc-b : half .kind ≡ 1 → Clears half (code "b")
   esc-c : half .kind ≡ 1 → Clears half (code "c")
