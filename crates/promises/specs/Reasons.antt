@@ -86,8 +86,8 @@ pub record Shows (message byte : ℕ) (step : Stepped) : Type 0 where
   pub message-shown : step .terminal .state .locks .message ≡ message
   pub byte-shown : step .terminal .state .locks .byte ≡ byte
 
--- A command was refused, with a message and at a byte; the soft lock is set, and all else but the half-read record is as
--- it was (`Refusal`).
+-- A command was refused, with a message and at a byte; the soft lock is set, and all else but the half-read record is
+-- as it was (`Refusal`).
 pub record RefusedWith (message byte : ℕ) (t : Terminal) (step : Stepped) : Type 0 where
   pub was-refused : step .wasRefused ≡ true
   pub shows : Shows message byte step
