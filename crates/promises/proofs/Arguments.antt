@@ -8,6 +8,7 @@ use Prim.Native.Nat.{ℕ, _+_, _<_, _≤_}
 use native.Mathlib.Omega.{arith}
 use borrow.Author.Tests.{eqb-true, eqb-false, leb-true, leb-false}
 use lib.Dec.{eqb}
+use lib.ListN.{length, getD}
 use Rattle.words.specs.Choice.{if_then_else_, _and_, _or_, _is_to_}
 use Rattle.words.specs.Lists.{every}
 use Rattle.words.proofs.Choosing.{not-both, either-line, both, neither, one-fails, one-holds, range-holds, range-fails}
@@ -216,21 +217,16 @@ module _ (t : Terminal) where
         let found = some-fails isVisual 0 (argumentsRead half) not-all in
         refuses 0x6D named (m-value (found .0) (found .1) (not-visual _ (found .2))))
 
-    h-weighed : eqb final 0x68 ≡ true → Weighed t final (setMode final true (argumentsRead half) there)
-    unfolding setMode
-    h-weighed named =
-        line (λ all. goes 0x68 named (h-takes all) refl)
-        (λ not-all.
-        let found = some-fails (λ value. eqb value 6) 0 (argumentsRead half) not-all in
-        refuses 0x68 named (h-value (found .0) (found .1) (eqb-false _ 6 (found .2))))
-
-    l-weighed : eqb final 0x6C ≡ true → Weighed t final (setMode final false (argumentsRead half) there)
-    unfolding setMode
-    l-weighed named =
-        line (λ all. goes 0x6C named (l-takes all) refl)
-        (λ not-all.
-        let found = some-fails (λ value. eqb value 6) 0 (argumentsRead half) not-all in
-        refuses 0x6C named (l-value (found .0) (found .1) (eqb-false _ 6 (found .2))))
+    module _ (letter : ℕ) (named : eqb final letter ≡ true)
+        (only : every (λ value. eqb value 6) (argumentsRead half) ≡ true → Few letter → NotAllowed t letter → ⊥)
+        (other : (i : ℕ) → i < length (argumentsRead half) → (getD (argumentsRead half) i 0 ≡ 6 → ⊥) → NotAllowed t letter) where
+      mode-weighed : (on : Bool) → Weighed t final (setMode final on (argumentsRead half) there)
+      unfolding setMode
+      mode-weighed on =
+          line (λ all. goes letter named (only all) refl)
+          (λ not-all.
+          let found = some-fails (λ value. eqb value 6) 0 (argumentsRead half) not-all in
+          refuses letter named (other (found .0) (found .1) (eqb-false _ 6 (found .2))))
 
     -- The moves: d, H and f may be off the page.
     column-accepted : (column : ℕ) → toColumn column there .wasRefused ≡ false
@@ -385,6 +381,6 @@ module _ (t : Terminal) where
           (λ w. line (λ e. erase-weighed 0x4A e J-takes J-value _ _ _ (first-plain 0x4A e (plain-letters .1)))
           (λ j. line (λ e. erase-weighed 0x4B e K-takes K-value _ _ _ (first-plain 0x4B e (plain-letters .2)))
           (λ k. line rendition-weighed
-          (λ m. line h-weighed
-          (λ h. line l-weighed
+          (λ m. line (λ e. mode-weighed 0x68 e h-takes h-value true)
+          (λ h. line (λ e. mode-weighed 0x6C e l-takes l-value false)
           (λ l. let n = is-n some other w j k m h l in status-weighed _ (first-plain 0x6E n (plain-letters .3)) n)))))))
