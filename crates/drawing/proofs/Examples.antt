@@ -8,7 +8,8 @@ use Rattle.words.specs.Choice.{if_then_else_}
 use Rattle.state.specs.declared.State.{State}
 use Rattle.numerals.specs.Hexadecimal.{digitOf}
 use Rattle.words.specs.Text.{bytes}
-use Rattle.drawing.specs.Drawing.{exactly, penLine, locksLine, stopsLine, halfLine, stateLines, rowsOf, rowLine, drawn}
+use Rattle.words.specs.Lists.{exactly}
+use Rattle.drawing.specs.Drawing.{penLine, locksLine, stopsLine, halfLine, stateLines, rowsOf, rowLine, drawn}
 
 -- Two rows of three columns, a tab stop in column 2, and ESC [ 1 ; 65535 read so far
 abbrev small : State

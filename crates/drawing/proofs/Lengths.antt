@@ -1,7 +1,7 @@
 -- How long each line is, and the whole drawing.
 use mathlib.Core.Path.{_≡_, refl, sym, ap, _∙_}
 use mathlib.Core.Bool.{Bool, true, false}
-use mathlib.Core.List.{List, [], _∷_, _++_, flatMap}
+use mathlib.Core.List.{List, [], _++_, flatMap}
 use Prim.Native.Nat.{ℕ, zero, suc, _+_, _*_}
 use native.Mathlib.Nat.{zero-mul, suc-mul}
 use native.Mathlib.Omega.{arith}
@@ -13,26 +13,12 @@ use Rattle.state.specs.declared.Locks.{Locks}
 use Rattle.state.specs.declared.State.{State}
 use Rattle.numerals.specs.Hexadecimal.{hexOf}
 use Rattle.words.specs.Text.{bytes}
-use Rattle.numerals.proofs.Walks.{flat-length}
+use Rattle.words.specs.Lists.{exactly}
+use Rattle.words.proofs.Elements.{exactly-length}
+use Rattle.words.proofs.Pieces.{flat-length}
 use Rattle.numerals.proofs.Digits.{hex-length}
-use Rattle.drawing.specs.Drawing.{lineEnd, stopOf, spaced, penLine, locksLine, exactly, allStops, stopsLine, allArguments, halfLine, stateLines, rowsOf, rowLine, rowLines, drawn}
+use Rattle.drawing.specs.Drawing.{lineEnd, stopOf, spaced, penLine, locksLine, allStops, stopsLine, allArguments, halfLine, stateLines, rowsOf, rowLine, rowLines, drawn}
 use Rattle.drawing.proofs.Lines.{hex-line, character-line}
-
--- A list of the right length is neither cut nor filled.
-module _ {A : Type 0} where
-  pub exactly-length : (n : ℕ) (filler : A) (list : List A) → length (exactly n filler list) ≡ n
-  unfolding exactly
-  exactly-length zero filler list = refl
-  exactly-length (suc n) filler [] = ap suc (exactly-length n filler [])
-  exactly-length (suc n) filler (x ∷ list) = ap suc (exactly-length n filler list)
-
-  pub exactly-these : {n : ℕ} (filler : A) (list : List A) → length list ≡ n → exactly n filler list ≡ list
-  unfolding exactly
-  exactly-these filler list all = rw (← all) (same list)
-    where
-      same : (list : List A) → exactly (length list) filler list ≡ list
-      same [] = refl
-      same (x ∷ list) = ap (λ (rest : List A). x ∷ rest) (same list)
 
 pub pen-length : (modes : Modes) → length (penLine modes) ≡ 17
 unfolding penLine

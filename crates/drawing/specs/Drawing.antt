@@ -13,6 +13,7 @@ use Prim.Native.Char.{code}
 use Prim.Native.Nat.{ℕ, zero, suc, _<_}
 use lib.ListN.{take, drop}
 use Rattle.words.specs.Choice.{if_then_else_}
+use Rattle.words.specs.Lists.{exactly}
 use Rattle.sequence.specs.declared.HalfRead.{HalfRead}
 use Rattle.state.specs.declared.Modes.{Modes}
 use Rattle.state.specs.declared.Locks.{Locks}
@@ -40,13 +41,6 @@ flagged word flag = word ++ flagText flag
 
 abbrev pub spaced : ℕ → List ℕ
 spaced number = numbered (bytes " ") number
-
--- Exactly so many elements: a longer list is cut, a shorter one filled up. A state's lists have these lengths, but only
--- its type in the code says so.
-unfoldable pub exactly : {A : Type 0} → ℕ → A → List A → List A
-exactly zero filler list = []
-exactly (suc n) filler [] = filler ∷ exactly n filler []
-exactly (suc n) filler (x ∷ list) = x ∷ exactly n filler list
 
 -- The lines of the state.
 abbrev pub pairLine : List ℕ → ℕ → ℕ → List ℕ

@@ -27,7 +27,7 @@ fn put_number(text: &mut [u8], at: usize, word: &[u8], number: usize) -> usize
     requires { ⌜ (number < 100000) × (at + length (now word) + 5 ≤ length (now text)) ⌝ }
     ensures { λ r. ⌜ Wrote at (numbered (now (word .entry)) number) (now (text .entry)) r (now (text .exit)) ⌝ }
 {
-    let next = numerals::put_all(text, at, word);
+    let next = output::put_all(text, at, word);
     numerals::put_five(text, next, number)
 }
 
@@ -35,7 +35,7 @@ fn put_flag(text: &mut [u8], at: usize, word: &[u8], flag: bool) -> usize
     requires { ⌜ at + length (now word) + 1 ≤ length (now text) ⌝ }
     ensures { λ r. ⌜ Wrote at (flagged (now (word .entry)) flag) (now (text .entry)) r (now (text .exit)) ⌝ }
 {
-    let next = numerals::put_all(text, at, word);
+    let next = output::put_all(text, at, word);
     output::put_byte(text, next, byte_if(flag, b'1', b'0'))
 }
 
@@ -53,7 +53,7 @@ fn put_modes(text: &mut [u8], at: usize, modes: Modes) -> usize
     requires { ⌜ at + 17 ≤ length (now text) ⌝ }
     ensures { λ r. ⌜ Wrote at (penLine modes) (now (text .entry)) r (now (text .exit)) ⌝ }
 {
-    let pen = numerals::put_all(text, at, b"pen ");
+    let pen = output::put_all(text, at, b"pen ");
     let erasure = numerals::put_hex_byte(text, pen, modes.pen);
     let end = put_flag(text, erasure, b" erasure ", modes.erasure);
     output::put_byte(text, end, b'\n')
@@ -66,7 +66,7 @@ fn put_locks(text: &mut [u8], at: usize, locks: Locks) -> usize
     let soft = put_flag(text, at, b"manual ", locks.manual);
     let message = put_flag(text, soft, b" soft ", locks.soft);
     let word = put_number(text, message, b" message ", locks.message as usize);
-    let byte = numerals::put_all(text, word, b" byte ");
+    let byte = output::put_all(text, word, b" byte ");
     let end = numerals::put_hex_byte(text, byte, locks.byte);
     output::put_byte(text, end, b'\n')
 }
@@ -88,7 +88,7 @@ fn put_stops(text: &mut [u8], at: usize, stops: [bool; 160]) -> usize
     requires { ⌜ at + 167 ≤ length (now text) ⌝ }
     ensures { λ r. ⌜ Wrote at (stopsLine stops) (now (text .entry)) r (now (text .exit)) ⌝ }
 {
-    let each = numerals::put_all(text, at, b"stops ");
+    let each = output::put_all(text, at, b"stops ");
     let end = put_each_stop(text, each, stops);
     output::put_byte(text, end, b'\n')
 }
@@ -121,7 +121,7 @@ fn put_half(text: &mut [u8], at: usize, half: HalfRead) -> usize
     let spoilt = put_number(text, at, b"half ", half.kind as usize);
     let count = put_flag(text, spoilt, b" spoilt ", half.spoilt);
     let word = put_number(text, count, b" count ", half.count as usize);
-    let each = numerals::put_all(text, word, b" arguments");
+    let each = output::put_all(text, word, b" arguments");
     let end = put_arguments(text, each, arguments);
     output::put_byte(text, end, b'\n')
 }
@@ -156,8 +156,8 @@ fn put_row(text: &mut [u8], at: usize, row: &[u8], in_hex: bool) -> usize
         return output::put_byte(text, end, b'\n');
     }
     let characters = output::put_byte(text, at, b'|');
-    let bar = numerals::put_all(text, characters, row);
-    numerals::put_all(text, bar, b"|\n")
+    let bar = output::put_all(text, characters, row);
+    output::put_all(text, bar, b"|\n")
 }
 
 // A page's rows, as characters or, for marks, in hexadecimal.

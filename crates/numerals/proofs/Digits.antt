@@ -13,7 +13,7 @@ use Rattle.words.proofs.Walking.{next-element}
 use Rattle.output.proofs.Digits.{twoDigits}
 use Rattle.numerals.specs.Hexadecimal.{isDigit, digitValue, hexByte, hexOf, pairsOf}
 use Rattle.numerals.specs.Text.{fiveDigits}
-use Rattle.numerals.proofs.Walks.{flat-append, flat-length}
+use Rattle.words.proofs.Pieces.{flat-append, flat-length}
 
 -- A digit is one of two ranges.
 pub record Digit (digit : ℕ) : Type 0 where

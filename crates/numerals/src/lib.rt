@@ -111,20 +111,6 @@ pub fn put_hex(text: &mut [u8], at: usize, bytes: &[u8]) -> usize
     next
 }
 
-// The bytes as they are.
-pub fn put_all(text: &mut [u8], at: usize, bytes: &[u8]) -> usize
-    requires { ⌜ at + length (now bytes) ≤ length (now text) ⌝ }
-    ensures { λ r. ⌜ Wrote at (now (bytes .entry)) (now (text .entry)) r (now (text .exit)) ⌝ }
-{
-    let mut next = at;
-    let mut i = 0;
-    while i < bytes.len() {
-        next = output::put_byte(text, next, bytes[i]);
-        i += 1;
-    }
-    next
-}
-
 // With leading zeros: the first digit, then twice two.
 pub fn put_five(text: &mut [u8], at: usize, number: usize) -> usize
     requires { ⌜ (number < 100000) × (at + 5 ≤ length (now text)) ⌝ }

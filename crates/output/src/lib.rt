@@ -48,6 +48,20 @@ pub fn put_byte(out: &mut [u8], at: usize, byte: u8) -> usize
     at + 1
 }
 
+// The bytes as they are.
+pub fn put_all(out: &mut [u8], at: usize, bytes: &[u8]) -> usize
+    requires { ⌜ at + length (now bytes) ≤ length (now out) ⌝ }
+    ensures { λ r. ⌜ Wrote at (now (bytes .entry)) (now (out .entry)) r (now (out .exit)) ⌝ }
+{
+    let mut next = at;
+    let mut i = 0;
+    while i < bytes.len() {
+        next = put_byte(out, next, bytes[i]);
+        i += 1;
+    }
+    next
+}
+
 // One digit.
 pub fn put_digit(out: &mut [u8], at: usize, digit: usize) -> usize
     requires { ⌜ (digit ≤ 9) × (at < length (now out)) ⌝ }

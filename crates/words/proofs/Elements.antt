@@ -6,7 +6,7 @@ use mathlib.Core.Logic.{⊎-elim}
 use Prim.Native.Nat.{ℕ, zero, suc, _+_, _<_, _≤_}
 use native.Mathlib.Omega.{arith}
 use lib.ListN.{length}
-use Rattle.words.specs.Lists.{every, selected, numbersFrom}
+use Rattle.words.specs.Lists.{every, selected, numbersFrom, exactly}
 use Rattle.words.proofs.Choosing.{not-both, both, both-hold, then-case, else-case, either-line, less-or-not}
 
 module _ {A : Type 0} (test : A → Bool) where
@@ -97,3 +97,19 @@ pub run-length : (i n : ℕ) → length (numbersFrom (λ _. true) i n) ≡ n
 unfolding numbersFrom
 run-length i zero = refl
 run-length i (suc n) = ap length (then-case true _ _ refl) ∙ ap suc (run-length (i + 1) n)
+
+-- A list of the right length is neither cut nor filled.
+module _ {A : Type 0} where
+  pub exactly-length : (n : ℕ) (filler : A) (list : List A) → length (exactly n filler list) ≡ n
+  unfolding exactly
+  exactly-length zero filler list = refl
+  exactly-length (suc n) filler [] = ap suc (exactly-length n filler [])
+  exactly-length (suc n) filler (x ∷ list) = ap suc (exactly-length n filler list)
+
+  pub exactly-these : {n : ℕ} (filler : A) (list : List A) → length list ≡ n → exactly n filler list ≡ list
+  unfolding exactly
+  exactly-these filler list all = rw (← all) (same list)
+    where
+      same : (list : List A) → exactly (length list) filler list ≡ list
+      same [] = refl
+      same (x ∷ list) = ap (λ (rest : List A). x ∷ rest) (same list)

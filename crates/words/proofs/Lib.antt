@@ -4,3 +4,4 @@ pub mod Writing
 pub mod Passing
 pub mod Elements
 pub mod Output
+pub mod Pieces

@@ -14,11 +14,17 @@ use Rattle.words.proofs.Choosing.{both-hold, first-fails, second-fails,
 
 -- What a loop has made that writes `target` over `start` from the front and has come to i.
 -- From the back the two change places.
-abbrev pub upTo : ℕ → List ℕ → List ℕ → List ℕ
+abbrev pub upTo : {A : Type 0} → ℕ → List A → List A → List A
 upTo i target start = take i target ++ drop i start
 
-pub all-written : (target start : List ℕ) (i : ℕ) → length target ≡ length start → length start ≤ i → upTo i target start ≡ target
+pub all-written : {A : Type 0} (target start : List A) (i : ℕ) → length target ≡ length start → length start ≤ i → upTo i target start ≡ target
 all-written target start i same h = rw (take-all i target (omega arith), drop-of-length-le start h) (append-nil target)
+
+-- One element more, of whatever kind they are.
+pub next-put : {A : Type 0} (other : A) (target start now : List A) (i : ℕ) → now ≡ upTo i target start → (v : A) → i < length target → i < length start → v ≡ getD target i other → set now i v ≡ upTo (i + 1) target start
+next-put other target start now i so-far v h k e =
+    let n : length (take i target) ≡ i = length-take-le i target (omega arith) in
+    rw (so-far, e, add-one, drop-cons start i other, set-at (take i target) _ _ _ i n, take-suc target i other, append-snoc)
 
 -- A loop from the front that has come to i.
 module _ (target start now : List ℕ) (i : ℕ) (so-far : now ≡ upTo i target start) where
@@ -29,9 +35,7 @@ module _ (target start now : List ℕ) (i : ℕ) (so-far : now ≡ upTo i target
       rw so-far (rw n at (getD-append-add (take i target) (drop i start) (k - i) 0) ∙ getD-drop i start (k - i) 0 ∙ rw m)
 
   pub next-stored : (v : ℕ) → i < length target → i < length start → v ≡ getD target i 0 → set now i v ≡ upTo (i + 1) target start
-  next-stored v h k e =
-      let n : length (take i target) ≡ i = length-take-le i target (omega arith) in
-      rw (so-far, e, add-one, drop-cons start i 0, set-at (take i target) _ _ _ i n, take-suc target i 0, append-snoc)
+  next-stored v h k e = next-put 0 target start now i so-far v h k e
 
   next-kept : i < length target → i < length start → getD now i 0 ≡ getD target i 0 → now ≡ upTo (i + 1) target start
   next-kept h k e = sym (set-getD now i 0) ∙ next-stored (getD now i 0) h k e

@@ -42,3 +42,10 @@ selected test (x ∷ rest) =
     let later = selected test rest in
     if test x then x ∷ later
     else later
+
+-- Exactly so many elements: a longer list is cut, a shorter one filled up. A state's lists have these lengths, but only
+-- its type in the code says so.
+unfoldable pub exactly : {A : Type 0} → ℕ → A → List A → List A
+exactly zero filler list = []
+exactly (suc n) filler [] = filler ∷ exactly n filler []
+exactly (suc n) filler (x ∷ list) = x ∷ exactly n filler list

@@ -4,8 +4,8 @@ use native.Mathlib.Omega.{arith}
 use borrow.Author.Needs.{needs}
 use lib.ListN.{length}
 use Rattle.drawing.specs.Drawing.{spaced}
-use Rattle.numerals.proofs.Walks.{Walked, walk-starts, walk-goes-on, walk-ends, walk-reached}
-use Rattle.drawing.proofs.Lengths.{exactly-these}
+use Rattle.words.proofs.Pieces.{Walked, walk-starts, walk-goes-on, walk-ends, walk-reached}
+use Rattle.words.proofs.Elements.{exactly-these}
 use Rattle.drawing.proofs.put_arguments.Statement.{statement}
 use Rattle.drawing.proofs.put_arguments.Tie as tie
 

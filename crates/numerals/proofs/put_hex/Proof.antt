@@ -4,7 +4,7 @@ use native.Mathlib.Omega.{arith}
 use borrow.Author.Needs.{needs}
 use lib.ListN.{length}
 use Rattle.numerals.specs.Hexadecimal.{hexByte}
-use Rattle.numerals.proofs.Walks.{Walked, walk-starts, walk-goes-on, walk-ends, walk-reached}
+use Rattle.words.proofs.Pieces.{Walked, walk-starts, walk-goes-on, walk-ends, walk-reached}
 use Rattle.numerals.proofs.put_hex.Statement.{statement}
 use Rattle.numerals.proofs.put_hex.Tie as tie
 

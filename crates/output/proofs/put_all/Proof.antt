@@ -3,9 +3,9 @@ use Prim.Native.Nat.{_-_}
 use native.Mathlib.Omega.{arith}
 use borrow.Author.Needs.{needs}
 use lib.ListN.{length}
-use Rattle.numerals.proofs.Walks.{Walked, walk-starts, walk-goes-on, walk-ends, walk-reached, alone, flat-alone}
-use Rattle.numerals.proofs.put_all.Statement.{statement}
-use Rattle.numerals.proofs.put_all.Tie as tie
+use Rattle.words.proofs.Pieces.{Walked, walk-starts, walk-goes-on, walk-ends, walk-reached, alone, flat-alone}
+use Rattle.output.proofs.put_all.Statement.{statement}
+use Rattle.output.proofs.put_all.Tie as tie
 
 abbrev Inv-loop : tie.InvT-loop
 Inv-loop text₀ at bytes next₀ i₀ text next i = Walked alone bytes at text₀ i next text
