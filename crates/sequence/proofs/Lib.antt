@@ -1,5 +1,6 @@
 pub mod Laws
 pub mod Keeping
+pub mod Lengths
 pub mod Events
 pub mod Examples
 pub mod Range
