@@ -2,6 +2,7 @@ pub mod Laws
 pub mod Claims
 pub mod Values
 pub mod Tables
+pub mod Arrays
 pub mod Theorems
 pub mod Silent
 pub mod Lengths
