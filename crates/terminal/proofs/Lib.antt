@@ -5,5 +5,6 @@ pub mod Matching
 pub mod Exceeding
 pub mod Lines
 pub mod Cases
+pub mod Arrays
 pub mod Theorems
 pub mod Examples
