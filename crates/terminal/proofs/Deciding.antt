@@ -4,7 +4,7 @@ use mathlib.Core.Bool.{Bool, true, false, not}
 use mathlib.Core.List.{List, [], _∷_, append-nil}
 use Prim.Native.Nat.{ℕ, _-_, _<_, _≤_}
 use native.Mathlib.Nat.{add-zero}
-use borrow.Author.Tests.{le-ltb, le-leb, lt-leb, not-false}
+use borrow.Author.Tests.{le-ltb, le-leb, lt-leb, ltb-false, not-false}
 use lib.ListN.{length}
 use Rattle.words.specs.Choice.{_or_}
 use Rattle.words.proofs.Choosing.{then-case, else-case, both, both-hold}
@@ -70,6 +70,10 @@ module _ (t : Terminal) (bytes : List ℕ) where
   pub host-passed : AllFail (hostRefusals t bytes) → Valid t
   unfolding hostRefusals
   host-passed (fails size (fails valid _)) = is-valid t (not-false _ size) (not-false _ valid)
+
+  pub host-short : AllFail (hostRefusals t bytes) → length bytes ≤ 65536
+  unfolding hostRefusals
+  host-short (fails _ (fails _ (fails short _))) = ltb-false _ _ short
 
 module _ (t : Terminal) (key : ℕ) where
   key-passes : Passes t key → AllFail (keyRefusals t key)

@@ -6,5 +6,6 @@ pub mod Exceeding
 pub mod Lines
 pub mod Cases
 pub mod Arrays
+pub mod Counts
 pub mod Theorems
 pub mod Examples

@@ -4,7 +4,7 @@ use mathlib.Core.Bool.{true, false}
 use mathlib.Core.List.{List, []}
 use mathlib.Core.Logic.{_↔_}
 use mathlib.Core.Path.{_≡_}
-use Prim.Native.Nat.{ℕ, _*_}
+use Prim.Native.Nat.{ℕ, _*_, _<_}
 use lib.ListN.{length, replicate}
 use Rattle.words.specs.Output.{placed}
 use Rattle.page.specs.Page.{Page}
@@ -61,6 +61,12 @@ pub record Started (size : Size) (outcome : Outcome) : Type 0 where
   pub characters : outcome .terminal .page .characters ≡ replicate (size .rows * size .columns) 0x20
   pub marks : outcome .terminal .page .marks ≡ replicate (size .rows * size .columns) 0
   pub output : outcome .output ≡ []
+
+-- Four bytes can tell the counts.
+pub record CountsFit (outcome : Outcome) : Type 0 where
+  pub taken : outcome .taken < 4294967296
+  pub sent : outcome .sent < 4294967296
+  pub stored : outcome .stored < 4294967296
 
 -- Two results with what they left are the same.
 pub record SameResult (one other : Reply) (page otherPage : Page) (output otherOutput : List ℕ) : Type 0 where
