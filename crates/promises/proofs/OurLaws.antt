@@ -1,21 +1,21 @@
 -- The terminal of document 01: its rules keep the laws of a step, and its entries demand 1 and Follows.
 use mathlib.Core.Path.{_≡_, refl, sym, ap, subst}
-use mathlib.Core.Bool.{Bool, true, false}
+use mathlib.Core.Bool.{Bool}
 use mathlib.Core.List.{List, [], _∷_}
-use Prim.Native.Nat.{ℕ, _≤_}
-use native.Mathlib.Omega.{arith}
+use Prim.Native.Nat.{ℕ}
 use lib.ListN.{length}
-use Rattle.steps.specs.Steps.{Terminal, Transmission, silent, report, fullBlock, changedBlock, Stepped, bytesOf, Valid}
+use Rattle.steps.specs.Steps.{Terminal, Stepped, Valid}
 use Rattle.steps.specs.Claims.{SendsBlock}
 use Rattle.commands.specs.Host.{hostStep}
 use Rattle.keys.specs.Keys.{keyStep}
-use Rattle.commands.proofs.Lengths.{block-short, step-short}
+use Rattle.commands.proofs.Lengths.{step-short}
 use Rattle.commands.proofs.Theorems.{step-keeps-valid, step-keeps-size, step-touches-only, step-sends-full, step-sends-no-changed, step-reports}
 use Rattle.keys.proofs.Theorems.{key-keeps-valid, key-keeps-size, key-touches-only, key-tags, key-sends-full, key-sends-changed, key-sends-no-report, key-keeps-protection}
 use Rattle.terminal.specs.Runs.{stepsOf}
 use Rattle.terminal.specs.Calls.{hostCall}
 use Rattle.terminal.specs.Claims.{NumberedBy, Did}
 use Rattle.terminal.specs.Lines.{Line3, hostTable}
+use Rattle.terminal.proofs.Counts.{key-short}
 use Rattle.terminal.proofs.Theorems
 use Rattle.promises.specs.Rules.{ourRules, Input, byte, press, stepOf, steps, byteSteps}
 use Rattle.promises.specs.Entries.{ourEntries}
@@ -24,14 +24,6 @@ use Rattle.promises.proofs.Laws.{BlockOfPage, StepLaw, StepLaws, Keeps}
 -- Of a step: what the theorems of its crate say.
 is-block : {full : Bool} {Asked : Type 0} {t : Terminal} {step : Stepped} {bytes : List ℕ} → SendsBlock full Asked t step bytes → BlockOfPage full t step bytes
 is-block sent = record { of-page = sent .of-page; no-cell = sent .no-cell }
-
--- A key sends a block or nothing.
-key-short : (key : ℕ) (t : Terminal) → Valid t → (transmission : Transmission) → keyStep key t .transmission ≡ transmission → length (bytesOf transmission) ≤ 35138
-unfolding bytesOf
-key-short key t valid silent is = omega arith
-key-short key t valid (report bytes) is = absurd (key-sends-no-report key t bytes is)
-key-short key t valid (fullBlock bytes) is = omega (arith, ap (length {A = ℕ}) (key-sends-full key t bytes is .of-page), block-short t (valid .size) true)
-key-short key t valid (changedBlock bytes) is = omega (arith, ap (length {A = ℕ}) (key-sends-changed key t bytes is .of-page), block-short t (valid .size) false)
 
 our-every-step : (input : Input) (t : Terminal) → Valid t → StepLaw t (stepOf ourRules input t)
 unfolding stepOf
