@@ -1,0 +1,5 @@
+pub mod Lengths
+pub mod Reading
+pub mod Comparing
+pub mod RoundTrip
+pub mod Theorems

@@ -1,0 +1,79 @@
+-- Document 02, M-100: the state as a record of 193 bytes. docs/PANEL.md has the same layout for who writes C.
+--     0  rows, 2 columns, 4 the cursor's row, 6 its column           two bytes each
+--     8  pen, 9 erasure mode
+--     10 manual lock, 11 soft lock, 12 message, 13 byte
+--     14 kind of the half-read sequence, 15 its spoilt flag, 16 its count of arguments
+--     17 its eight arguments                                         two bytes each
+--     33 the tab stops of columns 1 to 160                           a flag each
+-- Nothing is reserved: where a later request adds to the state the record is longer, and an old one is refused.
+use mathlib.Core.Bool.{Bool, false}
+use mathlib.Core.List.{List, [], _∷_, _++_, flatMap}
+use mathlib.Core.Path.{_≡_}
+use Prim.Native.Nat.{ℕ}
+use lib.ListN.{getD}
+use Rattle.words.specs.Lists.{exactly}
+use Rattle.state.specs.declared.State.{State}
+use Rattle.record.specs.Bytes.{numberBytes, numberAt, flagByte, flagBytes, flagAt, readEach}
+use Rattle.record.specs.Bytes.{sameBytes}
+
+abbrev pub recordLength : ℕ
+recordLength = 193
+
+-- The bytes of a state.
+unfoldable pub firstBytes : State → List ℕ
+firstBytes s =
+    numberBytes 2 (s .size .rows)
+    ++ numberBytes 2 (s .size .columns)
+    ++ numberBytes 2 (s .cursor .row)
+    ++ numberBytes 2 (s .cursor .column)
+    ++ s .modes .pen
+    ∷ flagByte (s .modes .erasure)
+    ∷ flagByte (s .locks .manual)
+    ∷ flagByte (s .locks .soft)
+    ∷ s .locks .message
+    ∷ s .locks .byte
+    ∷ s .half .kind
+    ∷ flagByte (s .half .spoilt)
+    ∷ s .half .count
+    ∷ []
+
+abbrev pub argumentBytes : List ℕ → List ℕ
+argumentBytes arguments = flatMap (numberBytes 2) (exactly 8 0 arguments)
+
+abbrev pub stopBytes : List Bool → List ℕ
+stopBytes stops = flatMap flagBytes (exactly 160 false stops)
+
+unfoldable pub recordOf : State → List ℕ
+recordOf s = firstBytes s ++ argumentBytes (s .half .arguments) ++ stopBytes (s .stops)
+
+-- The state that bytes say, whatever they are.
+unfoldable pub stateIn : List ℕ → State
+stateIn bytes =
+    record {
+      size = record { rows = numberAt 2 bytes 0; columns = numberAt 2 bytes 2 };
+      cursor = record { row = numberAt 2 bytes 4; column = numberAt 2 bytes 6 };
+      modes = record { pen = getD bytes 8 0; erasure = flagAt bytes 9 };
+      locks =
+          record {
+            manual = flagAt bytes 10;
+            soft = flagAt bytes 11;
+            message = getD bytes 12 0;
+            byte = getD bytes 13 0;
+          };
+      stops = readEach (flagAt bytes) 1 33 160;
+      half =
+          record {
+            kind = getD bytes 14 0;
+            arguments = readEach (numberAt 2 bytes) 2 17 8;
+            count = getD bytes 16 0;
+            spoilt = flagAt bytes 15;
+          };
+    }
+
+-- Content is good where the state that the bytes say has these bytes again: so flags are 0 or 1, and a state has one
+-- record.
+abbrev pub Good : List ℕ → Type 0
+Good bytes = recordOf (stateIn bytes) ≡ bytes
+
+unfoldable pub isGood : List ℕ → Bool
+isGood bytes = sameBytes bytes (recordOf (stateIn bytes))

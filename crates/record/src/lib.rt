@@ -1,0 +1,248 @@
+// Document 02, M-100: the state as a record of bytes, written and read; see specs/Record.antt.
+use sequence::HalfRead;
+use state::Cursor;
+use state::Locks;
+use state::Modes;
+use state::Size;
+use state::State;
+ghost use mathlib.Core.Path.{_≡_};
+ghost use mathlib.Core.List.{List};
+ghost use Prim.Native.Nat.{_+_, _%_, _<_, _≤_};
+ghost use lib.ListN.{length, getD};
+ghost use Rattle.words.specs.Output.{Wrote};
+ghost use Rattle.record.specs.Bytes.{numberBytes, numberAt, flagByte, flagAt, readEach, sameBytes};
+ghost use Rattle.record.specs.Record.{firstBytes, argumentBytes, stopBytes, recordOf, stateIn, isGood};
+
+// Where each part of the state stands in the record.
+const ROWS: usize = 0;
+
+const COLUMNS: usize = 2;
+
+const ROW: usize = 4;
+
+const COLUMN: usize = 6;
+
+const PEN: usize = 8;
+
+const ERASURE: usize = 9;
+
+const MANUAL: usize = 10;
+
+const SOFT: usize = 11;
+
+const MESSAGE: usize = 12;
+
+const BYTE: usize = 13;
+
+const KIND: usize = 14;
+
+const SPOILT: usize = 15;
+
+const COUNT: usize = 16;
+
+const ARGUMENTS: usize = 17;
+
+const STOPS: usize = 33;
+
+// As many bytes as a record has.
+pub const LENGTH: usize = 193;
+
+// The lowest byte of a number.
+pub fn low_byte(number: usize) -> u8
+    ensures { λ r. ⌜ r ≡ number % 256 ⌝ }
+{
+    (number % 256) as u8
+}
+
+fn flag_byte(flag: bool) -> u8
+    ensures { λ r. ⌜ r ≡ flagByte flag ⌝ }
+{
+    if flag {
+        return 1;
+    }
+    0
+}
+
+// The bytes before the arguments and the tab stops.
+fn first_bytes(state: State) -> [u8; ARGUMENTS]
+    ensures { λ r. ⌜ r ≡ firstBytes state ⌝ }
+{
+    [
+        low_byte(state.size.rows),
+        low_byte(state.size.rows / 256),
+        low_byte(state.size.columns),
+        low_byte(state.size.columns / 256),
+        low_byte(state.cursor.row),
+        low_byte(state.cursor.row / 256),
+        low_byte(state.cursor.column),
+        low_byte(state.cursor.column / 256),
+        state.modes.pen,
+        flag_byte(state.modes.erasure),
+        flag_byte(state.locks.manual),
+        flag_byte(state.locks.soft),
+        state.locks.message,
+        state.locks.byte,
+        state.half.kind,
+        flag_byte(state.half.spoilt),
+        state.half.count,
+    ]
+}
+
+fn put_argument(bytes: &mut [u8], at: usize, argument: u16) -> usize
+    requires { ⌜ at + 2 ≤ length (now bytes) ⌝ }
+    ensures { λ r. ⌜ Wrote at (numberBytes 2 argument) (now (bytes .entry)) r (now (bytes .exit)) ⌝ }
+{
+    let number = argument as usize;
+    let high = output::put_byte(bytes, at, low_byte(number));
+    output::put_byte(bytes, high, low_byte(number / 256))
+}
+
+fn put_arguments(bytes: &mut [u8], at: usize, arguments: [u16; 8]) -> usize
+    requires { ⌜ at + 16 ≤ length (now bytes) ⌝ }
+    ensures { λ r. ⌜ Wrote at (argumentBytes arguments) (now (bytes .entry)) r (now (bytes .exit)) ⌝ }
+{
+    let mut next = at;
+    let mut i = 0;
+    while i < 8 {
+        next = put_argument(bytes, next, arguments[i]);
+        i += 1;
+    }
+    next
+}
+
+fn put_stops(bytes: &mut [u8], at: usize, stops: [bool; 160]) -> usize
+    requires { ⌜ at + 160 ≤ length (now bytes) ⌝ }
+    ensures { λ r. ⌜ Wrote at (stopBytes stops) (now (bytes .entry)) r (now (bytes .exit)) ⌝ }
+{
+    let mut next = at;
+    let mut i = 0;
+    while i < 160 {
+        next = output::put_byte(bytes, next, flag_byte(stops[i]));
+        i += 1;
+    }
+    next
+}
+
+// The record of a state.
+pub fn record_of(state: State) -> [u8; LENGTH]
+    ensures { λ r. ⌜ r ≡ recordOf state ⌝ }
+{
+    let arguments = state.half.arguments;
+    let stops = state.stops;
+    let first = first_bytes(state);
+    let mut bytes = [0; LENGTH];
+    let next = output::put_all(&mut bytes, 0, &first);
+    let last = put_arguments(&mut bytes, next, arguments);
+    put_stops(&mut bytes, last, stops);
+    bytes
+}
+
+// A byte of the record; past the end, 0.
+fn byte_at(bytes: &[u8], at: usize) -> u8
+    ensures { λ r. ⌜ r ≡ getD (now (bytes .entry)) at 0 ⌝ }
+{
+    if at < bytes.len() {
+        return bytes[at];
+    }
+    0
+}
+
+fn flag_at(bytes: &[u8], at: usize) -> bool
+    ensures { λ r. ⌜ r ≡ flagAt (now (bytes .entry)) at ⌝ }
+{
+    byte_at(bytes, at) == 1
+}
+
+// The number that two bytes say.
+fn number_at(bytes: &[u8], at: usize) -> usize
+    requires { ⌜ at < 193 ⌝ }
+    ensures { λ r. ⌜ (r ≡ numberAt 2 (now (bytes .entry)) at) × (r ≤ 65535) ⌝ }
+{
+    let low = byte_at(bytes, at) as usize;
+    let high = byte_at(bytes, at + 1) as usize;
+    low + 256 * high
+}
+
+fn arguments_in(bytes: &[u8]) -> [u16; 8]
+    ensures { λ r. ⌜ r ≡ readEach (numberAt 2 (now (bytes .entry))) 2 17 8 ⌝ }
+{
+    let mut arguments = [0u16; 8];
+    let mut i = 0;
+    while i < 8 {
+        arguments[i] = number_at(bytes, ARGUMENTS + 2 * i) as u16;
+        i += 1;
+    }
+    arguments
+}
+
+fn stops_in(bytes: &[u8]) -> [bool; 160]
+    ensures { λ r. ⌜ r ≡ readEach (flagAt (now (bytes .entry))) 1 33 160 ⌝ }
+{
+    let mut stops = [false; 160];
+    let mut i = 0;
+    while i < 160 {
+        stops[i] = flag_at(bytes, STOPS + i);
+        i += 1;
+    }
+    stops
+}
+
+// The state that bytes say, whatever they are.
+pub fn state_in(bytes: &[u8]) -> State
+    ensures { λ r. ⌜ r ≡ stateIn (now (bytes .entry)) ⌝ }
+{
+    let arguments = arguments_in(bytes);
+    let stops = stops_in(bytes);
+    State {
+        size: Size {
+            rows: number_at(bytes, ROWS),
+            columns: number_at(bytes, COLUMNS),
+        },
+        cursor: Cursor {
+            row: number_at(bytes, ROW),
+            column: number_at(bytes, COLUMN),
+        },
+        modes: Modes {
+            pen: byte_at(bytes, PEN),
+            erasure: flag_at(bytes, ERASURE),
+        },
+        locks: Locks {
+            manual: flag_at(bytes, MANUAL),
+            soft: flag_at(bytes, SOFT),
+            message: byte_at(bytes, MESSAGE),
+            byte: byte_at(bytes, BYTE),
+        },
+        stops,
+        half: HalfRead {
+            kind: byte_at(bytes, KIND),
+            arguments,
+            count: byte_at(bytes, COUNT),
+            spoilt: flag_at(bytes, SPOILT),
+        },
+    }
+}
+
+// Whether two slices hold the same bytes.
+pub fn same_bytes(one: &[u8], other: &[u8]) -> bool
+    ensures { λ r. ⌜ r ≡ sameBytes (now (one .entry)) (now (other .entry)) ⌝ }
+{
+    if one.len() != other.len() {
+        return false;
+    }
+    let mut i = 0;
+    while i < one.len() {
+        if one[i] != other[i] {
+            return false;
+        }
+        i += 1;
+    }
+    true
+}
+
+// Whether bytes are the record of the state that they say: read, written again, compared.
+pub fn is_good(bytes: &[u8]) -> bool
+    ensures { λ r. ⌜ r ≡ isGood (now (bytes .entry)) ⌝ }
+{
+    let again = record_of(state_in(bytes));
+    same_bytes(bytes, &again)
+}
