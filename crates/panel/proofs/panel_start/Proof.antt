@@ -25,7 +25,7 @@ returns-2 c =
     let start = lengths .before .before .before .before .before .before .before in
     let lent = lentOf (start .args .packed .now) (start .args .characters .now) (start .args .marks .now) [] (start .args .result .now) in
     let told = handed .hand-on .ensures in
-    handed-on _ _ _ (told .0) (told .1 .0) (told .1 .1)
+    handed-on (did .start .result) _ _ (told .0) (told .1 .0) (told .1 .1)
     ∙ start-done lent _ (lengths .wrong-length .ensures) (start .args .rows) (start .args .columns) (did .before .before .before .if1 .left) _ (did .start .ensures)
 
 pub panel-start-spec : {M : Type 1} → statement M
