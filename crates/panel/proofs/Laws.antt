@@ -1,6 +1,5 @@
 -- The lines of an exported function, one by one, in the terms of its code.
 use mathlib.Core.Path.{_≡_, refl, sym, ap, _∙_}
-use mathlib.Core.Bool.{Bool, not}
 use mathlib.Core.List.{List}
 use Prim.Native.Nat.{ℕ, _<_, _≤_}
 use native.Mathlib.Omega.{arith}
@@ -8,14 +7,13 @@ use borrow.Author.Tests.{not-false, eqb-true, lt-ltb, le-ltb}
 use lib.ListN.{length}
 use Rattle.words.proofs.Choosing.{then-case, else-case, either-line}
 use Rattle.page.specs.Page.{Page}
-use Rattle.state.specs.declared.Size.{Size}
 use Rattle.steps.specs.Steps.{Terminal}
 use Rattle.terminal.specs.declared.Reply.{Reply}
 use Rattle.terminal.specs.Answers.{Outcome, numberOf, given}
 use Rattle.terminal.specs.Calls.{startCall}
 use Rattle.record.specs.Bytes.{numberBytes}
 use Rattle.record.specs.Record.{recordOf}
-use Rattle.panel.specs.Panel.{Lent, Left, lentOf, resultLength, resultBytes, pageIn, terminalIn, untouched, refusedWith, leftBy, wrongLength, wrongContent, panelStart, onTerminal}
+use Rattle.panel.specs.Panel.{Lent, lentOf, resultLength, resultBytes, pageIn, terminalIn, untouched, refusedWith, leftBy, wrongLength, wrongContent, panelStart, onTerminal}
 
 pub result-length : (number taken sent stored : ℕ) → length (resultBytes number taken sent stored) ≡ resultLength
 unfolding resultBytes numberBytes

@@ -6,3 +6,4 @@ pub mod Demands
 pub mod Contracts
 pub mod Further
 pub mod Reasons
+pub mod Panel

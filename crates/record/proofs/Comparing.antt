@@ -1,12 +1,10 @@
 -- Two lists are the same exactly where the test says so; and the loop that compares them.
-use mathlib.Core.Path.{_≡_, refl, sym, ap, _∙_}
-use mathlib.Core.Bool.{Bool, true, false}
+use mathlib.Core.Path.{_≡_, refl, sym, ap}
+use mathlib.Core.Bool.{true, false}
 use mathlib.Core.List.{List, [], _∷_}
 use Prim.Native.Nat.{ℕ, _+_, _<_, _≤_}
-use native.Mathlib.Omega.{arith}
 use borrow.Author.Tests.{eq-eqb, ne-eqb, eqb-true}
 use lib.ListN.{length, drop, getD, drop-of-length-le}
-use Rattle.words.specs.Choice.{_and_}
 use Rattle.words.proofs.Choosing.{true-is-not-false, both, both-hold, first-decides, first-fails, refuted}
 use Rattle.words.proofs.Walking.{next-element}
 use Rattle.record.specs.Bytes.{sameBytes}

@@ -31,8 +31,8 @@ record-length s =
     simp (length-append, first-length s, arguments-length (s .half .arguments), stops-length (s .stops))
 
 -- What is as long as the slice that it is written over is all that is there then.
-pub whole-written : {bytes before : List ℕ} {next : ℕ} {after : List ℕ} → length bytes ≡ length before → Wrote 0 bytes before next after → after ≡ bytes
+pub whole-written : {bytes : List ℕ} (before : List ℕ) {next : ℕ} {after : List ℕ} → length bytes ≡ length before → Wrote 0 bytes before next after → after ≡ bytes
 unfolding placed
-whole-written {bytes} {before} same wrote =
+whole-written {bytes} before same wrote =
     let over : length before ≤ 0 + length bytes = omega arith in
     wrote .left ∙ rw (drop-of-length-le before over) (append-nil bytes)

@@ -8,7 +8,7 @@ use native.Mathlib.Omega.{arith}
 use borrow.Author.Tests.{leb-true}
 use lib.Dec.{ltb}
 use lib.ListN.{length, replicate, length-append}
-use Rattle.words.specs.Choice.{if_then_else_, _and_}
+use Rattle.words.specs.Choice.{if_then_else_}
 use Rattle.words.specs.Lists.{exactly}
 use Rattle.words.proofs.Choosing.{both, either-line}
 use Rattle.words.proofs.Elements.{exactly-these}
@@ -18,7 +18,7 @@ use Rattle.state.specs.declared.State.{State}
 use Rattle.state.specs.State.{Arrays, zeroState}
 use Rattle.state.specs.Tests.{listedSize, validState}
 use Rattle.state.proofs.Keeping.{size-bounds, on-page, parts}
-use Rattle.record.specs.Bytes.{numberBytes, numberAt, flagByte, flagBytes, flagAt, readEach, sameBytes}
+use Rattle.record.specs.Bytes.{numberBytes, numberAt, flagByte, flagBytes, flagAt, readEach}
 use Rattle.record.specs.Record.{firstBytes, argumentBytes, stopBytes, recordOf, stateIn, Good, isGood}
 use Rattle.record.proofs.Lengths.{first-length, arguments-length}
 use Rattle.record.proofs.Comparing.{same-is-equal, itself-is-same}

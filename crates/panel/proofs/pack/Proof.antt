@@ -14,7 +14,7 @@ returns-2 c =
     let made = c .before .before .before .before .before .before .before .before .before in
     let start = made .before .before in
     let is = made .record-of .ensures in
-    whole-written {before = start .args .packed .now} (ap length is ∙ record-length _ ∙ sym (start .pre)) (c .before .before .put-all .ensures) ∙ is
+    whole-written (start .args .packed .now) (ap length is ∙ record-length _ ∙ sym (start .pre)) (c .before .before .put-all .ensures) ∙ is
 
 pub pack-spec : {M : Type 1} → statement M
 pack-spec =

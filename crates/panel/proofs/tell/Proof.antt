@@ -11,7 +11,7 @@ returns c =
     let made = c .before .before .before .before .before in
     let start = made .before .before in
     let is = made .result-bytes .ensures in
-    whole-written {before = start .args .result .now} (ap length is ∙ result-length _ _ _ _ ∙ sym (start .pre)) (c .before .before .put-all .ensures) ∙ is
+    whole-written (start .args .result .now) (ap length is ∙ result-length _ _ _ _ ∙ sym (start .pre)) (c .before .before .put-all .ensures) ∙ is
 
 pub tell-spec : {M : Type 1} → statement M
 tell-spec =

@@ -1,6 +1,4 @@
 use mathlib.Core.Path.{ap, _∙_}
-use mathlib.Core.List.{List}
-use Prim.Native.Nat.{ℕ}
 use borrow.Author.Needs.{needs}
 use Rattle.record.specs.Bytes.{sameBytes}
 use Rattle.record.specs.Record.{recordOf, isGood}

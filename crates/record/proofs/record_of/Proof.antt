@@ -24,7 +24,7 @@ returns c =
     let room : 0 ≤ length zeros = omega arith in
     let all = wrote-then room (wrote-then room (first .put-all .ensures) (c .before .before .before .before .put-arguments .ensures)) (c .before .put-stops .ensures) in
     let joined = ap (λ (l : List ℕ). l ++ argumentBytes (s .half .arguments) ++ stopBytes (s .stops)) (first .before .before .before .first-bytes .ensures) in
-    whole-written {before = zeros} (ap length joined ∙ record-length s) all ∙ joined
+    whole-written zeros (ap length joined ∙ record-length s) all ∙ joined
 
 pub record-of-spec : {M : Type 1} → statement M
 record-of-spec =
