@@ -23,6 +23,8 @@ pub mod FeedingCells
 pub mod FeedingText
 pub mod FeedingFields
 pub mod Feeding
+pub mod Panels
+pub mod PanelCalls
 pub mod Theorems
 pub mod Sheets
 pub mod Computing

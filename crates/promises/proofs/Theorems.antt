@@ -1,5 +1,5 @@
 -- What is promised and kept: the three demands (specs/Demands.antt), and what else is promised (specs/Further.antt,
--- specs/Reasons.antt).
+-- specs/Reasons.antt), of what C calls too (specs/Panel.antt).
 use mathlib.Core.Path.{_≡_}
 use Rattle.terminal.specs.Answers.{Outcome, given}
 use Rattle.terminal.specs.Calls.{startCall, hostCall, keyCall}
@@ -9,6 +9,7 @@ use Rattle.promises.specs.Entries.{Entries, ourEntries}
 use Rattle.promises.specs.Contracts.{ourContracts}
 use Rattle.promises.specs.Demands.{Demand1, Follows, Demand2, Demand3}
 use Rattle.promises.specs.Reasons.{Reasons, MessageStays}
+use Rattle.promises.specs.Panel.{Panel, ourPanel, ourCoding, OneRecord, PanelNumbers, PanelRefusals, AsCalled, SamePanels, PanelKept}
 use Rattle.promises.specs.Further.{AllSame, OneResult, SameEntries, OneTerminal, ValidByTheTable, StaysValid, StartsWithOneField, SameHoweverCut, Continuing, Progress, CallsAreSteps, BlocksKeep, SendsBlocks, Bounded, CopyingSteps, OmissionSteps}
 use Rattle.promises.proofs.OurLaws.{our-step-laws, our-keeps}
 use Rattle.promises.proofs.Doing.{by-the-table}
@@ -20,6 +21,8 @@ use Rattle.promises.proofs.Sending.{blocks-keep-of, bounded-of, progres
 use Rattle.promises.proofs.Asking.{our-sends-blocks}
 use Rattle.promises.proofs.Reasoning.{our-reasons}
 use Rattle.promises.proofs.Messages.{our-message-stays}
+use Rattle.promises.proofs.Panels.{our-one-record, our-panel-numbers, our-panel-refusals, our-as-called}
+use Rattle.promises.proofs.PanelCalls.{our-as-called-on, our-leaves-valid, same-panels}
 use Rattle.promises.proofs.Copied.{copying-of}
 use Rattle.promises.proofs.Omitted.{omission-of}
 use Rattle.promises.proofs.CopiedCalls.{finding-of, copying-calls-of}
@@ -110,3 +113,21 @@ reasons = our-reasons
 
 pub message-stays : MessageStays ourRules
 message-stays = our-message-stays
+
+-- Of what C calls.
+pub one-record : OneRecord ourCoding
+one-record = our-one-record
+
+pub panel-kept : PanelKept ourRules ourEntries ourPanel
+panel-kept = record {
+  numbers = our-panel-numbers demand-1;
+  refusals = our-panel-refusals demand-1;
+  as-called = our-as-called;
+  as-called-on = our-as-called-on stays-valid our-as-called;
+  leaves-valid = our-leaves-valid demand-1 valid-by-the-table stays-valid;
+}
+
+-- Numbers, refusals and `AsCalled` leave one panel.
+pub only-our-panel : (panel : Panel) → PanelNumbers ourRules panel → PanelRefusals panel → AsCalled ourEntries panel → SamePanels panel ourPanel
+only-our-panel panel numbers refusals called =
+    same-panels valid-by-the-table ourRules ourEntries panel ourPanel numbers (panel-kept .numbers) refusals (panel-kept .refusals) called (panel-kept .as-called)

@@ -119,7 +119,7 @@ pub record ToldAlone (number : ℕ) (lent left : Lent) : Type 0 where
   pub output : left .output ≡ lent .output
   pub result : left .result ≡ number ∷ replicate 12 0
 
--- But a start that is refused so leaves a record of zeros.
+-- But a start that is refused so leaves a record of zeros. (It is lent no output.)
 pub record ToldZeros (number : ℕ) (lent left : Lent) : Type 0 where
   pub packed : left .packed ≡ replicate recordLength 0
   pub characters : left .characters ≡ lent .characters
@@ -127,7 +127,7 @@ pub record ToldZeros (number : ℕ) (lent left : Lent) : Type 0 where
   pub output : left .output ≡ lent .output
   pub result : left .result ≡ number ∷ replicate 12 0
 
--- Neither slice has another length, and the number is that of a refusal: not 0, nor 3 for host bytes.
+-- Neither slice has another length, and the call is refused all the same.
 abbrev pub RefusedLater : Lent → Left → Type 0
 RefusedLater lent left = (OtherLength lent → ⊥) × (left .number ≡ 0 → ⊥)
 
@@ -135,7 +135,8 @@ pub record PanelRefusals (panel : Panel) : Type 0 where
   pub own-start : (rows columns : ℕ) (lent : Lent) → OtherLength lent → panel .start rows columns lent .lent ≡ lent
   pub own-host : (lent : Lent) (bytes : List ℕ) → OtherLength lent → panel .host lent bytes .lent ≡ lent
   pub own-key : (lent : Lent) (key : ℕ) → OtherLength lent → panel .key lent key .lent ≡ lent
-  pub of-start : (rows columns : ℕ) (lent : Lent) → RefusedLater lent (panel .start rows columns lent) →
+  pub of-start : (rows columns : ℕ) (lent : Lent) → lent .output ≡ [] →
+      RefusedLater lent (panel .start rows columns lent) →
       ToldZeros (panel .start rows columns lent .number) lent (panel .start rows columns lent .lent)
   pub of-host : (lent : Lent) (bytes : List ℕ) → RefusedLater lent (panel .host lent bytes) →
       (panel .host lent bytes .number ≡ 3 → ⊥) →
@@ -219,3 +220,11 @@ pub record SamePanels (one other : Panel) : Type 0 where
       one .start rows columns lent ≡ other .start rows columns lent
   pub of-host : (lent : Lent) (bytes : List ℕ) → one .host lent bytes ≡ other .host lent bytes
   pub of-key : (lent : Lent) (key : ℕ) → one .key lent key ≡ other .key lent key
+
+-- All of it.
+pub record PanelKept (rules : Rules) (entries : Entries) (panel : Panel) : Type 1 where
+  pub numbers : PanelNumbers rules panel
+  pub refusals : PanelRefusals panel
+  pub as-called : AsCalled entries panel
+  pub as-called-on : AsCalledOn entries panel
+  pub leaves-valid : LeavesValid panel

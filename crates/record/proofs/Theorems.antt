@@ -22,6 +22,7 @@ use Rattle.record.specs.Bytes.{numberBytes, numberAt, flagByte, flagByte
 use Rattle.record.specs.Record.{firstBytes, argumentBytes, stopBytes, recordOf, stateIn, Good, isGood}
 use Rattle.record.proofs.Lengths.{first-length, arguments-length}
 use Rattle.record.proofs.Comparing.{same-is-equal, itself-is-same}
+use Rattle.record.proofs.Reading.{length-each}
 use Rattle.record.proofs.RoundTrip.{many, number-back, flag-back, each-back}
 
 -- No argument of a valid half-read record is above 9,999.
@@ -104,3 +105,8 @@ one-record one other good other-good same = sym good ∙ ap recordOf same ∙ ot
 pub zeros : recordOf zeroState ≡ replicate 193 0
 unfolding recordOf firstBytes numberBytes flagByte exactly flatMap if_then_else_
 zeros = refl
+
+-- What bytes say has the arrays of the code, whatever they are.
+pub said-arrays : (bytes : List ℕ) → Arrays (stateIn bytes)
+unfolding stateIn
+said-arrays bytes = record { stops = length-each (flagAt bytes) 1 33 160; arguments = length-each (numberAt 2 bytes) 2 17 8 }
