@@ -114,10 +114,10 @@ fn put_stops(bytes: &mut [u8], at: usize, stops: [bool; 160]) -> usize
     ensures { λ r. ⌜ Wrote at (stopBytes stops) (now (bytes .entry)) r (now (bytes .exit)) ⌝ }
 {
     let mut next = at;
-    let mut i = 0;
-    while i < 160 {
-        next = output::put_byte(bytes, next, flag_byte(stops[i]));
-        i += 1;
+    let mut column = 0;
+    while column < 160 {
+        next = output::put_byte(bytes, next, flag_byte(stops[column]));
+        column += 1;
     }
     next
 }
