@@ -1,0 +1,626 @@
+/* What C can get wrong, all of it in turn: lengths, the record's bytes, sizes, keys, rooms. Which number is expected is
+   worked out here from documents 01 and 02 (M-100 to M-102) and the layout in panel.h; lent.c looks at what is left. */
+#include "lent.h"
+
+#include "panel.h"
+
+#include <stdio.h>
+#include <stdlib.h>
+#include <string.h>
+
+/* Longer than any slice that is tried. */
+static uint8_t record[4 * PANEL_RECORD_LENGTH], result[4 * PANEL_RESULT_LENGTH];
+static uint8_t characters[PANEL_MOST_CELLS + 1], marks[PANEL_MOST_CELLS + 1], host_bytes[LONGEST];
+static struct kept kept = {
+    {record, characters, marks, host_bytes, NULL, result},
+    {PANEL_RECORD_LENGTH, 0, 0, 0, PANEL_ROOM, PANEL_RESULT_LENGTH},
+};
+
+static long calls;
+
+/* -- the model: which number a call is given */
+
+static bool is_one_of(size_t n, size_t a, size_t b, size_t c)
+{
+    return n == a || n == b || n == c;
+}
+
+static bool is_listed(size_t rows, size_t columns)
+{
+    return is_one_of(rows, 24, 27, 48) && is_one_of(columns, 80, 132, 160);
+}
+
+static bool is_page(size_t rows, size_t columns)
+{
+    size_t cells = rows * columns;
+    return is_listed(rows, columns) && kept.length[CHARACTERS] == cells && kept.length[MARKS] == cells;
+}
+
+static bool half_read_is_valid(void)
+{
+    unsigned kind = record[PANEL_RECORD_KIND], spoilt = record[PANEL_RECORD_SPOILT], count = record[PANEL_RECORD_COUNT];
+    unsigned most = 0, reached = 0;
+    for (unsigned i = 0; i < 8; i++) {
+        unsigned argument = panel_two_bytes(record + PANEL_RECORD_ARGUMENTS + 2 * i);
+        most = argument > most ? argument : most;
+        reached = argument != 0 ? i + 1 : reached;
+    }
+    if (kind < PANEL_KIND_AFTER_BRACKET)
+        return spoilt == 0 && count == 0 && most == 0;
+    if (spoilt != 0)
+        return kind == PANEL_KIND_AFTER_BRACKET && spoilt == 1 && count == 1 && most == 0;
+    return kind == PANEL_KIND_AFTER_BRACKET && count >= 1 && count <= 8 && reached <= count && most <= 9999;
+}
+
+/* Line 2, of a size that is listed and of page slices that fit it. */
+static bool is_valid(void)
+{
+    unsigned rows = panel_two_bytes(record + PANEL_RECORD_ROWS), columns = panel_two_bytes(record + PANEL_RECORD_COLUMNS);
+    unsigned row = panel_two_bytes(record + PANEL_RECORD_ROW), column = panel_two_bytes(record + PANEL_RECORD_COLUMN);
+    if (row < 1 || row > rows || column < 1 || column > columns)
+        return false;
+    if (record[PANEL_RECORD_ERASURE] > 1 || record[PANEL_RECORD_MANUAL] > 1 || record[PANEL_RECORD_SOFT] > 1)
+        return false;
+    /* the pen has no modified */
+    if (record[PANEL_RECORD_PEN] & (0x80 | PANEL_MARK_MODIFIED))
+        return false;
+    if (record[PANEL_RECORD_MESSAGE] > 4 || (record[PANEL_RECORD_MESSAGE] == 0 && record[PANEL_RECORD_BYTE] != 0))
+        return false;
+    for (unsigned i = 0; i < 160; i++)
+        if (record[PANEL_RECORD_STOPS + i] > (i < columns))
+            return false;
+    for (size_t i = 0; i < kept.length[CHARACTERS]; i++)
+        if (characters[i] < 0x20 || characters[i] > 0x7E || marks[i] > 0x7F)
+            return false;
+    return half_read_is_valid();
+}
+
+/* The numbers that come before those of a valid terminal; PANEL_DONE if none does. */
+static uint8_t number_before(enum call call, size_t rows, size_t columns)
+{
+    if (kept.length[RESULT] != PANEL_RESULT_LENGTH)
+        return PANEL_WRONG_SIZE;
+    if (kept.length[RECORD] != PANEL_RECORD_LENGTH)
+        return PANEL_WRONG_STATE;
+    if (call == START)
+        return is_page(rows, columns) ? PANEL_DONE : PANEL_WRONG_SIZE;
+    if (!is_page(panel_two_bytes(record + PANEL_RECORD_ROWS), panel_two_bytes(record + PANEL_RECORD_COLUMNS)))
+        return PANEL_WRONG_SIZE;
+    return is_valid() ? PANEL_DONE : PANEL_WRONG_STATE;
+}
+
+/* -- calls that must give a number */
+
+static void want(const char *what, uint8_t number, uint8_t wanted)
+{
+    calls++;
+    if (number != wanted)
+        fault("%s: number %d, wanted %d", what, number, wanted);
+}
+
+static void want_counts(const char *what, uint32_t taken, uint32_t sent, uint32_t stored)
+{
+    if (panel_four_bytes(result + PANEL_RESULT_TAKEN) != taken || panel_four_bytes(result + PANEL_RESULT_SENT) != sent ||
+        panel_four_bytes(result + PANEL_RESULT_STORED) != stored)
+        fault("%s: taken %u, sent %u, stored %u; wanted %u, %u, %u", what,
+              panel_four_bytes(result + PANEL_RESULT_TAKEN), panel_four_bytes(result + PANEL_RESULT_SENT),
+              panel_four_bytes(result + PANEL_RESULT_STORED), taken, sent, stored);
+}
+
+static uint8_t host(const char *bytes, size_t length)
+{
+    memcpy(host_bytes, bytes, length);
+    kept.length[BYTES] = length;
+    return lend(HOST, 0, 0, &kept);
+}
+
+static void feed(const char *text)
+{
+    want("fed", host(text, strlen(text)), PANEL_DONE);
+}
+
+static void start(size_t rows, size_t columns)
+{
+    kept.length[RECORD] = PANEL_RECORD_LENGTH;
+    kept.length[RESULT] = PANEL_RESULT_LENGTH;
+    kept.length[CHARACTERS] = kept.length[MARKS] = rows * columns;
+    kept.length[OUTPUT] = PANEL_ROOM;
+    want("start", lend(START, rows, columns, &kept), PANEL_DONE);
+}
+
+/* -- what is put back after a call that did something */
+
+static struct {
+    uint8_t record[PANEL_RECORD_LENGTH], characters[PANEL_MOST_CELLS], marks[PANEL_MOST_CELLS];
+} saved;
+
+static void save(void)
+{
+    memcpy(saved.record, record, sizeof saved.record);
+    memcpy(saved.characters, characters, sizeof saved.characters);
+    memcpy(saved.marks, marks, sizeof saved.marks);
+}
+
+static void put_back(void)
+{
+    memcpy(record, saved.record, sizeof saved.record);
+    memcpy(characters, saved.characters, sizeof saved.characters);
+    memcpy(marks, saved.marks, sizeof saved.marks);
+}
+
+static void want_page_as_saved(const char *what)
+{
+    if (memcmp(characters, saved.characters, sizeof saved.characters) != 0 ||
+        memcmp(marks, saved.marks, sizeof saved.marks) != 0)
+        fault("%s: the page was changed", what);
+}
+
+static void want_record(const char *what, const uint8_t *wanted)
+{
+    for (size_t i = 0; i < PANEL_RECORD_LENGTH; i++)
+        if (record[i] != wanted[i])
+            fault("%s: byte %zu of the record is %d, wanted %d", what, i, record[i], wanted[i]);
+}
+
+/* -- start */
+
+static void make_fresh_record(uint8_t *fresh, size_t rows, size_t columns)
+{
+    memset(fresh, 0, PANEL_RECORD_LENGTH);
+    fresh[PANEL_RECORD_ROWS] = (uint8_t)rows;
+    fresh[PANEL_RECORD_COLUMNS] = (uint8_t)columns;
+    fresh[PANEL_RECORD_ROW] = fresh[PANEL_RECORD_COLUMN] = 1;
+}
+
+static uint8_t random_byte(void)
+{
+    static uint32_t seed = 1;
+    seed = seed * 1664525 + 1013904223;
+    return (uint8_t)(seed >> 24);
+}
+
+static void make_garbage(int round)
+{
+    for (size_t i = 0; i < sizeof record; i++)
+        record[i] = round == 0 ? 0xFF : random_byte();
+    for (size_t i = 0; i < sizeof characters; i++) {
+        characters[i] = random_byte();
+        marks[i] = random_byte();
+    }
+    for (size_t i = 0; i < sizeof result; i++)
+        result[i] = random_byte();
+}
+
+/* A start over garbage: its number, and if it is done the fresh page and its record. */
+static void try_start(size_t rows, size_t columns)
+{
+    uint8_t wanted = number_before(START, rows, columns), fresh[PANEL_RECORD_LENGTH];
+    want("start", lend(START, rows, columns, &kept), wanted);
+    if (wanted != PANEL_DONE)
+        return;
+    make_fresh_record(fresh, rows, columns);
+    want_record("start", fresh);
+    want_counts("start", 0, 0, (uint32_t)(rows * columns));
+    for (size_t i = 0; i < rows * columns; i++)
+        if (characters[i] != 0x20 || marks[i] != 0)
+            fault("start: cell %zu is not fresh", i);
+}
+
+static void try_starts(void)
+{
+    static const size_t far[] = {24, 80, 24 + (1 << 8), 24 + (1 << 16), (size_t)24 + ((size_t)1 << 32),
+                                 80 + (1 << 8), 80 + (1 << 16), (size_t)80 + ((size_t)1 << 32), SIZE_MAX, SIZE_MAX / 2};
+    for (size_t rows = 0; rows <= 50; rows++) {
+        for (size_t columns = 0; columns <= 162; columns++) {
+            size_t cells = rows * columns;
+            make_garbage((int)(rows % 2));
+            kept.length[CHARACTERS] = kept.length[MARKS] = cells < sizeof characters ? cells : sizeof characters;
+            try_start(rows, columns);
+            if (!is_listed(rows, columns))
+                continue;
+            for (int i = 0; i < 9; i++) {
+                static const int off[] = {-1, 0, 1};
+                kept.length[CHARACTERS] = cells + off[i % 3];
+                kept.length[MARKS] = cells + off[i / 3];
+                make_garbage(i);
+                try_start(rows, columns);
+            }
+        }
+    }
+    kept.length[CHARACTERS] = kept.length[MARKS] = 24 * 80;
+    for (size_t i = 0; i < sizeof far / sizeof *far; i++)
+        for (size_t j = 0; j < sizeof far / sizeof *far; j++)
+            try_start(far[i], far[j]);
+}
+
+/* -- good records, and every byte of them damaged */
+
+struct good {
+    const char *name;
+    size_t rows, columns;
+    const char *fed;
+    /* places of the record that are then other than fresh, and what is there; an end of 0 beside 0 */
+    uint8_t other[24][2];
+};
+
+#define AT_ARGUMENT(n) (PANEL_RECORD_ARGUMENTS + 2 * ((n)-1))
+#define AT_STOP(column) (PANEL_RECORD_STOPS + (column)-1)
+
+static const struct good goods[] = {
+    {"fresh", 24, 80, "", {{0, 0}}},
+    {"tab stops, pen, erasure mode", 24, 80, "\033H\033[8G\033H\033[40G\033[W\033[80G\033H\033V\033[1;8m\033[6h\033[3;7H",
+     {{AT_STOP(1), 1}, {AT_STOP(8), 1}, {AT_STOP(40), 1}, {AT_STOP(80), 1},
+      {PANEL_RECORD_PEN, PANEL_MARK_PROTECTED | PANEL_MARK_BOLD | PANEL_MARK_CONCEALED},
+      {PANEL_RECORD_ERASURE, 1}, {PANEL_RECORD_ROW, 3}, {PANEL_RECORD_COLUMN, 7}}},
+    {"half read after ESC [ with arguments", 24, 80, "\033[24;80H\033[12;3456;",
+     {{PANEL_RECORD_ROW, 24}, {PANEL_RECORD_COLUMN, 80}, {PANEL_RECORD_KIND, PANEL_KIND_AFTER_BRACKET},
+      {PANEL_RECORD_COUNT, 3}, {AT_ARGUMENT(1), 12}, {AT_ARGUMENT(2), 3456 & 255}, {AT_ARGUMENT(2) + 1, 3456 >> 8}}},
+    {"locked with a message", 24, 80, "\033`\302",
+     {{PANEL_RECORD_MANUAL, 1}, {PANEL_RECORD_SOFT, 1}, {PANEL_RECORD_MESSAGE, PANEL_MESSAGE_HIGH_BYTE},
+      {PANEL_RECORD_BYTE, 0xC2}}},
+    {"after a refused command, half read after ESC", 24, 80, "\033[2;3H\033[25;1H\033",
+     {{PANEL_RECORD_ROW, 2}, {PANEL_RECORD_COLUMN, 3}, {PANEL_RECORD_SOFT, 1},
+      {PANEL_RECORD_MESSAGE, PANEL_MESSAGE_WRONG_ARGUMENTS}, {PANEL_RECORD_BYTE, 'H'},
+      {PANEL_RECORD_KIND, PANEL_KIND_AFTER_ESC}}},
+    {"broken off, half read after ESC and an intermediate", 27, 80, "\033[1\r\033 ",
+     {{PANEL_RECORD_SOFT, 1}, {PANEL_RECORD_MESSAGE, PANEL_MESSAGE_BROKEN_SEQUENCE}, {PANEL_RECORD_BYTE, '\r'},
+      {PANEL_RECORD_KIND, PANEL_KIND_AFTER_INTERMEDIATE}}},
+    {"unknown command, then spoilt", 24, 132, "\033[132GA\033H\033X\033[1;2;10000;4",
+     {{PANEL_RECORD_ROW, 2}, {AT_STOP(1), 1}, {PANEL_RECORD_SOFT, 1},
+      {PANEL_RECORD_MESSAGE, PANEL_MESSAGE_UNKNOWN_COMMAND}, {PANEL_RECORD_BYTE, 'X'},
+      {PANEL_RECORD_KIND, PANEL_KIND_AFTER_BRACKET}, {PANEL_RECORD_SPOILT, 1}, {PANEL_RECORD_COUNT, 1}}},
+    {"eight arguments on the largest page", 48, 160, "\033[48;160H\033H\033[132G\033H\033[1;2;3;4;5;6;7;9999",
+     {{PANEL_RECORD_ROW, 48}, {PANEL_RECORD_COLUMN, 132}, {AT_STOP(160), 1}, {AT_STOP(132), 1},
+      {PANEL_RECORD_KIND, PANEL_KIND_AFTER_BRACKET}, {PANEL_RECORD_COUNT, 8}, {AT_ARGUMENT(1), 1}, {AT_ARGUMENT(2), 2},
+      {AT_ARGUMENT(3), 3}, {AT_ARGUMENT(4), 4}, {AT_ARGUMENT(5), 5}, {AT_ARGUMENT(6), 6}, {AT_ARGUMENT(7), 7},
+      {AT_ARGUMENT(8), 9999 & 255}, {AT_ARGUMENT(8) + 1, 9999 >> 8}}},
+};
+
+static void make_good(const struct good *good)
+{
+    uint8_t wanted[PANEL_RECORD_LENGTH];
+    make_fresh_record(wanted, good->rows, good->columns);
+    for (size_t i = 0; good->other[i][0] != 0; i++)
+        wanted[good->other[i][0]] = good->other[i][1];
+    start(good->rows, good->columns);
+    feed(good->fed);
+    want_record(good->name, wanted);
+    save();
+}
+
+/* The three kinds of call on a record as it stands, which is known to be valid or not. */
+static void try_host(const char *name, uint8_t before)
+{
+    uint8_t given[PANEL_RECORD_LENGTH];
+    memcpy(given, record, sizeof given);
+    want(name, host("", 0), before);
+    want_counts(name, 0, 0, 0);
+    want_record(name, given);
+}
+
+static void try_keys(const char *name, uint8_t before)
+{
+    uint8_t given[PANEL_RECORD_LENGTH];
+    memcpy(given, record, sizeof given);
+    want(name, lend(KEY, 0, 0, &kept), before != PANEL_DONE ? before : PANEL_UNKNOWN_KEY);
+    bool locked = record[PANEL_RECORD_MANUAL] != 0 || record[PANEL_RECORD_SOFT] != 0;
+    want(name, lend(KEY, PANEL_KEY_UP, 0, &kept), before != PANEL_DONE ? before : locked ? PANEL_LOCKED : PANEL_DONE);
+    want_counts(name, 0, 0, 0);
+    if (before == PANEL_DONE && !locked && given[PANEL_RECORD_ROW] > 1)
+        given[PANEL_RECORD_ROW]--;
+    want_record(name, given);
+}
+
+static bool is_telling(unsigned value, unsigned good)
+{
+    unsigned flipped = value ^ good;
+    return value < 4 || value == 255 || (flipped & (flipped - 1)) == 0;
+}
+
+/* Every byte with every value for a host call, with the telling ones for a key. */
+static void damage(const struct good *good)
+{
+    make_good(good);
+    long valid = 0;
+    for (size_t place = 0; place < PANEL_RECORD_LENGTH; place++) {
+        for (unsigned value = 0; value < 256; value++) {
+            char name[100];
+            snprintf(name, sizeof name, "%s, byte %zu made %u", good->name, place, value);
+            record[place] = (uint8_t)value;
+            uint8_t before = number_before(HOST, 0, 0);
+            valid += before == PANEL_DONE;
+            try_host(name, before);
+            if (is_telling(value, saved.record[place]))
+                try_keys(name, before);
+            memcpy(record, saved.record, sizeof saved.record);
+        }
+    }
+    want_page_as_saved(good->name);
+    printf("%s: every byte with every value, %ld of them valid\n", good->name, valid);
+}
+
+/* A cell's character and mark with every value. */
+static void damage_cells(void)
+{
+    make_good(&goods[2]);
+    static const size_t cells[] = {0, 1, 79, 80, 961, 24 * 80 - 1};
+    for (size_t i = 0; i < sizeof cells / sizeof *cells; i++) {
+        for (unsigned value = 0; value < 256; value++) {
+            characters[cells[i]] = (uint8_t)value;
+            try_host("a character", number_before(HOST, 0, 0));
+            put_back();
+            marks[cells[i]] = (uint8_t)value;
+            try_host("a mark", number_before(HOST, 0, 0));
+            put_back();
+        }
+    }
+}
+
+/* -- lengths */
+
+static uint8_t make(enum call call)
+{
+    if (call == HOST)
+        return host("", 0);
+    return call == START ? lend(START, 24, 80, &kept) : lend(KEY, PANEL_KEY_UNLOCK, 0, &kept);
+}
+
+/* Result, record and page slices of right and wrong lengths, with good and bad content, in every pairing. */
+static void try_lengths(void)
+{
+    static const size_t records[] = {0, 1, 192, 193, 194, 386}, results[] = {0, 1, 12, 13, 14, 26};
+    static const size_t pages[] = {0, 1919, 1920, 1921};
+    make_good(&goods[0]);
+    for (int i = 0; i < 3 * 6 * 6 * 4 * 4 * 4; i++) {
+        enum call call = (enum call)(i % 3);
+        put_back();
+        memset(record + PANEL_RECORD_LENGTH, 0, sizeof record - PANEL_RECORD_LENGTH);
+        kept.length[RECORD] = records[i / 3 % 6];
+        kept.length[RESULT] = results[i / 18 % 6];
+        kept.length[CHARACTERS] = pages[i / 108 % 4];
+        kept.length[MARKS] = pages[i / 432 % 4];
+        characters[1920] = ' ';
+        marks[1920] = 0;
+        int content = i / 1728;
+        if (content == 1)
+            record[PANEL_RECORD_SOFT] = 2;
+        else if (content == 2)
+            characters[7] = 0x7F;
+        else if (content == 3)
+            memset(record, 0xFF, sizeof record);
+        want("lengths", make(call), number_before(call, 24, 80));
+    }
+    kept.length[RECORD] = PANEL_RECORD_LENGTH;
+    kept.length[RESULT] = PANEL_RESULT_LENGTH;
+}
+
+/* More host bytes than a call takes: after 1 and 2, before all else. */
+static void try_many_bytes(void)
+{
+    make_good(&goods[3]);
+    memset(host_bytes, 0, sizeof host_bytes);
+    for (size_t length = PANEL_MOST_HOST_BYTES - 1; length <= PANEL_MOST_HOST_BYTES + 1; length++) {
+        kept.length[BYTES] = length;
+        want("many bytes", lend(HOST, 0, 0, &kept), length > PANEL_MOST_HOST_BYTES ? PANEL_TOO_LONG : PANEL_DONE);
+        record[PANEL_RECORD_MANUAL] = 2;
+        want("many bytes, bad content", lend(HOST, 0, 0, &kept), PANEL_WRONG_STATE);
+        kept.length[MARKS]--;
+        want("many bytes, a wrong length", lend(HOST, 0, 0, &kept), PANEL_WRONG_SIZE);
+        kept.length[MARKS]++;
+        put_back();
+    }
+}
+
+/* -- keys */
+
+static uint8_t number_of_key(size_t key, bool locked, bool protected, bool has_room)
+{
+    bool stores = key >= 32 && key <= 126, known = stores || (key >= PANEL_KEY_UP && key <= PANEL_KEY_UNLOCK);
+    bool needs_field = key == PANEL_KEY_NEXT_FIELD || key == PANEL_KEY_PREVIOUS_FIELD;
+    bool needs_cell = stores || (key >= PANEL_KEY_BLANK_FIELD && key <= PANEL_KEY_INSERT);
+    if (!known)
+        return PANEL_UNKNOWN_KEY;
+    if (locked && key != PANEL_KEY_UNLOCK)
+        return PANEL_LOCKED;
+    if (protected && (needs_cell || needs_field))
+        return PANEL_NO_CELL;
+    return !has_room && (key == PANEL_KEY_SEND_CHANGED || key == PANEL_KEY_SEND_ALL) ? PANEL_NO_ROOM : PANEL_DONE;
+}
+
+/* Every key, with and without lock, unprotected cell and room. */
+static void try_every_key(void)
+{
+    for (int i = 0; i < 8; i++) {
+        bool locked = i & 1, protected = i & 2, has_room = i & 4;
+        start(24, 80);
+        if (protected) {
+            feed("\033V");
+            for (int cell = 0; cell < 24 * 80; cell += 10)
+                feed("          ");
+        }
+        if (locked)
+            feed("\200");
+        save();
+        kept.length[OUTPUT] = has_room ? PANEL_ROOM : 0;
+        for (size_t key = 0; key < 1024; key++) {
+            want("a key", lend(KEY, key, 0, &kept), number_of_key(key, locked, protected, has_room));
+            put_back();
+        }
+        for (int bit = 10; bit < 64; bit++) {
+            want("a far key", lend(KEY, ((size_t)1 << bit) + 'A', 0, &kept), PANEL_UNKNOWN_KEY);
+            want("a far key", lend(KEY, ((size_t)1 << bit) + PANEL_KEY_UP, 0, &kept), PANEL_UNKNOWN_KEY);
+        }
+    }
+}
+
+/* -- room */
+
+/* The stow form's fields, with the wind typed and the cursor in the last cell. It takes a hundred calls: made once. */
+static void make_form(void)
+{
+    start(24, 80);
+    feed("\033V");
+    for (int row = 0; row < 24; row++)
+        feed("                                                                                ");
+    feed("\033W\033[3;15f   \033[4;15f  \033[6;15f");
+    for (int cell = 0; cell < 86; cell++)
+        feed(" ");
+    feed("\033[3;15f");
+    want("typed", lend(KEY, '3', 0, &kept), PANEL_DONE);
+    want("typed", lend(KEY, '4', 0, &kept), PANEL_DONE);
+    feed("\033[24;80f");
+    save();
+}
+
+static void put_form(void)
+{
+    static bool made;
+    static uint8_t form[sizeof saved];
+    if (!made) {
+        make_form();
+        memcpy(form, &saved, sizeof saved);
+        made = true;
+    }
+    memcpy(&saved, form, sizeof saved);
+    put_back();
+    kept.length[CHARACTERS] = kept.length[MARKS] = 24 * 80;
+    kept.length[OUTPUT] = PANEL_ROOM;
+}
+
+/* The block that the page as it stands would send: a field is a longest run of unprotected cells in page order. */
+static size_t make_block(bool changed, char *block)
+{
+    size_t columns = panel_two_bytes(record + PANEL_RECORD_COLUMNS), cells = kept.length[CHARACTERS], length = 0;
+    for (size_t from = 0, to; from < cells; from = to + 1) {
+        bool modified = false;
+        for (to = from; to < cells && !(marks[to] & PANEL_MARK_PROTECTED); to++)
+            modified = modified || marks[to] & PANEL_MARK_MODIFIED;
+        if (to == from || (changed && !modified))
+            continue;
+        length += (size_t)sprintf(block + length, "\033[%zu;%zuf", from / columns + 1, from % columns + 1);
+        memcpy(block + length, characters + from, to - from);
+        length += to - from;
+    }
+    block[length++] = 3;
+    return length;
+}
+
+static void want_sent(const char *what, const char *wanted, size_t length)
+{
+    if (panel_four_bytes(result + PANEL_RESULT_SENT) != length || memcmp(sent_bytes(), wanted, length) != 0)
+        fault("%s: other bytes were sent than wanted", what);
+}
+
+/* After a block no unprotected cell is modified; all else of the page stays. */
+static void want_sent_page(const char *what)
+{
+    for (size_t i = 0; i < kept.length[MARKS]; i++)
+        if (!(saved.marks[i] & PANEL_MARK_PROTECTED))
+            saved.marks[i] &= (uint8_t)~PANEL_MARK_MODIFIED;
+    want_page_as_saved(what);
+}
+
+static void try_key_room(size_t key)
+{
+    static char block[PANEL_ROOM];
+    put_form();
+    size_t length = make_block(key == PANEL_KEY_SEND_CHANGED, block);
+    for (size_t room = 0; room <= length + 2; room++) {
+        put_form();
+        kept.length[OUTPUT] = room;
+        want("a block by key", lend(KEY, key, 0, &kept), room < length ? PANEL_NO_ROOM : PANEL_DONE);
+        want_record("a block by key", saved.record);
+        if (room < length)
+            continue;
+        want_counts("a block by key", 0, (uint32_t)length, 0);
+        want_sent("a block by key", block, length);
+        want_sent_page("a block by key");
+    }
+}
+
+/* A command that sends: with too little room all but its last byte is taken, and it is done once there is room. */
+static void try_host_room(const char *command, const char *sent, size_t length, bool is_block)
+{
+    size_t taken = strlen(command) - 1;
+    for (size_t room = 0; room <= length + 2; room++) {
+        put_form();
+        kept.length[OUTPUT] = room;
+        want(command, host(command, taken + 1), room < length ? PANEL_NO_ROOM : PANEL_DONE);
+        if (room < length) {
+            uint8_t half[PANEL_RECORD_LENGTH];
+            want_counts(command, (uint32_t)taken, 0, 0);
+            want_page_as_saved(command);
+            memcpy(half, saved.record, sizeof half);
+            half[PANEL_RECORD_KIND] = is_block ? PANEL_KIND_AFTER_ESC : PANEL_KIND_AFTER_BRACKET;
+            if (!is_block) {
+                half[PANEL_RECORD_COUNT] = 1;
+                half[PANEL_RECORD_ARGUMENTS] = (uint8_t)(command[2] - '0');
+            }
+            want_record(command, half);
+            kept.length[OUTPUT] = length;
+            want(command, host(command + taken, 1), PANEL_DONE);
+            want_counts(command, 1, (uint32_t)length, 0);
+        } else {
+            want_counts(command, (uint32_t)taken + 1, (uint32_t)length, 0);
+        }
+        want_sent(command, sent, length);
+        want_record(command, saved.record);
+        if (is_block)
+            want_sent_page(command);
+        else
+            want_page_as_saved(command);
+    }
+}
+
+/* What goes before a command that finds no room is done: a character stored and a report sent. */
+static void try_part_room(void)
+{
+    static char block[PANEL_ROOM];
+    static const char bytes[] = "\033[3;15fx\033[5n\033Sy";
+    put_form();
+    feed("\033[3;15fx");
+    size_t length = make_block(false, block);
+    for (size_t room = 0; room <= 4 + length; room++) {
+        put_form();
+        kept.length[OUTPUT] = room;
+        want("a part", host(bytes, sizeof bytes - 1), room < 4 + length ? PANEL_NO_ROOM : PANEL_DONE);
+        if (room < 4)
+            want_counts("a part", 11, 0, 1);
+        else if (room < 4 + length)
+            want_counts("a part", 13, 4, 1);
+        else
+            want_counts("a part", 15, (uint32_t)(4 + length), 2);
+        if (room >= 4 && memcmp(sent_bytes(), "\033[0n", 4) != 0)
+            fault("a part: the report was not sent");
+        if (room >= 4 + length && memcmp(sent_bytes() + 4, block, length) != 0)
+            fault("a part: the block was not sent");
+    }
+}
+
+static void try_rooms(void)
+{
+    static char block[PANEL_ROOM];
+    put_form();
+    size_t length = make_block(false, block);
+    try_key_room(PANEL_KEY_SEND_CHANGED);
+    try_key_room(PANEL_KEY_SEND_ALL);
+    try_host_room("\033S", block, length, true);
+    try_host_room("\033[5n", "\033[0n", 4, false);
+    try_host_room("\033[6n", "\033[24;80R", 8, false);
+    try_part_room();
+}
+
+int main(void)
+{
+    prepare();
+    try_starts();
+    try_lengths();
+    try_many_bytes();
+    try_every_key();
+    try_rooms();
+    damage_cells();
+    for (size_t i = 0; i < sizeof goods / sizeof *goods; i++)
+        damage(&goods[i]);
+    printf("%ld calls, each twice, gave what they should\n", calls);
+    return 0;
+}
