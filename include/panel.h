@@ -1,7 +1,7 @@
 /* The terminal of documents 01 and 02, called from C. docs/PANEL.md is the page that goes with it.
 
-   Slices are lent for the call only. They must not overlap: the proof takes them as apart. An empty one may be NULL, none
-   needs alignment. Numbers of more than one byte have the low byte first. There is no global data. */
+   Slices are lent for the call only. They must not overlap: the proof takes them as apart. An empty one may be NULL.
+   No alignment is asked. Numbers of more than one byte have the low byte first. There is no global data. */
 #ifndef PANEL_H
 #define PANEL_H
 

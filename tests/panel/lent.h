@@ -25,10 +25,10 @@ struct kept {
 void prepare(void);
 
 /* Makes a call twice from equal copies, and gives its number: once with each slice ending right before a page that may
-   not be touched, once beginning right after one (an empty slice is then NULL). Host bytes can only be read. If the call
-   is refused, the second time all that a refusal leaves can only be read. It ends the program unless both leave the same
-   bytes, and the result slice is as docs/PANEL.md has it, as far as that can be told without knowing the terminal.
-   For a start the numbers are rows and columns, for a key the first is its number. */
+   not be touched, once beginning right after one (an empty slice is then NULL). Host bytes can only be read; if the
+   call is refused, so can, the second time, all that a refusal does not write. It ends the program unless both leave
+   the same bytes, and the result slice is as docs/PANEL.md has it, as far as that can be told without knowing the
+   terminal. For a start the numbers are rows and columns, for a key the first is its number. */
 uint8_t lend(enum call call, size_t first, size_t second, struct kept *kept);
 
 /* What the last call put into the output: as many bytes as its result says, or none if it was refused. */

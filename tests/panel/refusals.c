@@ -18,6 +18,16 @@ static struct kept kept = {
 
 static long calls;
 
+static unsigned two_bytes(size_t place)
+{
+    return panel_two_bytes(record + place);
+}
+
+static uint32_t count(size_t place)
+{
+    return panel_four_bytes(result + place);
+}
+
 /* -- the model: which number a call is given */
 
 static bool is_one_of(size_t n, size_t a, size_t b, size_t c)
@@ -38,10 +48,10 @@ static bool is_page(size_t rows, size_t columns)
 
 static bool half_read_is_valid(void)
 {
-    unsigned kind = record[PANEL_RECORD_KIND], spoilt = record[PANEL_RECORD_SPOILT], count = record[PANEL_RECORD_COUNT];
-    unsigned most = 0, reached = 0;
+    unsigned kind = record[PANEL_RECORD_KIND], spoilt = record[PANEL_RECORD_SPOILT];
+    unsigned count = record[PANEL_RECORD_COUNT], most = 0, reached = 0;
     for (unsigned i = 0; i < 8; i++) {
-        unsigned argument = panel_two_bytes(record + PANEL_RECORD_ARGUMENTS + 2 * i);
+        unsigned argument = two_bytes(PANEL_RECORD_ARGUMENTS + 2 * i);
         most = argument > most ? argument : most;
         reached = argument != 0 ? i + 1 : reached;
     }
@@ -55,8 +65,8 @@ static bool half_read_is_valid(void)
 /* Line 2, of a size that is listed and of page slices that fit it. */
 static bool is_valid(void)
 {
-    unsigned rows = panel_two_bytes(record + PANEL_RECORD_ROWS), columns = panel_two_bytes(record + PANEL_RECORD_COLUMNS);
-    unsigned row = panel_two_bytes(record + PANEL_RECORD_ROW), column = panel_two_bytes(record + PANEL_RECORD_COLUMN);
+    unsigned rows = two_bytes(PANEL_RECORD_ROWS), columns = two_bytes(PANEL_RECORD_COLUMNS);
+    unsigned row = two_bytes(PANEL_RECORD_ROW), column = two_bytes(PANEL_RECORD_COLUMN);
     if (row < 1 || row > rows || column < 1 || column > columns)
         return false;
     if (record[PANEL_RECORD_ERASURE] > 1 || record[PANEL_RECORD_MANUAL] > 1 || record[PANEL_RECORD_SOFT] > 1)
@@ -84,7 +94,7 @@ static uint8_t number_before(enum call call, size_t rows, size_t columns)
         return PANEL_WRONG_STATE;
     if (call == START)
         return is_page(rows, columns) ? PANEL_DONE : PANEL_WRONG_SIZE;
-    if (!is_page(panel_two_bytes(record + PANEL_RECORD_ROWS), panel_two_bytes(record + PANEL_RECORD_COLUMNS)))
+    if (!is_page(two_bytes(PANEL_RECORD_ROWS), two_bytes(PANEL_RECORD_COLUMNS)))
         return PANEL_WRONG_SIZE;
     return is_valid() ? PANEL_DONE : PANEL_WRONG_STATE;
 }
@@ -100,11 +110,11 @@ static void want(const char *what, uint8_t number, uint8_t wanted)
 
 static void want_counts(const char *what, uint32_t taken, uint32_t sent, uint32_t stored)
 {
-    if (panel_four_bytes(result + PANEL_RESULT_TAKEN) != taken || panel_four_bytes(result + PANEL_RESULT_SENT) != sent ||
-        panel_four_bytes(result + PANEL_RESULT_STORED) != stored)
-        fault("%s: taken %u, sent %u, stored %u; wanted %u, %u, %u", what,
-              panel_four_bytes(result + PANEL_RESULT_TAKEN), panel_four_bytes(result + PANEL_RESULT_SENT),
-              panel_four_bytes(result + PANEL_RESULT_STORED), taken, sent, stored);
+    uint32_t was_taken = count(PANEL_RESULT_TAKEN), was_sent = count(PANEL_RESULT_SENT);
+    uint32_t was_stored = count(PANEL_RESULT_STORED);
+    if (was_taken != taken || was_sent != sent || was_stored != stored)
+        fault("%s: taken %u, sent %u, stored %u; wanted %u, %u, %u", what, was_taken, was_sent, was_stored, taken, sent,
+              stored);
 }
 
 static uint8_t host(const char *bytes, size_t length)
@@ -248,7 +258,8 @@ struct good {
 
 static const struct good goods[] = {
     {"fresh", 24, 80, "", {{0, 0}}},
-    {"tab stops, pen, erasure mode", 24, 80, "\033H\033[8G\033H\033[40G\033[W\033[80G\033H\033V\033[1;8m\033[6h\033[3;7H",
+    {"tab stops, pen, erasure mode", 24, 80,
+     "\033H\033[8G\033H\033[40G\033[W\033[80G\033H\033V\033[1;8m\033[6h\033[3;7H",
      {{AT_STOP(1), 1}, {AT_STOP(8), 1}, {AT_STOP(40), 1}, {AT_STOP(80), 1},
       {PANEL_RECORD_PEN, PANEL_MARK_PROTECTED | PANEL_MARK_BOLD | PANEL_MARK_CONCEALED},
       {PANEL_RECORD_ERASURE, 1}, {PANEL_RECORD_ROW, 3}, {PANEL_RECORD_COLUMN, 7}}},
@@ -388,7 +399,8 @@ static void try_lengths(void)
             characters[7] = 0x7F;
         else if (content == 3)
             memset(record, 0xFF, sizeof record);
-        want("lengths", make(call), number_before(call, 24, 80));
+        uint8_t wanted = number_before(call, 24, 80);
+        want("lengths", make(call), wanted);
     }
     kept.length[RECORD] = PANEL_RECORD_LENGTH;
     kept.length[RESULT] = PANEL_RESULT_LENGTH;
@@ -490,7 +502,7 @@ static void put_form(void)
 /* The block that the page as it stands would send: a field is a longest run of unprotected cells in page order. */
 static size_t make_block(bool changed, char *block)
 {
-    size_t columns = panel_two_bytes(record + PANEL_RECORD_COLUMNS), cells = kept.length[CHARACTERS], length = 0;
+    size_t columns = two_bytes(PANEL_RECORD_COLUMNS), cells = kept.length[CHARACTERS], length = 0;
     for (size_t from = 0, to; from < cells; from = to + 1) {
         bool modified = false;
         for (to = from; to < cells && !(marks[to] & PANEL_MARK_PROTECTED); to++)
@@ -507,7 +519,7 @@ static size_t make_block(bool changed, char *block)
 
 static void want_sent(const char *what, const char *wanted, size_t length)
 {
-    if (panel_four_bytes(result + PANEL_RESULT_SENT) != length || memcmp(sent_bytes(), wanted, length) != 0)
+    if (count(PANEL_RESULT_SENT) != length || memcmp(sent_bytes(), wanted, length) != 0)
         fault("%s: other bytes were sent than wanted", what);
 }
 
