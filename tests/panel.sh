@@ -1,0 +1,76 @@
+#!/usr/bin/env bash
+# The exported functions as C calls them, by include/panel.h and docs/PANEL.md: header and archive, the sample program,
+# the second program's transcripts and calls through a driver in C, and whatever C can get wrong (tests/panel/). In the
+# last two every slice lies between pages that may not be touched, and what may not be written can only be read.
+# The archive is for x86-64; elsewhere programs run under the kit's emulator.
+set -eu -o pipefail
+. tests/tools/debian.sh
+. tests/tools/archive.sh
+case $(dpkg --print-architecture) in
+amd64) need gcc g++ libc6-dev python3 ;;
+*) need gcc-x86-64-linux-gnu g++-x86-64-linux-gnu libc6-dev-amd64-cross python3 ;;
+esac
+second_cargo build
+build_archive
+tool=/usr/bin/x86_64-linux-gnu
+second=target/second/release/second
+kit=${RATTLE_HOME:-$(cd "$(dirname "$(readlink -f "$(command -v rt)")")/.." && pwd -P)}
+emulator=$kit/on/$(uname -m)/toolchain/bin/qemu-x86_64
+[ -x "$emulator" ] || emulator=
+
+# step COMMAND..: says what is run, and runs it
+step() {
+    printf 'panel: %s\n' "$*" >&2
+    "$@"
+}
+
+step $tool-gcc -std=c99 -pedantic -Wall -Wextra -Werror -fsyntax-only -x c include/panel.h
+step $tool-g++ -std=c++11 -Wall -Wextra -Werror -fsyntax-only -x c++ include/panel.h
+step /usr/bin/python3 -I tests/panel/header.py
+
+# The three functions and nothing else for others; no data that a call could leave something in; the C library's copying
+# at most is called.
+symbols=$($tool-nm $archive)
+exported=$(awk 'NF == 3 && $2 ~ /[A-Z]/ { print $3 }' <<<"$symbols" | sort | tr '\n' ' ')
+[ "$exported" = 'panel_host panel_key panel_start ' ] || { printf '%s exports: %s\n' $archive "$exported"; exit 1; }
+data=$(awk 'NF == 3 && $2 ~ /[bBdDC]/ { print $3 }' <<<"$symbols")
+[ -z "$data" ] || { printf '%s has data that can be written: %s\n' $archive "$data"; exit 1; }
+outside=$(awk 'NF == 2 && $1 == "U" && $2 !~ /^mem(cpy|move|set)$/ { print $2 }' <<<"$symbols")
+[ -z "$outside" ] || { printf '%s calls outside: %s\n' $archive "$outside"; exit 1; }
+printf 'panel: %s exports %s\n' $archive "$exported"
+
+room=target/panel
+mkdir -p $room
+build() {
+    step $tool-gcc -std=c99 -pedantic -Wall -Wextra -Werror -O2 -static -Iinclude "${@:2}" $archive -o "$room/$1"
+}
+sed -n '/^```c$/,/^```$/{/^```/d;p}' docs/PANEL.md >$room/page.c
+build page $room/page.c
+build sample sample/panel.c
+build driver tests/panel/driver.c tests/panel/lent.c
+build refusals tests/panel/refusals.c tests/panel/lent.c
+
+run() { step ${emulator:+"$emulator"} "$@"; }
+driver=(${emulator:+"$emulator"} $room/driver)
+
+run $room/sample | diff sample/panel.out -
+# the page's program sends the bytes of the sample session's first block
+sent=$(run $room/page | od -An -v -tx1 | tr -d ' \n' | tr a-f A-F)
+grep -qxE "[0-9A-F]{14}$sent" <(grep -m 1 -E '^.{16,}03$' sample/stow.out) || {
+    printf 'the program in docs/PANEL.md sends %s\n' "$sent"
+    exit 1
+}
+for session in stow remark; do
+    run $room/driver transcript <sample/$session.txt | diff sample/$session.out -
+done
+new=$(date +%s)
+printf 'panel: new seeds: %s and the 49 after it\n' "$new"
+for seeds in '1 200' "$new 50"; do
+    step $second compare transcript "${driver[@]}" transcript -- $seeds 300
+done
+for seeds in '1 60' "$new 50"; do
+    step $second compare calls "${driver[@]}" calls -- $seeds 100
+done
+step $second sweep "${driver[@]}" calls
+step $second rooms "${driver[@]}" calls
+run $room/refusals
