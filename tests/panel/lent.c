@@ -50,6 +50,10 @@ void fault(const char *format, ...)
     exit(1);
 }
 
+#ifdef __x86_64__
+/* the emulator comes to a handler with the stack 8 bytes off, which printing can't bear */
+__attribute__((force_align_arg_pointer))
+#endif
 /* An access that is not allowed. Nothing of the program goes on after it, so it may print. */
 static void on_signal(int number, siginfo_t *info, void *context)
 {
@@ -79,6 +83,38 @@ static uint8_t *map(int file, int protection)
     return area;
 }
 
+/* Whether a byte can be read, and whether it can be written: asked of the system, which would copy it. */
+static void want_access(const int *pipe_ends, uint8_t *at, bool can_read, bool can_write)
+{
+    uint8_t byte = 0;
+    bool was_read = write(pipe_ends[1], at, 1) == 1;
+    if (!was_read && write(pipe_ends[1], &byte, 1) != 1)
+        fault("no pipe");
+    bool was_written = read(pipe_ends[0], at, 1) == 1;
+    if (!was_written && read(pipe_ends[0], &byte, 1) != 1)
+        fault("no pipe");
+    if (was_read != can_read || was_written != can_write)
+        fault("the pages of this test don't guard");
+}
+
+static void want_guards(void)
+{
+    int ends[2];
+    if (pipe(ends) != 0)
+        fault("no pipe");
+    for (int i = 0; i < SLICES; i++) {
+        uint8_t *views[] = {writable_view[i], readable_view[i]};
+        for (int j = 0; j < 2; j++) {
+            want_access(ends, views[j] - 1, false, false);
+            want_access(ends, views[j], true, j == 0);
+            want_access(ends, views[j] + INSIDE - 1, true, j == 0);
+            want_access(ends, views[j] + INSIDE, false, false);
+        }
+    }
+    close(ends[0]);
+    close(ends[1]);
+}
+
 void prepare(void)
 {
     for (int i = 0; i < SLICES; i++) {
@@ -89,6 +125,7 @@ void prepare(void)
         readable_view[i] = map(file, PROT_READ);
         close(file);
     }
+    want_guards();
     memset(clean, FILL, sizeof clean);
     memset(writable_view[OUTPUT], FILL, INSIDE);
     struct sigaction action;
