@@ -167,7 +167,7 @@ static unsigned field_value(unsigned number)
     return field(number, &place) == TWO_BYTES ? panel_two_bytes(record + place) : record[place];
 }
 
-/* The output past the bytes sent is still A5: `lend` has looked. */
+/* That the output past the bytes sent is still A5 lent.c looks after. */
 static void print_call(uint8_t number)
 {
     put_number(number, 1);
@@ -282,6 +282,7 @@ int main(int argument_count, char **arguments)
             refuse_line();
         length = 0;
     } while (byte != EOF);
+    want_clean_output();
     if (fflush(stdout) != 0)
         fault("standard output can't be written");
     return 0;

@@ -30,10 +30,13 @@ static size_t now_first, now_second;
 static uint8_t *now_at[SLICES];
 static size_t now_length[SLICES];
 
-/* What may no longer be A5 of the output, at each place. */
+/* What may no longer be A5 of the output's memory, at each place. */
 static uint8_t *dirty[2];
 static size_t dirty_length[2];
-static uint8_t clean[LONGEST];
+
+/* So far past the bytes sent each call is looked at; all of the output's memory now and then, and at the end. */
+#define NEAR 2048
+static uint8_t clean[NEAR];
 
 void fault(const char *format, ...)
 {
@@ -136,6 +139,23 @@ void prepare(void)
     sigaction(SIGBUS, &action, NULL);
 }
 
+static void make_clean(enum place place)
+{
+    if (dirty_length[place] != 0)
+        memset(dirty[place], FILL, dirty_length[place]);
+    dirty_length[place] = 0;
+}
+
+/* What was written past the bytes sent is still there. */
+void want_clean_output(void)
+{
+    const uint8_t *all = writable_view[OUTPUT];
+    make_clean(ENDS);
+    make_clean(BEGINS);
+    if (all[0] != FILL || memcmp(all, all + 1, INSIDE - 1) != 0)
+        fault("in this call or one of the last ones the output was changed past the bytes sent");
+}
+
 static bool takes(enum call call, int slice)
 {
     return slice == BYTES ? call == HOST : slice == OUTPUT ? call != START : true;
@@ -161,8 +181,7 @@ static uint8_t lend_at(enum place place, unsigned writable, const struct kept *k
         if (!takes(now, i))
             continue;
         if (i == OUTPUT) {
-            if (dirty_length[place] != 0)
-                memset(dirty[place], FILL, dirty_length[place]);
+            make_clean(place);
             dirty[place] = left(i, place);
             dirty_length[place] = length[i];
         } else if (length[i] != 0) {
@@ -224,7 +243,8 @@ static void check(uint8_t number, enum place place)
         sent_now = sent;
     }
     if (takes(now, OUTPUT)) {
-        if (memcmp(left(OUTPUT, place) + sent_now, clean, now_length[OUTPUT] - sent_now) != 0)
+        size_t past = now_length[OUTPUT] - sent_now;
+        if (memcmp(left(OUTPUT, place) + sent_now, clean, past < NEAR ? past : NEAR) != 0)
             fault("number %d: the output past the %u bytes sent was changed", number, sent_now);
         dirty_length[place] = sent_now;
     }
@@ -232,6 +252,9 @@ static void check(uint8_t number, enum place place)
 
 uint8_t lend(enum call call, size_t first, size_t second, struct kept *kept)
 {
+    static unsigned lent;
+    if (++lent % 64 == 0)
+        want_clean_output();
     now = call;
     now_first = first;
     now_second = second;

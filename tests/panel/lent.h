@@ -34,6 +34,9 @@ uint8_t lend(enum call call, size_t first, size_t second, struct kept *kept);
 /* What the last call put into the output: as many bytes as its result says, or none if it was refused. */
 const uint8_t *sent_bytes(void);
 
+/* Ends the program if any call has changed the output past the bytes sent: once, after all calls. */
+void want_clean_output(void);
+
 /* Says what is wrong, and ends the program with status 1. */
 void fault(const char *format, ...);
 

@@ -633,6 +633,7 @@ int main(void)
     damage_cells();
     for (size_t i = 0; i < sizeof goods / sizeof *goods; i++)
         damage(&goods[i]);
+    want_clean_output();
     printf("%ld calls, each twice, gave what they should\n", calls);
     return 0;
 }
