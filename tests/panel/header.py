@@ -1,4 +1,4 @@
-"""include/panel.h against the Rattle source: each constant that both have, and the parameters of each exported function."""
+"""include/panel.h against the Rattle source: each constant that both have, and the parameters of each function."""
 import glob
 import re
 import sys
@@ -39,8 +39,8 @@ with open("include/panel.h", encoding="utf-8") as file:
 ours = {name: int(value, 0) for name, value in re.findall(r"#define PANEL_(\w+) (\w+)", header)}
 record, panel = source("crates/record/src/*.rt"), source("crates/panel/src/lib.rt")
 wanted = {"RECORD_" + name: value for name, value in constants(record).items()
-          if name in ("LENGTH", "ROWS", "COLUMNS", "ROW", "COLUMN", "PEN", "ERASURE", "MANUAL", "SOFT", "MESSAGE", "BYTE",
-                      "KIND", "SPOILT", "COUNT", "ARGUMENTS", "STOPS")}
+          if name in ("LENGTH", "ROWS", "COLUMNS", "ROW", "COLUMN", "PEN", "ERASURE", "MANUAL", "SOFT", "MESSAGE",
+                      "BYTE", "KIND", "SPOILT", "COUNT", "ARGUMENTS", "STOPS")}
 wanted.update({name: value for name, value in constants(panel).items() if name == "RESULT_LENGTH"})
 numbers = arms(source("crates/terminal/src/lib.rt"), "number_of", "Answer")
 reasons = arms(source("crates/state/src/lib.rt"), "message_of", "Reason")
@@ -58,14 +58,19 @@ for name in ours:
     if re.match(r"RECORD_|MESSAGE_|KIND_", name) and name != "MESSAGE_NONE" and name not in wanted:
         differs(f"PANEL_{name} is not in the source")
 
-# a slice is a pointer and a length, right after one another
+# a slice is a pointer and a length, right after one another; two have another name in the source
+NAMES = {"packed": "record", "out": "output"}
 FORMS = {"&mut [u8]": "uint8_t *{0}, size_t {0}_length", "&[u8]": "const uint8_t *{0}, size_t {0}_length",
          "usize": "size_t {0}", "u8": "uint8_t {0}"}
 prototypes = dict(re.findall(r"uint8_t (\w+)\(([^)]*)\);", header))
+aliases = dict(re.findall(r"type (\w+) = (\w+);", source("crates/page/src/*.rt")))
 exported = re.findall(r'#\[no_mangle\]\s*pub extern "C" fn (\w+)\(([^)]*)\) -> (\S+)', panel)
 for name, parameters, answer in exported:
-    pairs = [part.split(":") for part in parameters.split(",") if part.strip()]
-    as_c = ", ".join(FORMS.get(form.strip(), form + " {0}").format(given.strip()) for given, form in pairs)
+    parts = []
+    for given, form in re.findall(r"(\w+): ([^,]*[^,\s])", parameters):
+        form = re.sub(r"\w+", lambda word: aliases.get(word[0], word[0]), form)
+        parts.append(FORMS.get(form, form + " {0}").format(NAMES.get(given, given)))
+    as_c = ", ".join(parts)
     told = " ".join(prototypes.get(name, "nowhere").split())
     if as_c != told or answer != "u8":
         differs(f"{name}: the source has ({as_c}) -> {answer}, the header ({told})")
