@@ -70,14 +70,14 @@ printf 'panel: new seeds: %s and the 49 after it\n' "$new"
 {
     step $second compare transcript "${driver[@]}" transcript -- 1 200 300
     step $second compare transcript "${driver[@]}" transcript -- "$new" 50 300
-} >$room/transcripts.log 2>&1 &
+    run $room/refusals
+} >$room/beside.log 2>&1 &
 beside=$!
 trap wait EXIT
 step $second compare calls "${driver[@]}" calls -- 1 60 100
 step $second compare calls "${driver[@]}" calls -- "$new" 50 100
 step $second sweep "${driver[@]}" calls
 step $second rooms "${driver[@]}" calls
-run $room/refusals
 wait $beside && status=0 || status=$?
-cat $room/transcripts.log
+cat $room/beside.log
 exit $status
