@@ -9,3 +9,4 @@ pub mod WrongFeeding
 pub mod WrongCopies
 pub mod WrongCalls
 pub mod WrongDoing
+pub mod WrongPanels

@@ -2,3 +2,4 @@ pub mod Entries
 pub mod Rules
 pub mod Contracts
 pub mod Finding
+pub mod Panels
