@@ -45,7 +45,7 @@ oneField = at 1 (sheet (bytes "A    ") (2 ∷ 1 ∷ 1 ∷ 1 ∷ 1 ∷ []))
 abbrev locked : Terminal
 locked = withState oneField (withLocks (oneField .state) (record { manual = false; soft = true; message = 1; byte = 0x42 }))
 
-one-field-valid : Valid oneField
+pub one-field-valid : Valid oneField
 unfolding validity
 one-field-valid = record { size = refl; state = refl; page = refl }
 
