@@ -70,6 +70,24 @@ unfolding records stopSet
 highByteFirst-breaks-one-record kept =
     eqb-false 12288 48 refl (ap (λ (s : State). s .size .rows) (kept .back lastStop last-stop-valid))
 
+-- A valid terminal, lent by C; and with a 2 in the erasure mode's flag of its record.
+abbrev formLent : Lent
+formLent = lentFor oneField [] (replicate 13 0)
+
+abbrev badLent : Lent
+badLent = lentOf (set (formLent .packed) 9 2) (formLent .characters) (formLent .marks) [] (replicate 13 0)
+
+-- An empty host call is given 2 for its content, and not 0.
+pub takesBadContent-breaks-numbers : PanelNumbers ourRules takesBadContent → ⊥
+unfolding panels
+takesBadContent-breaks-numbers kept =
+    eqb-false 0 2 refl
+    (decides-one (kept .of-host badLent [] 0 .0 refl)
+    (not-this _ _ 2 (λ other. other refl)
+    (not-this _ _ 2 (λ other. other refl)
+    (not-this _ _ 2 (λ line. true-is-not-false (line-1 _ _ .1 line))
+    (this-holds _ _ (λ good. eqb-false 0 2 refl (ap (λ (bytes : List ℕ). getD bytes 9 0) good)))))))
+
 -- Nothing at all is lent: the result slice's line is the first.
 abbrev nothingLent : Lent
 nothingLent = lentOf [] [] [] [] []
@@ -109,26 +127,8 @@ refusedStartKeepsRecord-breaks-refusals kept =
     let told = kept .of-start 1 1 flag2Lent (⊎-elim (λ other. other refl) (λ other. other refl), eqb-false 1 0 refl) in
     eqb-false 2 0 refl (ap (λ (bytes : List ℕ). getD bytes 9 0) (told .packed))
 
--- A valid terminal, lent by C; and with a 2 in the erasure mode's flag of its record.
-abbrev formLent : Lent
-formLent = lentFor oneField [] (replicate 13 0)
-
-abbrev badLent : Lent
-badLent = lentOf (set (formLent .packed) 9 2) (formLent .characters) (formLent .marks) [] (replicate 13 0)
-
 one-field-arrays : Arrays (oneField .state)
 one-field-arrays = record { stops = refl; arguments = refl }
-
--- An empty host call is given 2 for its content, and not 0.
-pub takesBadContent-breaks-numbers : PanelNumbers ourRules takesBadContent → ⊥
-unfolding panels
-takesBadContent-breaks-numbers kept =
-    eqb-false 0 2 refl
-    (decides-one (kept .of-host badLent [] 0 .0 refl)
-    (not-this _ _ 2 (λ other. other refl)
-    (not-this _ _ 2 (λ other. other refl)
-    (not-this _ _ 2 (λ line. true-is-not-false (line-1 _ _ .1 line))
-    (this-holds _ _ (λ good. eqb-false 0 2 refl (ap (λ (bytes : List ℕ). getD bytes 9 0) good)))))))
 
 -- After ESC a sequence is half read, and the record has its kind.
 abbrev esc : List ℕ

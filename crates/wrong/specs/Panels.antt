@@ -1,5 +1,4 @@
--- Document 02, M-100: wrong codings of the state and wrong panels, each ours with a fault, under the promise that it
--- breaks (proofs/).
+-- M-100: wrong codings of the state and wrong panels, each ours with a fault, under the promise that it breaks.
 use mathlib.Core.Bool.{not}
 use mathlib.Core.List.{List, _++_, reverse}
 use Prim.Native.Nat.{ℕ}
