@@ -25,7 +25,8 @@ for name in sorted(definitions + proofs + code):
                 found.append(f"{name}:{number}: a pub fn without a comment")
             if contract and text.endswith("⌝ }"):
                 contract = False
-            above = text
+            if not text.startswith("#["):  # an attribute stands between the two
+                above = text
 print(*found, f"{len(found)} places", sep="\n")
 sys.exit(1 if found else 0)
 PY

@@ -1,5 +1,5 @@
--- Every call of C is one of a few cases: a slice has another length, the size is wrong, the content is bad, or the entry
--- is called.
+-- Every call of C is one of a few cases: a slice has another length, the size is wrong, the content is bad, or the
+-- entry is called.
 use mathlib.Core.Path.{_≡_, refl, sym, ap, _∙_}
 use mathlib.Core.Bool.{true, false, not}
 use Prim.Native.Nat.{ℕ}

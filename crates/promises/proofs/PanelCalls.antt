@@ -183,9 +183,9 @@ module _ (by-table : ValidByTheTable) (rules : Rules) (entries : Entries) (one o
       (λ right long.
       let went : Went (other .host lent bytes .number) → one .host lent bytes ≡ other .host lent bytes =
       λ is.
-          let held = lends by-table lent decided is in
-          subst (λ (l : Lent). one .host l bytes ≡ other .host l bytes) (lent-again by-table lent held)
-          (same-shown (called .of-host t (held .valid) (said-arrays (lent .packed)) bytes (lent .output) (lent .result) long) (called-too .of-host t (held .valid) (said-arrays (lent .packed)) bytes (lent .output) (lent .result) long)) in
+      let held = lends by-table lent decided is in
+      subst (λ (l : Lent). one .host l bytes ≡ other .host l bytes) (lent-again by-table lent held)
+      (same-shown (called .of-host t (held .valid) (said-arrays (lent .packed)) bytes (lent .output) (lent .result) long) (called-too .of-host t (held .valid) (said-arrays (lent .packed)) bytes (lent .output) (lent .result) long)) in
       either-way (eqb (other .host lent bytes .number) 0)
       (λ zero. went (inl (eqb-true _ _ zero)))
       (λ some. either-way (eqb (other .host lent bytes .number) 3)

@@ -1,4 +1,5 @@
--- The functions that C calls keep what is promised of them: by the cases of a call, by demand 1, and by what a record is.
+-- The functions that C calls keep what is promised of them: by the cases of a call, by demand 1, and by what a record
+-- is.
 use mathlib.Core.Path.{_≡_, refl, sym, ap, _∙_, subst}
 use mathlib.Core.Bool.{true}
 use mathlib.Core.List.{List, [], _∷_, _++_}
@@ -77,6 +78,7 @@ module _ (lent : Lent) where
       where
         lengths-right : {n : ℕ} → RightLengths lent → Decides (line1 ∷ 2 when BadContent lent ∷ later) n → Decides table n
         lengths-right right rest = not-this _ _ _ (λ (other : ResultOtherLength lent). other (right .result)) (not-this _ _ _ (λ (other : RecordOtherLength lent). other (right .packed)) rest)
+
         go : CallCase call lent → Decides table (onTerminal call lent .number)
         go (Cases.other-result other is) = subst (Decides table) (sym (ap (λ (l : Left). l .number) is)) (this-holds _ _ other)
         go (Cases.other-record same other is) = subst (Decides table) (sym (ap (λ (l : Left). l .number) is)) (not-this _ _ _ (λ (other : ResultOtherLength lent). other same) (this-holds _ _ other))
@@ -146,6 +148,7 @@ module _ (lent : Lent) where
         where
           alone : (number : ℕ) → ToldAlone number lent (lentOf (lent .packed) (lent .characters) (lent .marks) (lent .output) (resultBytes number 0 0 0))
           alone number = record { packed = refl; characters = refl; marks = refl; output = refl; result = told-zeros number }
+
           go : CallCase call lent → ToldAlone (onTerminal call lent .number) lent (onTerminal call lent .lent)
           go (Cases.other-result other _) = absurd (right-lengths (inl other))
           go (Cases.other-record _ other _) = absurd (right-lengths (inr other))
@@ -213,6 +216,7 @@ module _ (t : Terminal) (valid : Valid t) (has : Arrays (t .state)) (output resu
     where
       lent : Lent
       lent = lentFor t output result
+
       go : CallCase call lent → Shown (call t) (onTerminal call lent)
       go (Cases.other-result other _) = absurd (other long)
       go (Cases.other-record _ other _) = absurd (other (record-length (t .state)))

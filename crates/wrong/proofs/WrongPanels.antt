@@ -124,7 +124,7 @@ zeroesResults-breaks-refusals kept =
 pub refusedStartKeepsRecord-breaks-refusals : PanelRefusals refusedStartKeepsRecord → ⊥
 unfolding panels
 refusedStartKeepsRecord-breaks-refusals kept =
-    let told = kept .of-start 1 1 flag2Lent (⊎-elim (λ other. other refl) (λ other. other refl), eqb-false 1 0 refl) in
+    let told = kept .of-start 1 1 flag2Lent refl (⊎-elim (λ other. other refl) (λ other. other refl), eqb-false 1 0 refl) in
     eqb-false 2 0 refl (ap (λ (bytes : List ℕ). getD bytes 9 0) (told .packed))
 
 one-field-arrays : Arrays (oneField .state)
