@@ -3,3 +3,4 @@ pub mod Reading
 pub mod Comparing
 pub mod RoundTrip
 pub mod Theorems
+pub mod Flags

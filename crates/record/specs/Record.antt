@@ -6,11 +6,13 @@
 --     17 its eight arguments                                         two bytes each
 --     33 the tab stops of columns 1 to 160                           a flag each
 -- Nothing is reserved: where a later request adds to the state the record is longer, and an old one is refused.
-use mathlib.Core.Bool.{Bool, false}
+use mathlib.Core.Bool.{Bool, true, false}
 use mathlib.Core.List.{List, [], _∷_, _++_, flatMap}
 use mathlib.Core.Path.{_≡_}
-use Prim.Native.Nat.{ℕ}
-use lib.ListN.{getD}
+use Prim.Native.Nat.{ℕ, _<_, _≤_}
+use lib.Dec.{eqb}
+use lib.ListN.{length, getD}
+use Rattle.words.specs.Choice.{_or_, _is_to_}
 use Rattle.words.specs.Lists.{exactly}
 use Rattle.state.specs.declared.State.{State}
 use Rattle.record.specs.Bytes.{numberBytes, numberAt, flagByte, flagBytes, flagAt, readEach}
@@ -77,3 +79,16 @@ Good bytes = recordOf (stateIn bytes) ≡ bytes
 
 unfoldable pub isGood : List ℕ → Bool
 isGood bytes = sameBytes bytes (recordOf (stateIn bytes))
+
+-- The places that hold a flag.
+unfoldable pub holdsFlag : ℕ → Bool
+holdsFlag place = eqb place 9 or eqb place 10 or eqb place 11 or eqb place 15 or place is 33 to 192
+
+-- Bytes as the code has them, as many as a record has: each is below 256.
+pub record AsLent (bytes : List ℕ) : Type 0 where
+  pub as-many : length bytes ≡ recordLength
+  pub is-byte : (place : ℕ) → getD bytes place 0 < 256
+
+-- Every flag is 0 or 1.
+abbrev pub FlagsRight : List ℕ → Type 0
+FlagsRight bytes = (place : ℕ) → holdsFlag place ≡ true → getD bytes place 0 ≤ 1
