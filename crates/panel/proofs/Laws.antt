@@ -13,7 +13,7 @@ use Rattle.terminal.specs.Answers.{Outcome, numberOf, given}
 use Rattle.terminal.specs.Calls.{startCall}
 use Rattle.record.specs.Bytes.{numberBytes}
 use Rattle.record.specs.Record.{recordOf}
-use Rattle.panel.specs.Panel.{Lent, lentOf, resultLength, resultBytes, pageIn, terminalIn, untouched, refusedWith, leftBy, wrongLength, wrongContent, panelStart, onTerminal}
+use Rattle.panel.specs.Panel.{Lent, lentOf, resultLength, resultBytes, pageIn, terminalIn, handedBack, untouched, refusedWith, leftBy, wrongLength, wrongContent, panelStart, onTerminal}
 
 pub result-length : (number taken sent stored : ℕ) → length (resultBytes number taken sent stored) ≡ resultLength
 unfolding resultBytes numberBytes
@@ -30,8 +30,8 @@ right-lengths packed result =
     (λ long none. (eqb-true _ _ (not-false _ long), eqb-true _ _ (not-false _ thirteen))))
 
 -- What an entry handed back, told to C.
-pub handed-on : (reply : Reply) (page : Page) (output : List ℕ) {number : ℕ} {packed result : List ℕ} → number ≡ numberOf (reply .answer) → packed ≡ recordOf (reply .state) → result ≡ resultBytes (numberOf (reply .answer)) (reply .taken) (reply .sent) (reply .stored) → untouched number (lentOf packed (page .characters) (page .marks) output result) ≡ leftBy (given reply page output)
-handed-on reply page output n p r = λ i. untouched (n i) (lentOf (p i) (page .characters) (page .marks) output (r i))
+pub handed-on : (reply : Reply) (page : Page) (output : List ℕ) {number : ℕ} {packed result : List ℕ} → number ≡ numberOf (reply .answer) → packed ≡ recordOf (reply .state) → result ≡ resultBytes (numberOf (reply .answer)) (reply .taken) (reply .sent) (reply .stored) → handedBack number (lentOf packed (page .characters) (page .marks) output result) ≡ leftBy (given reply page output)
+handed-on reply page output n p r = λ i. handedBack (n i) (lentOf (p i) (page .characters) (page .marks) output (r i))
 
 module _ (lent : Lent) (wrong : ℕ) (told : wrong ≡ wrongLength (lent .packed) (lent .result)) where
   pub start-untouched : (rows columns : ℕ) → 0 < wrong → untouched wrong lent ≡ panelStart rows columns lent
@@ -48,10 +48,10 @@ module _ (lent : Lent) (wrong : ℕ) (told : wrong ≡ wrongLength (lent .packed
     untouched-call some = ap (λ (n : ℕ). untouched n lent) told ∙ sym (then-case _ _ _ (lt-ltb 0 _ (rw told at some)))
 
     module _ (none : wrong ≤ 0) (bad : ℕ) (bad-told : bad ≡ wrongContent (lent .packed) (pageIn lent)) where
-      pub refused-call : 0 < bad → {result : List ℕ} → result ≡ resultBytes bad 0 0 0 → untouched bad (lentOf (lent .packed) (lent .characters) (lent .marks) (lent .output) result) ≡ onTerminal call lent
+      pub refused-call : 0 < bad → {result : List ℕ} → result ≡ resultBytes bad 0 0 0 → handedBack bad (lentOf (lent .packed) (lent .characters) (lent .marks) (lent .output) result) ≡ onTerminal call lent
       unfolding onTerminal
       refused-call some is =
-          (λ i. untouched bad (lentOf (lent .packed) (lent .characters) (lent .marks) (lent .output) (is i)))
+          (λ i. handedBack bad (lentOf (lent .packed) (lent .characters) (lent .marks) (lent .output) (is i)))
           ∙ ap (λ (n : ℕ). refusedWith n lent) bad-told
           ∙ sym (else-case _ _ _ (le-ltb 0 _ (rw told at none)) ∙ then-case _ _ _ (lt-ltb 0 _ (rw bad-told at some)))
 

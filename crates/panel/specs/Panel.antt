@@ -53,11 +53,8 @@ untouched number lent = record { number = number; lent = lent }
 -- Document 01's write the number and zeros into the result slice, and nothing else.
 abbrev pub refusedWith : ℕ → Lent → Left
 refusedWith number lent =
-    record {
-      number = number;
-      lent =
-          lentOf (lent .packed) (lent .characters) (lent .marks) (lent .output) (resultBytes number 0 0 0);
-    }
+    let left = lentOf (lent .packed) (lent .characters) (lent .marks) (lent .output) (resultBytes number 0 0 0) in
+    record { number = number; lent = left }
 
 -- What an entry gave and left.
 abbrev pub leftBy : Outcome → Left
@@ -110,12 +107,15 @@ panelHost lent bytes = onTerminal (λ t. hostCall t bytes (lent .output)) lent
 unfoldable pub panelKey : Lent → ℕ → Left
 panelKey lent key = onTerminal (λ t. keyCall t key (lent .output)) lent
 
--- What the contract of an exported function allows: the number given back, with what is left.
+-- What the contract of an exported function allows: the number that it gives back, with what it leaves.
+abbrev pub handedBack : ℕ → Lent → Left
+handedBack number lent = record { number = number; lent = lent }
+
 abbrev pub PanelStartAllows : ℕ → ℕ → Lent → ℕ → Lent → Type 0
-PanelStartAllows rows columns lent number left = untouched number left ≡ panelStart rows columns lent
+PanelStartAllows rows columns lent number left = handedBack number left ≡ panelStart rows columns lent
 
 abbrev pub PanelHostAllows : Lent → List ℕ → ℕ → Lent → Type 0
-PanelHostAllows lent bytes number left = untouched number left ≡ panelHost lent bytes
+PanelHostAllows lent bytes number left = handedBack number left ≡ panelHost lent bytes
 
 abbrev pub PanelKeyAllows : Lent → ℕ → ℕ → Lent → Type 0
-PanelKeyAllows lent key number left = untouched number left ≡ panelKey lent key
+PanelKeyAllows lent key number left = handedBack number left ≡ panelKey lent key

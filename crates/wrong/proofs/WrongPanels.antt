@@ -160,6 +160,12 @@ countsHighByteFirst-breaks-as-called kept =
     let shown = kept .of-host oneField one-field-valid one-field-arrays esc [] (replicate 13 0) refl in
     eqb-false 16777216 1 refl (shown .taken-there)
 
+pub countsHighByteFirst-breaks-as-called-on : AsCalledOn ourEntries countsHighByteFirst → ⊥
+unfolding panels hostSteps streams leftOf leftAll
+countsHighByteFirst-breaks-as-called-on kept =
+    let shown = kept oneField one-field-valid one-field-arrays (read esc [] ∷ []) [] (replicate 13 0) refl in
+    eqb-false 16777216 1 refl (first-shown shown .taken-there)
+
 -- No state has a record with a 2 in that flag.
 flag-is-not-2 : (flag : Bool) → 2 ≡ flagByte flag → ⊥
 unfolding records
