@@ -79,11 +79,12 @@ pub read-later : {written list now : List ℕ} {count : ℕ} → Wrote 0 written
 read-later {written} {list} wrote digits k past here =
     ap (λ (l : List ℕ). getD l k 0) (wrote .left) ∙ placed-later written list k (omega (arith, wrote .next-is)) ∙ sym (getD-take digits list k 0 here)
 
-pub five-digits : (number thousands rest hundreds low : ℕ) → thousands ≡ number / 10000 → rest ≡ number % 10000 → hundreds ≡ rest / 100 → low ≡ rest % 100 → fiveDigits number ≡ (0x30 + thousands) ∷ [] ++ twoDigits hundreds ++ twoDigits low
-five-digits number thousands rest hundreds low p q r s =
-    let a : number / 10000 ≡ thousands = omega arith in
-    let b : number / 1000 % 10 ≡ hundreds / 10 = omega arith in
-    let c : number / 100 % 10 ≡ hundreds % 10 = omega arith in
+-- Three digits counted off one after the other, and the two of what they leave.
+pub five-digits : (number first rest second left third low : ℕ) → first ≡ number / 10000 → rest ≡ number % 10000 → second ≡ rest / 1000 → left ≡ rest % 1000 → third ≡ left / 100 → low ≡ left % 100 → fiveDigits number ≡ (0x30 + first) ∷ [] ++ (0x30 + second) ∷ [] ++ (0x30 + third) ∷ [] ++ twoDigits low
+five-digits number first rest second left third low p q r s t u =
+    let a : number / 10000 ≡ first = omega arith in
+    let b : number / 1000 % 10 ≡ second = omega arith in
+    let c : number / 100 % 10 ≡ third = omega arith in
     let d : number / 10 % 10 ≡ low / 10 = omega arith in
     let e : number % 10 ≡ low % 10 = omega arith in
     λ i. (0x30 + a i) ∷ (0x30 + b i) ∷ (0x30 + c i) ∷ (0x30 + d i) ∷ (0x30 + e i) ∷ []

@@ -111,14 +111,16 @@ pub fn put_hex(text: &mut [u8], at: usize, bytes: &[u8]) -> usize
     next
 }
 
-// With leading zeros: the first digit, then twice two.
+// With leading zeros: three digits, each counted off what the one before left, then two.
 pub fn put_five(text: &mut [u8], at: usize, number: usize) -> usize
     requires { ⌜ (number < 100000) × (at + 5 ≤ length (now text)) ⌝ }
     ensures { λ r. ⌜ Wrote at (fiveDigits number) (now (text .entry)) r (now (text .exit)) ⌝ }
 {
-    let high = output::count_off(number, 10000);
-    let low = output::count_off(high.left, 100);
-    let thousands = output::put_digit(text, at, high.times);
-    let tens = output::put_two_digits(text, thousands, low.times);
-    output::put_two_digits(text, tens, low.left)
+    let first = output::count_off(number, 10000);
+    let second = output::count_off(first.left, 1000);
+    let third = output::count_off(second.left, 100);
+    let mut next = output::put_digit(text, at, first.times);
+    next = output::put_digit(text, next, second.times);
+    next = output::put_digit(text, next, third.times);
+    output::put_two_digits(text, next, third.left)
 }

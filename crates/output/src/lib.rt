@@ -1,7 +1,7 @@
 // Bytes and decimal numbers, written into a lent output from a place on; each function gives the place after.
 ghost use mathlib.Core.Path.{_≡_};
 ghost use mathlib.Core.List.{[], _∷_};
-ghost use Prim.Native.Nat.{_+_, _/_, _%_, _<_, _≤_};
+ghost use Prim.Native.Nat.{_+_, _*_, _/_, _%_, _<_, _≤_};
 ghost use lib.ListN.{length};
 ghost use Rattle.words.specs.Output.{Wrote};
 ghost use Rattle.output.specs.Decimal.{decimal, placeBytes};
@@ -12,16 +12,21 @@ pub struct CountedOff {
     pub left: usize,
 }
 
-// Counted by subtraction: there is no divide instruction on a small panel.
+// By subtraction: there is no divide instruction on a small panel. In nine turns: of a loop that goes on while the unit
+// can be taken off the compiler makes a division.
 pub fn count_off(number: usize, unit: usize) -> CountedOff
-    requires { ⌜ 0 < unit ⌝ }
+    requires { ⌜ number < 10 * unit ⌝ }
     ensures { λ r. ⌜ (r .times ≡ number / unit) × (r .left ≡ number % unit) ⌝ }
 {
     let mut times = 0;
     let mut left = number;
-    while unit <= left {
-        left -= unit;
-        times += 1;
+    let mut turns: usize = 9;
+    while 0 < turns {
+        turns -= 1;
+        if unit <= left {
+            left -= unit;
+            times += 1;
+        }
     }
     CountedOff { times, left }
 }

@@ -9,17 +9,25 @@ use Rattle.numerals.proofs.put_five.Tie as tie
 
 returns : tie.Need-returns
 returns c =
-    let start = c .before .before .before .before .before .before .before .before .before .before .before .before .before .before .before in
+    let two = c .before .before in
+    let third = two .before .before .before .before in
+    let second = third .before .before .before .before in
+    let first = second .before .before .before .before in
+    let counted = first .before .before in
+    let start = counted .before .before .before .before in
     let room : start .args .at ≤ length (start .args .text .now) = omega arith in
-    let high = c .before .before .before .before .before .before .before .before .before .before .before .before .before .count-off .ensures in
-    let low = c .before .before .before .before .before .before .before .before .before .before .before .before .count-off2 .ensures in
-    rw (five-digits _ _ _ _ _ (high .0) (high .1) (low .0) (low .1))
-    (wrote-then room (wrote-then room (c .before .before .before .before .before .before .before .before .before .before .put-digit .ensures) (c .before .before .before .before .before .before .put-two-digits .ensures)) (c .before .before .put-two-digits2 .ensures))
+    let one-off = counted .before .before .count-off .ensures in
+    let two-off = counted .before .count-off2 .ensures in
+    let three-off = counted .count-off3 .ensures in
+    rw (five-digits _ _ _ _ _ _ _ (one-off .0) (one-off .1) (two-off .0) (two-off .1) (three-off .0) (three-off .1))
+    (wrote-then room (wrote-then room (wrote-then room (first .put-digit .ensures) (second .put-digit2 .ensures)) (third .put-digit3 .ensures)) (two .put-two-digits .ensures))
 
 pub put-five-spec : {M : Type 1} → statement M
 put-five-spec =
     tie.close
     (tie.spec
+    (λ c κs. search needs)
+    (λ c κs. search needs)
     (λ c κs. search needs)
     (λ c κs. search needs)
     (λ c κs. search needs)
