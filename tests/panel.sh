@@ -14,9 +14,8 @@ second_cargo build
 build_archive
 tool=/usr/bin/x86_64-linux-gnu
 second=target/second/release/second
-kit=${RATTLE_HOME:-$(cd "$(dirname "$(readlink -f "$(command -v rt)")")/.." && pwd -P)}
 # a plain processor: on newer ones the C library copies by instructions that are slow to emulate
-emulator=("$kit/on/$(uname -m)/toolchain/bin/qemu-x86_64" -cpu qemu64)
+emulator=("$kit/$tools/bin/qemu-x86_64" -cpu qemu64)
 [ -x "${emulator[0]}" ] || emulator=()
 
 # step COMMAND..: says what is run, and runs it
