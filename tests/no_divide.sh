@@ -83,10 +83,48 @@ refused() {
         grep -qF "$told" "$room/told" || { cat "$room/told"; say "not told: $told"; exit 1; }
     done
 }
-cp -r tests/no_divide "$room/repo"
+# The loop as it was before M-105, in a repository of its own: a crate in this one would have to be listed.
+crate=$room/repo/crates/as_it_was
+mkdir -p "$crate/src" "$crate/proofs/tens_of"
+echo 'as_it_was:' >"$room/repo/crates.txt"
+cat >"$crate/src/lib.rt" <<'CODE'
+ghost use mathlib.Core.Path.{_≡_};
+ghost use Prim.Native.Nat.{_/_};
+
+#[no_mangle]
+pub extern "C" fn tens_of(number: usize) -> usize
+    ensures { λ r. ⌜ r ≡ number / 10 ⌝ }
+{
+    let mut times = 0;
+    let mut left = number;
+    while 10 <= left {
+        left -= 10;
+        times += 1;
+    }
+    times
+}
+CODE
+cat >"$crate/proofs/tens_of/Proof.antt" <<'PROOF'
+use mathlib.Core.Path.{_≡_}
+use Prim.Native.Nat.{_+_, _*_}
+use native.Mathlib.Omega.{arith}
+use borrow.Author.Needs.{needs}
+use Rattle.as_it_was.proofs.tens_of.Statement.{statement}
+use Rattle.as_it_was.proofs.tens_of.Tie as tie
+
+abbrev Inv-loop : tie.InvT-loop
+Inv-loop number times₀ left₀ times left = number ≡ times * 10 + left
+
+abbrev μ-loop : tie.MeasureT-loop
+μ-loop number times₀ left₀ times left = left
+
+pub tens-of-spec : {M : Type 1} → statement M
+tens-of-spec =
+    tie.close (tie.spec Inv-loop μ-loop (λ c. search needs) (λ c. search needs) (λ c. search needs) (λ c. search needs) (λ c. omega arith))
+PROOF
 was=$room/repo/given
-(cd "$room/repo" && staticlib loop_as_it_was "$was")
-loop=$room/repo/target/staticlib/libloop_as_it_was.a
+(cd "$room/repo" && staticlib as_it_was "$was")
+loop=$room/repo/target/staticlib/libas_it_was.a
 refused "$was" "$loop" 'a division, as the kit optimises the code' 'is called on thumbv6m at -O3' \
     'is called on thumbv6m at -Os' 'is called on riscv32 at -O3' 'is called on riscv32 at -Os'
 refused "$was" $archive 'the bitcode has other functions than the archive'
