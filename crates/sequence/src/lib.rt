@@ -62,7 +62,7 @@ pub const NOTHING_READ: HalfRead = HalfRead {
     spoilt: false,
 };
 
-const ESC_READ: HalfRead = HalfRead {
+pub const ESC_READ: HalfRead = HalfRead {
     kind: AFTER_ESC,
     arguments: [0; 8],
     count: 0,
@@ -102,13 +102,20 @@ const STARTED_ANEW: Advanced = Advanced {
 };
 
 // Whether n is low to high.
-fn is_between(n: u8, low: u8, high: u8) -> bool
+pub fn is_between(n: u8, low: u8, high: u8) -> bool
     ensures { λ r. ⌜ r ≡ (n is low to high) ⌝ }
 {
     if n < low {
         return false;
     }
     n <= high
+}
+
+// What is text outside a sequence, and belongs to one inside it.
+pub fn is_text(byte: u8) -> bool
+    ensures { λ r. ⌜ r ≡ (byte is 0x20 to 0x7E) ⌝ }
+{
+    is_between(byte, 0x20, 0x7E)
 }
 
 // The control bytes that are executed.
@@ -149,7 +156,7 @@ fn refused(reason: Reason, byte: u8) -> Advanced
 fn outside_sequence(byte: u8) -> Advanced
     ensures { λ r. ⌜ r ≡ outsideSequence byte ⌝ }
 {
-    if is_between(byte, 0x20, 0x7E) {
+    if is_text(byte) {
         return Advanced {
             half: NOTHING_READ,
             event: Event::Text(byte),
@@ -338,7 +345,7 @@ impl HalfRead {
         if byte == 0x1B {
             return STARTED_ANEW; // and not refused
         }
-        if is_between(byte, 0x20, 0x7E) {
+        if is_text(byte) {
             if self.kind == AFTER_ESC {
                 return after_esc(byte);
             }

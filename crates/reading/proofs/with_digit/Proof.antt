@@ -1,0 +1,35 @@
+use mathlib.Core.Path.{_≡_, refl, sym, ap, _∙_}
+use mathlib.Core.Bool.{Bool, true, false}
+use mathlib.Core.List.{List, [], _∷_, _++_}
+use Prim.Native.Nat.{ℕ, _+_, _-_, _<_, _≤_}
+use native.Mathlib.Omega.{arith}
+use borrow.Author.Needs.{needs}
+use lib.ListN.{length, take, drop, getD, set}
+use Rattle.words.proofs.Choosing.{range-holds}
+use Rattle.reading.proofs.with_digit.Statement.{statement}
+use Rattle.reading.proofs.with_digit.Tie as tie
+use Rattle.reading.proofs.with_digit.Reads as reads
+use Rattle.reading.proofs.with_digit.Lts as lts
+
+-- src/lib.rt:94:5
+mul-result : tie.Need-mul-result
+mul-result c = search needs
+
+-- src/lib.rt:94:29
+sub-result : tie.Need-sub-result
+sub-result c = let range = range-holds _ _ _ (c .pre) in omega arith
+
+-- src/lib.rt:94:28
+cast-result : tie.Need-cast-result
+cast-result c = search needs
+
+-- src/lib.rt:94:5
+add-result : tie.Need-add-result
+add-result c = search needs
+
+-- src/lib.rt:90:1
+returns : tie.Need-returns
+returns c = search needs
+
+pub with-digit-spec : {M : Type 1} → statement M
+with-digit-spec = tie.close (tie.spec mul-result sub-result cast-result add-result returns)
