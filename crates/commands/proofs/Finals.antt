@@ -11,7 +11,8 @@ use Rattle.words.proofs.Choosing.{then-case, else-case}
 use Rattle.sequence.specs.declared.HalfRead.{HalfRead}
 use Rattle.page.specs.Page.{cells}
 use Rattle.sequence.specs.declared.Reason.the-variants.{UnknownCommand, WrongArguments}
-use Rattle.steps.specs.Steps.{Terminal, refusing, rowStart}
+use Rattle.state.specs.Tabs.{tabbedOn, tabbedBack}
+use Rattle.steps.specs.Steps.{Terminal, goesTo, refusing, rowStart}
 use Rattle.table.specs.Table.{allowed, valueOf}
 use Rattle.table.specs.Moves.{isMove, moveStep}
 use Rattle.table.specs.Settings.{tabControl, rendition, setMode}
@@ -38,6 +39,14 @@ module _ (final : ℕ) (half : HalfRead) (t : Terminal) (most : ℕ) (asked : mo
 
 -- By final byte.
 module _ (final what : ℕ) (arguments : List ℕ) (count : ℕ) (t : Terminal) (given : what ≡ valueOf final arguments 0) where
+  pub final-I : final ≡ 0x49 → listedStep final arguments count t ≡ goesTo (tabbedOn what (t .state)) t
+  unfolding listedStep isMove moveStep if_then_else_ _and_ _or_ _is_to_
+  final-I e = rw (given, e)
+
+  pub final-Z : final ≡ 0x5A → listedStep final arguments count t ≡ goesTo (tabbedBack what (t .state)) t
+  unfolding listedStep isMove moveStep if_then_else_ _and_ _or_ _is_to_
+  final-Z e = rw (given, e)
+
   pub final-W : final ≡ 0x57 → listedStep final arguments count t ≡ tabControl final what t
   unfolding listedStep isMove if_then_else_ _and_ _or_ _is_to_
   final-W e = rw (given, e)

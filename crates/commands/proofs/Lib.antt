@@ -7,7 +7,9 @@ pub mod Theorems
 pub mod Silent
 pub mod Lengths
 pub mod Finals
+pub mod Lightness
 pub mod Stepping
+pub mod Runs
 pub mod Computing
 pub mod Streams
 pub mod Examples

@@ -119,7 +119,7 @@ module _ (Asked : Type 0) (byte : ℕ) (t : Terminal) (valid : Valid t) where
       omega arith
 
   -- Text and control bytes.
-  text-holds : (character : ℕ) → validCharacter character ≡ true → Holds (textStep character t)
+  pub text-holds : (character : ℕ) → validCharacter character ≡ true → Holds (textStep character t)
   unfolding textStep validPen
   text-holds character p =
       puts text-cell (next-cell-keeps-valid (t .state) (valid .state))

@@ -1,19 +1,30 @@
 // Document 01, "Reading host bytes" and "Commands": what text, control bytes and commands do to the page.
-// What each function leaves is defined in specs/.
+// What each function leaves is defined in specs/. Text comes in runs (texts.rt), and what changes little is done in
+// place (light.rt): the rest is here.
+mod light;
+mod texts;
+
+pub use light::is_light;
+pub use light::light_step;
 use page::Mark;
 use sequence::Event;
 use sequence::Reason;
 use state::State;
 use steps::Step;
+pub use texts::TextRun;
+pub use texts::text_run;
 ghost use mathlib.Core.Path.{_≡_};
+ghost use mathlib.Core.Bool.{false};
 ghost use Prim.Native.Nat.{_≤_, _+_};
 ghost use lib.ListN.{length};
+ghost use Rattle.sequence.specs.declared.Event.the-variants.{Control, EscCommand, BracketCommand};
 ghost use Rattle.page.specs.Page.{pageOf};
 ghost use Rattle.steps.specs.Steps.{Valid, cursorCell, rowStart, terminalOf};
 ghost use Rattle.steps.specs.Told.{told, tells, written};
 ghost use Rattle.commands.specs.Text.{textStep, lineDown, lineUp, controlStep};
 ghost use Rattle.commands.specs.Commands.{freshStep, escStep, erasing, erasePart, bracketStep};
-ghost use Rattle.commands.specs.Host.{FinalInTable, eventStep, hostStep};
+ghost use Rattle.commands.specs.Host.{FinalInTable, eventStep};
+ghost use Rattle.commands.specs.Light.{isLight};
 
 // Text: the cursor's cell takes the character, and the cursor goes on.
 fn text(state: State, characters: &mut [u8], marks: &mut [Mark], character: u8) -> Step
@@ -69,25 +80,24 @@ fn fresh(state: State, characters: &mut [u8], marks: &mut [Mark]) -> Step
     steps::stored(State::fresh(state.size), cells, true)
 }
 
-// The control bytes that act.
+// HT and LF; the other control bytes that act are light.
 fn control(state: State, characters: &mut [u8], marks: &mut [Mark], byte: u8) -> Step
     requires { ⌜ Valid (terminalOf state (now characters) (now marks)) ⌝ }
+    requires { ⌜ isLight (Control byte) ≡ false ⌝ }
     ensures { λ r. ⌜
         told r (pageOf (now (characters .exit)) (now (marks .exit)))
         ≡ tells (controlStep byte (terminalOf state (now (characters .entry)) (now (marks .entry)))) ⌝ }
 {
-    match byte {
-        0x08 => steps::quiet(state.left_by(1)), // BS
-        0x09 => steps::quiet(state.tab_on(1)), // HT
-        0x0A => line_down(state, characters, marks), // LF
-        _ => steps::quiet(state.to_margin()), // CR
+    if byte == 0x09 {
+        return steps::quiet(state.tab_on(1));
     }
+    line_down(state, characters, marks)
 }
 
-// After ESC, all but S, which sends.
+// After ESC, what is not light, but for S, which sends.
 fn silent_esc_step(state: State, characters: &mut [u8], marks: &mut [Mark], byte: u8) -> Step
     requires { ⌜ Valid (terminalOf state (now characters) (now marks)) ⌝ }
-    requires { ⌜ (byte ≡ 0x53 → ⊥) ⌝ }
+    requires { ⌜ (isLight (EscCommand byte) ≡ false) × (byte ≡ 0x53 → ⊥) ⌝ }
     ensures { λ r. ⌜
         told r (pageOf (now (characters .exit)) (now (marks .exit)))
         ≡ tells (escStep byte (terminalOf state (now (characters .entry)) (now (marks .entry)))) ⌝ }
@@ -97,8 +107,6 @@ fn silent_esc_step(state: State, characters: &mut [u8], marks: &mut [Mark], byte
         b'E' => line_down(state.to_margin(), characters, marks), // NEL
         b'M' => line_up(state, characters, marks), // RI
         b'H' => steps::quiet(state.set_stop()), // HTS
-        b'V' => steps::quiet(state.with_pen(state::pen_protected(state.modes.pen))), // SPA
-        b'W' => steps::quiet(state.with_pen(state::pen_unprotected(state.modes.pen))), // EPA
         b'c' => fresh(state, characters, marks), // RIS
         b'`' => steps::quiet(state.disable_input()), // DMI
         b'b' => steps::quiet(state.enable_input()), // EMI
@@ -187,7 +195,7 @@ fn esc_step(
     byte: u8,
 ) -> Step
     requires { ⌜ Valid (terminalOf state (now characters) (now marks)) ⌝ }
-    requires { ⌜ at ≤ length (now out) ⌝ }
+    requires { ⌜ (at ≤ length (now out)) × (isLight (EscCommand byte) ≡ false) ⌝ }
     ensures { λ r. ⌜
         record { told = told r (pageOf (now (characters .exit)) (now (marks .exit))); output = now (out .exit) }
         ≡ written at (now (out .entry))
@@ -200,7 +208,7 @@ fn esc_step(
     silent_esc_step(state, characters, marks, byte)
 }
 
-// After ESC [: the table is consulted before anything else.
+// After ESC [, what is not light: the table is consulted before anything else.
 fn bracket_step(
     state: State,
     before: State,
@@ -211,7 +219,8 @@ fn bracket_step(
     letter: u8,
 ) -> Step
     requires { ⌜ Valid (terminalOf state (now characters) (now marks)) ⌝ }
-    requires { ⌜ (at ≤ length (now out)) × (0x40 ≤ letter) × (letter ≤ 0x7E) × (before .half .count ≤ 8) ⌝ }
+    requires { ⌜ (at ≤ length (now out)) × (0x40 ≤ letter) × (letter ≤ 0x7E) × (before .half .count ≤ 8) ×
+        (isLight (BracketCommand letter) ≡ false) ⌝ }
     ensures { λ r. ⌜
         record { told = told r (pageOf (now (characters .exit)) (now (marks .exit))); output = now (out .exit) }
         ≡ written at (now (out .entry))
@@ -228,24 +237,21 @@ fn bracket_step(
     if most < count {
         return steps::refuse(state, Reason::WrongArguments, letter);
     }
-    if table::moves::is_move(letter) {
-        return table::moves::move_command(state, letter, arguments);
-    }
     let what = table::value(letter, arguments, 0);
     let cells = characters.len();
     match letter {
+        b'I' => steps::quiet(state.tab_on(what)), // CHT
+        b'Z' => steps::quiet(state.tab_back(what)), // CBT
         b'W' => table::settings::tab_control(state, letter, what), // CTC
         b'J' => erase_part(state, characters, marks, letter, what, 0, cells), // ED
         b'K' => erase_row(state, characters, marks, letter, what), // EL
-        b'm' => table::settings::rendition(state, letter, arguments, count as usize), // SGR
-        b'h' => table::settings::set_mode(state, letter, true, arguments, count as usize), // SM
-        b'l' => table::settings::set_mode(state, letter, false, arguments, count as usize), // RM
         _ => sending::status_report(state, before, out, at, letter, what), // n: DSR
     }
 }
 
-// What an event does. `before` is the state before the event's byte, which has a command's arguments.
-fn event_step(
+// The step of an event that is not light. `before` is the state before the event's byte, which has a
+// command's arguments. A transmission is written into the output from `at` on; where it doesn't fit nothing happens.
+pub fn heavy_step(
     state: State,
     before: State,
     characters: &mut [u8],
@@ -255,7 +261,7 @@ fn event_step(
     event: Event,
 ) -> Step
     requires { ⌜ Valid (terminalOf state (now characters) (now marks)) ⌝ }
-    requires { ⌜ (at ≤ length (now out)) × FinalInTable event × (before .half .count ≤ 8) ⌝ }
+    requires { ⌜ (at ≤ length (now out)) × FinalInTable event × (before .half .count ≤ 8) × (isLight event ≡ false) ⌝ }
     ensures { λ r. ⌜
         record { told = told r (pageOf (now (characters .exit)) (now (marks .exit))); output = now (out .exit) }
         ≡ written at (now (out .entry))
@@ -263,7 +269,7 @@ fn event_step(
         (eventStep (before .half) event (terminalOf state (now (characters .entry)) (now (marks .entry)))) ⌝ }
 {
     match event {
-        Event::Nothing => steps::quiet(state),
+        Event::Nothing => steps::quiet(state), // does not come here
         Event::Text(character) => text(state, characters, marks, character),
         Event::Control(code) => control(state, characters, marks, code),
         Event::EscCommand(letter) => esc_step(state, before, characters, marks, out, at, letter),
@@ -276,31 +282,6 @@ fn event_step(
             at,
             letter,
         ),
-        Event::Refused(reason, byte) => steps::refuse(state, reason, byte),
+        Event::Refused(_, _) => steps::quiet(state), // nor does this
     }
-}
-
-// The step of a host byte. Its transmission is written into the output from `at` on; where it doesn't fit nothing
-// happens.
-pub fn step(
-    state: State,
-    characters: &mut [u8],
-    marks: &mut [Mark],
-    out: &mut [u8],
-    at: usize,
-    byte: u8,
-) -> Step
-    requires { ⌜ Valid (terminalOf state (now characters) (now marks)) ⌝ }
-    requires { ⌜ at ≤ length (now out) ⌝ }
-    ensures { λ r. ⌜
-        record { told = told r (pageOf (now (characters .exit)) (now (marks .exit))); output = now (out .exit) }
-        ≡ written at (now (out .entry))
-        (terminalOf state (now (characters .entry)) (now (marks .entry)))
-        (hostStep byte (terminalOf state (now (characters .entry)) (now (marks .entry)))) ⌝ }
-{
-    let half = state.half;
-    let advanced = half.advance(byte);
-    let next = state.with_half(advanced.half);
-    let event = advanced.event;
-    event_step(next, state, characters, marks, out, at, event)
 }

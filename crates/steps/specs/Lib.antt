@@ -1,4 +1,5 @@
 pub mod Steps
 pub mod Seen
 pub mod Told
+pub mod Light
 pub mod Claims

@@ -1,5 +1,7 @@
 // What the code tells of a step (specs/Told.antt).
 use sequence::Reason;
+use state::Cursor;
+use state::Modes;
 use state::State;
 ghost use mathlib.Core.Path.{_≡_};
 ghost use mathlib.Core.List.{List};
@@ -17,6 +19,30 @@ pub struct Step {
     pub protection: bool,
     // Its transmission did not fit, and nothing happened.
     pub exceeds: bool,
+}
+
+// A light step, which touches neither page nor output nor tab stops: what it changes of the state (specs/Light.antt).
+pub enum Light {
+    Cursor(Cursor),
+    Modes(Modes),
+    // A command is refused, for a reason, at a byte.
+    Refused(Reason, u8),
+}
+
+// The cursor goes where it stands in a state.
+pub fn moves_to(state: State) -> Light
+    ensures { λ r. ⌜ r ≡ Light.Cursor (state .cursor) ⌝ }
+{
+    let cursor = state.cursor;
+    Light::Cursor(cursor)
+}
+
+// Pen and mode become those of a state.
+pub fn sets(state: State) -> Light
+    ensures { λ r. ⌜ r ≡ Light.Modes (state .modes) ⌝ }
+{
+    let modes = state.modes;
+    Light::Modes(modes)
 }
 
 // The state changes, and nothing is stored, sent or refused.

@@ -45,6 +45,10 @@ keptColumn row given column present =
 unfoldable pub isMove : ℕ → Bool
 isMove final = final is code "A" to code "I" or eqb final (code "Z") or eqb final (code "d") or eqb final (code "f")
 
+-- Those of them that look at no tab stop.
+unfoldable pub isPlainMove : ℕ → Bool
+isPlainMove final = final is code "A" to code "H" or eqb final (code "d") or eqb final (code "f")
+
 -- After ESC [, the moves by final byte: the last line is Z.
 unfoldable pub moveStep : ℕ → List ℕ → Terminal → Stepped
 moveStep final arguments t =

@@ -1,47 +1,58 @@
-// Document 01, "Commands": the commands of ESC [ that only move the cursor.
+// Document 01, "Commands": the commands of ESC [ that only move the cursor, but for tabs.
 use sequence::Reason;
+use state::Cursor;
 use state::State;
-use steps::Step;
+use steps::Light;
 ghost use mathlib.Core.Path.{_≡_};
+ghost use mathlib.Core.Bool.{true};
 ghost use Prim.Native.Nat.{_≤_};
 ghost use Rattle.page.specs.Page.{Page};
 ghost use Rattle.state.specs.State.{OnPage};
-ghost use Rattle.steps.specs.Told.{told, tells};
-ghost use Rattle.table.specs.Moves.{isMove, moveStep, toColumn, toRow, toPlace, keptColumn};
+ghost use Rattle.steps.specs.Light.{lightStep};
+ghost use Rattle.table.specs.Moves.{isMove, isPlainMove, moveStep, toColumn, toRow, toPlace, keptColumn};
 
 // CHA: past the last column it is ignored.
-fn to_column(state: State, column: usize) -> Step
-    ensures { λ r. ⌜ ((page : Page) → told r page ≡ tells (toColumn column (record { state = state; page = page }))) ⌝ }
+fn to_column(state: State, column: usize) -> Light
+    ensures { λ r. ⌜ ((page : Page) →
+        lightStep r (record { state = state; page = page }) ≡ toColumn column (record { state = state; page = page })) ⌝ }
 {
     if column <= state.size.columns {
-        return steps::quiet(state.moved_to(state.cursor.row, column));
+        return Light::Cursor(Cursor {
+            row: state.cursor.row,
+            column,
+        });
     }
-    steps::quiet(state)
+    steps::moves_to(state)
 }
 
 // VPA: past the last row it is refused.
-fn to_row(state: State, letter: u8, row: usize) -> Step
+fn to_row(state: State, letter: u8, row: usize) -> Light
     ensures { λ r. ⌜ ((page : Page) →
-        told r page ≡ tells (toRow letter row (record { state = state; page = page }))) ⌝ }
+        lightStep r (record { state = state; page = page })
+        ≡ toRow letter row (record { state = state; page = page })) ⌝ }
 {
     if state.size.rows < row {
-        return steps::refuse(state, Reason::WrongArguments, letter);
+        return Light::Refused(Reason::WrongArguments, letter);
     }
-    steps::quiet(state.moved_to(row, state.cursor.column))
+    Light::Cursor(Cursor {
+        row,
+        column: state.cursor.column,
+    })
 }
 
 // CUP and HVP: past the page they are refused.
-fn to_place(state: State, letter: u8, row: usize, column: usize) -> Step
+fn to_place(state: State, letter: u8, row: usize, column: usize) -> Light
     ensures { λ r. ⌜ ((page : Page) →
-        told r page ≡ tells (toPlace letter row column (record { state = state; page = page }))) ⌝ }
+        lightStep r (record { state = state; page = page })
+        ≡ toPlace letter row column (record { state = state; page = page })) ⌝ }
 {
     if row <= state.size.rows {
         if column <= state.size.columns {
-            return steps::quiet(state.moved_to(row, column));
+            return Light::Cursor(Cursor { row, column });
         }
-        return steps::refuse(state, Reason::WrongArguments, letter);
+        return Light::Refused(Reason::WrongArguments, letter);
     }
-    steps::refuse(state, Reason::WrongArguments, letter)
+    Light::Refused(Reason::WrongArguments, letter)
 }
 
 // HVP's column: 0 with a row above 0 keeps the column.
@@ -75,35 +86,34 @@ pub fn is_move(letter: u8) -> bool
     }
 }
 
-// After ESC [, the moves: A to I, d, f and Z.
-pub fn move_command(state: State, letter: u8, arguments: [u16; 8]) -> Step
+// After ESC [, the moves that look at no tab stop: A to H, d and f.
+pub fn move_command(state: State, letter: u8, arguments: [u16; 8]) -> Light
     requires { ⌜ OnPage state ⌝ }
-    requires { ⌜ (0x40 ≤ letter) × (letter ≤ 0x7E) ⌝ }
+    requires { ⌜ (0x40 ≤ letter) × (letter ≤ 0x7E) × (isPlainMove letter ≡ true) ⌝ }
     ensures { λ r. ⌜ ((page : Page) →
-        told r page ≡ tells (moveStep letter arguments (record { state = state; page = page }))) ⌝ }
+        lightStep r (record { state = state; page = page })
+        ≡ moveStep letter arguments (record { state = state; page = page })) ⌝ }
 {
     let first = crate::value(letter, arguments, 0);
     let second = crate::value(letter, arguments, 1);
     let row = arguments[0];
     let given = arguments[1];
     match letter {
-        b'A' => steps::quiet(state.up_by(first)), // CUU
-        b'B' => steps::quiet(state.down_by(first)), // CUD
-        b'C' => steps::quiet(state.right_by(first)), // CUF
-        b'D' => steps::quiet(state.left_by(first)), // CUB
-        b'E' => steps::quiet(state.down_by(first).to_margin()), // CNL
-        b'F' => steps::quiet(state.up_by(first).to_margin()), // CPL
+        b'A' => steps::moves_to(state.up_by(first)), // CUU
+        b'B' => steps::moves_to(state.down_by(first)), // CUD
+        b'C' => steps::moves_to(state.right_by(first)), // CUF
+        b'D' => steps::moves_to(state.left_by(first)), // CUB
+        b'E' => steps::moves_to(state.down_by(first).to_margin()), // CNL
+        b'F' => steps::moves_to(state.up_by(first).to_margin()), // CPL
         b'G' => to_column(state, first), // CHA
         b'H' => to_place(state, letter, first, second), // CUP
-        b'I' => steps::quiet(state.tab_on(first)), // CHT
         b'd' => to_row(state, letter, first), // VPA
-        // HVP
-        b'f' => to_place(
+        // f: HVP
+        _ => to_place(
             state,
             letter,
             first,
             kept_column(row, given, second, state.cursor.column),
         ),
-        _ => steps::quiet(state.tab_back(first)), // Z: CBT
     }
 }

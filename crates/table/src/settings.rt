@@ -2,6 +2,7 @@
 use page::Mark;
 use sequence::Reason;
 use state::State;
+use steps::Light;
 use steps::Step;
 ghost use mathlib.Core.Path.{_≡_};
 ghost use Prim.Native.Nat.{_≤_};
@@ -11,6 +12,7 @@ ghost use Rattle.words.specs.Lists.{every};
 ghost use Rattle.page.specs.Page.{Page};
 ghost use Rattle.state.specs.State.{OnPage};
 ghost use Rattle.steps.specs.Told.{told, tells};
+ghost use Rattle.steps.specs.Light.{lightStep};
 ghost use Rattle.table.specs.Settings.{tabControl, isVisual, penAfter, penAfterAll, rendition, setMode};
 
 // CTC: 0 sets a tab stop, 2 clears it, 5 clears all.
@@ -101,26 +103,28 @@ fn pen_after_all(values: [u16; 8], count: usize, pen: Mark) -> Mark
 }
 
 // SGR: all values are tested before any acts.
-pub fn rendition(state: State, letter: u8, values: [u16; 8], count: usize) -> Step
+pub fn rendition(state: State, letter: u8, values: [u16; 8], count: usize) -> Light
     requires { ⌜ count ≤ 8 ⌝ }
     ensures { λ r. ⌜ ((page : Page) →
-        told r page ≡ tells (rendition letter (take count values) (record { state = state; page = page }))) ⌝ }
+        lightStep r (record { state = state; page = page })
+        ≡ rendition letter (take count values) (record { state = state; page = page })) ⌝ }
 {
     if all_visual(values, count) {
         let pen = pen_after_all(values, count, state.modes.pen);
-        return steps::quiet(state.with_pen(pen));
+        return steps::sets(state.with_pen(pen));
     }
-    steps::refuse(state, Reason::WrongArguments, letter)
+    Light::Refused(Reason::WrongArguments, letter)
 }
 
 // SM and RM: mode 6.
-pub fn set_mode(state: State, letter: u8, on: bool, values: [u16; 8], count: usize) -> Step
+pub fn set_mode(state: State, letter: u8, on: bool, values: [u16; 8], count: usize) -> Light
     requires { ⌜ count ≤ 8 ⌝ }
     ensures { λ r. ⌜ ((page : Page) →
-        told r page ≡ tells (setMode letter on (take count values) (record { state = state; page = page }))) ⌝ }
+        lightStep r (record { state = state; page = page })
+        ≡ setMode letter on (take count values) (record { state = state; page = page })) ⌝ }
 {
     if all_six(values, count) {
-        return steps::quiet(state.with_erasure(on));
+        return steps::sets(state.with_erasure(on));
     }
-    steps::refuse(state, Reason::WrongArguments, letter)
+    Light::Refused(Reason::WrongArguments, letter)
 }

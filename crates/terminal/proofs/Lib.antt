@@ -1,6 +1,7 @@
 pub mod Firsts
 pub mod Deciding
 pub mod Running
+pub mod Onward
 pub mod Matching
 pub mod Exceeding
 pub mod Lines

@@ -201,6 +201,26 @@ module _ {start : Terminal} {bytes before : List ℕ} {here : Terminal} {taken s
           few-refused = omega (arith, going .few-refused, one-at-most (onward .wasRefused));
         }
 
+    -- A step that sends nothing leaves the output alone.
+    pub goes-silently : (step : Stepped) → onward ≡ step → bytesOf (step .transmission) ≡ [] → (stored′ refused′ : ℕ) (protection′ : Bool) → stored + length (step .cells) ≡ stored′ → refused + countOf (step .wasRefused) ≡ refused′ → (protection or step .protection) ≡ protection′ → Going start bytes before (step .terminal) (taken + 1) sent stored′ refused′ protection′ output
+    goes-silently step is silent stored′ refused′ protection′ stores refuses protects =
+        let none : length (bytesOf (onward .transmission)) ≡ 0 = ap (λ (s : Stepped). length (bytesOf (s .transmission))) is ∙ ap length silent in
+        let same-sent : sent + length (bytesOf (onward .transmission)) ≡ sent = omega (arith, none) in
+        let same-output : placed sent (bytesOf (onward .transmission)) output ≡ output =
+        ap (λ (s : Stepped). placed sent (bytesOf (s .transmission)) output) is
+        ∙ ap (λ (bytes : List ℕ). placed sent bytes output) silent
+        ∙ sym (wrote-none sent output .left) in
+        let fits : length (bytesOf (onward .transmission)) ≤ length output - sent = omega (arith, none) in
+        let one-on : Going start bytes before (onward .terminal) (taken + 1) sent (stored + length (onward .cells)) (refused + countOf (onward .wasRefused)) (protection or onward .protection) output =
+        subst (λ (n : ℕ). Going start bytes before (onward .terminal) (taken + 1) n (stored + length (onward .cells)) (refused + countOf (onward .wasRefused)) (protection or onward .protection) output) same-sent
+        (subst (λ (o : List ℕ). Going start bytes before (onward .terminal) (taken + 1) (sent + length (bytesOf (onward .transmission))) (stored + length (onward .cells)) (refused + countOf (onward .wasRefused)) (protection or onward .protection) o) same-output
+        (goes-one-on fits)) in
+        let of-step : Going start bytes before (step .terminal) (taken + 1) sent (stored + length (step .cells)) (refused + countOf (step .wasRefused)) (protection or step .protection) output =
+        subst (λ (s : Stepped). Going start bytes before (s .terminal) (taken + 1) sent (stored + length (s .cells)) (refused + countOf (s .wasRefused)) (protection or s .protection) output) is one-on in
+        subst (λ (n : ℕ). Going start bytes before (step .terminal) (taken + 1) sent n refused′ protection′ output) stores
+        (subst (λ (n : ℕ). Going start bytes before (step .terminal) (taken + 1) sent (stored + length (step .cells)) n protection′ output) refuses
+        (subst (λ (b : Bool). Going start bytes before (step .terminal) (taken + 1) sent (stored + length (step .cells)) (refused + countOf (step .wasRefused)) b output) protects of-step))
+
     module _ (step : Step) (page : Page) (written-to : List ℕ) (is : record { told = told step page; output = written-to } ≡ written sent output here onward) where
       pub goes-on : step .exceeds ≡ false → Going start bytes before (record { state = step .state; page = page }) (taken + 1) (sent + step .sent) (stored + step .stored) (refused + countOf (step .refused)) (protection or step .protection) written-to
       goes-on done =

@@ -3,6 +3,7 @@
 use page::Mark;
 use state::Size;
 use state::State;
+use steps::Light;
 ghost use mathlib.Core.Path.{_≡_};
 ghost use mathlib.Core.List.{List, []};
 ghost use Prim.Native.Nat.{ℕ, _≤_};
@@ -122,24 +123,60 @@ fn run(
     let mut refused = 0;
     let mut protection = false;
     while taken < bytes.len() {
-        let step = commands::step(here, characters, marks, out, sent, bytes[taken]);
-        if step.exceeds {
-            return Reply {
-                answer: Answer::NoRoom,
-                state: here,
-                taken,
-                sent,
-                stored,
-                refused,
-                protection,
-            };
+        let half = here.half;
+        if reading::takes_text(half, bytes[taken]) {
+            let nothing = sequence::NOTHING_READ;
+            here.half = nothing;
+            let run = commands::text_run(here, characters, marks, bytes, taken);
+            let cursor = run.cursor;
+            here.cursor = cursor;
+            stored += run.end - taken;
+            protection = true;
+            taken = run.end;
+        } else {
+            let read = reading::read(half, bytes, taken);
+            let event = read.event;
+            let before = read.before;
+            let after = read.after;
+            if commands::is_light(event) {
+                here.half = after;
+                taken = read.end;
+                let light = commands::light_step(here, before, event);
+                match light {
+                    Light::Cursor(cursor) => {
+                        here.cursor = cursor;
+                    }
+                    Light::Modes(modes) => {
+                        here.modes = modes;
+                    }
+                    Light::Refused(reason, byte) => {
+                        here = here.refuse(reason, byte);
+                        refused += 1;
+                    }
+                }
+            } else {
+                here.half = before;
+                let next = here.with_half(after);
+                let step = commands::heavy_step(next, here, characters, marks, out, sent, event);
+                if step.exceeds {
+                    return Reply {
+                        answer: Answer::NoRoom,
+                        state: here,
+                        taken: read.end - 1,
+                        sent,
+                        stored,
+                        refused,
+                        protection,
+                    };
+                }
+                here = step.state;
+                taken = read.end;
+                sent += step.sent;
+                stored += step.stored;
+                refused += count_of(step.refused);
+                protection = either(protection, step.protection);
+            }
         }
-        here = step.state;
-        sent += step.sent;
-        stored += step.stored;
-        refused += count_of(step.refused);
-        protection = either(protection, step.protection);
-        taken += 1;
     }
     Reply {
         answer: Answer::Done,

@@ -23,7 +23,7 @@ esc-step-spec =
     (λ c. search needs)
     (λ c. search needs)
     returns
-    (λ c κs. (c .before .before .before .before .before .before .pre .0, c .before .before .if1 .left))
+    (λ c κs. let start = c .before .before .before .before .before .before in (start .pre .0, (start .pre .1 .1, c .before .before .if1 .left)))
     (λ c. search needs)
     (λ c. search needs)
     returns-2)

@@ -1,8 +1,10 @@
 use borrow.Author.Needs.{needs}
 use borrow.Author.Tests.{ne-eqb}
 use Rattle.words.specs.Choice.{if_then_else_}
+use Rattle.words.proofs.Choosing.{neither}
 use Rattle.commands.specs.Commands.{escStep}
 use Rattle.commands.specs.Text.{nextLine}
+use Rattle.commands.specs.Light.{isLight, isLightLetter}
 use Rattle.steps.proofs.Measuring.{measured}
 use Rattle.commands.proofs.Laws.{margin-valid}
 use Rattle.commands.proofs.silent_esc_step.Statement.{statement}
@@ -17,20 +19,22 @@ returns-2 c =
     let moved = c .before .before .before .before .before .before .before in
     rw (c .before .before .before .before .line-down2 .ensures, moved .to-margin .ensures, moved .before .match .keys2)
 
-returns-10 : tie.Need-returns-10
-unfolding escStep if_then_else_
-returns-10 c =
+-- Neither a byte of the table before this line, nor a light one.
+returns-8 : tie.Need-returns-8
+unfolding escStep isLight isLightLetter if_then_else_
+returns-8 c =
     let none = c .before .match .rest in
     let start = c .before .before .before .before in
+    let light = neither (start .pre .1 .0) in
     rw (c .refuse .ensures _)
     (simp (
-      ne-eqb _ _ (none .0 .0 .0 .0 .0 .0 .0 .0 .1),
-      ne-eqb _ _ (none .0 .0 .0 .0 .0 .0 .0 .1),
       ne-eqb _ _ (none .0 .0 .0 .0 .0 .0 .1),
       ne-eqb _ _ (none .0 .0 .0 .0 .0 .1),
       ne-eqb _ _ (none .0 .0 .0 .0 .1),
       ne-eqb _ _ (none .0 .0 .0 .1),
-      ne-eqb _ _ (start .pre .1),
+      light .0,
+      light .1,
+      ne-eqb _ _ (start .pre .1 .1),
       ne-eqb _ _ (none .0 .0 .1),
       ne-eqb _ _ (none .0 .1),
       ne-eqb _ _ (none .1),
@@ -53,12 +57,6 @@ silent-esc-step-spec =
     (λ c κs. search needs)
     (λ c κs. search needs)
     (λ c κs. search needs)
-    (λ c κs. search needs)
-    (λ c κs. search needs)
-    (λ c κs. search needs)
-    (λ c κs. search needs)
-    (λ c κs. search needs)
-    (λ c κs. search needs)
     (λ c. search needs)
     (λ c. search needs)
     (λ c. rw (c .before .before .before .before .line-down .ensures, c .before .before .before .before .before .before .before .match .keys1))
@@ -69,11 +67,9 @@ silent-esc-step-spec =
     (λ c. search needs)
     (λ c. rw (c .before .before .before .before .line-up .ensures, c .before .before .before .before .before .before .before .match .keys3))
     (λ c. rw (c .quiet .ensures _, c .before .set-stop .ensures, c .before .before .match .keys4))
-    (λ c. rw (c .quiet2 .ensures _, c .before .with-pen .ensures, c .before .before .pen-protected .ensures, c .before .before .before .match .keys5))
-    (λ c. rw (c .quiet3 .ensures _, c .before .with-pen2 .ensures, c .before .before .pen-unprotected .ensures, c .before .before .before .match .keys6))
     (λ c. search needs)
     (λ c. search needs)
-    (λ c. rw (c .before .before .before .before .fresh .ensures, c .before .before .before .before .before .before .before .match .keys7))
-    (λ c. rw (c .quiet4 .ensures _, c .before .disable-input .ensures, c .before .before .match .keys8))
-    (λ c. rw (c .quiet5 .ensures _, c .before .enable-input .ensures, c .before .before .match .keys9))
-    returns-10)
+    (λ c. rw (c .before .before .before .before .fresh .ensures, c .before .before .before .before .before .before .before .match .keys5))
+    (λ c. rw (c .quiet2 .ensures _, c .before .disable-input .ensures, c .before .before .match .keys6))
+    (λ c. rw (c .quiet3 .ensures _, c .before .enable-input .ensures, c .before .before .match .keys7))
+    returns-8)

@@ -1,0 +1,136 @@
+// Events that touch neither page nor tab stops nor output: a run of host bytes does them in place, without handing the
+// state around. Which events are light is defined in specs/Light.antt, what they do in specs/Host.antt.
+use sequence::Event;
+use sequence::HalfRead;
+use sequence::Reason;
+use state::State;
+use steps::Light;
+ghost use mathlib.Core.Path.{_≡_};
+ghost use mathlib.Core.Bool.{true};
+ghost use Prim.Native.Nat.{_≤_};
+ghost use Rattle.sequence.specs.declared.Event.the-variants.{Control, EscCommand, BracketCommand};
+ghost use Rattle.page.specs.Page.{Page};
+ghost use Rattle.state.specs.State.{OnPage};
+ghost use Rattle.steps.specs.Light.{lightStep};
+ghost use Rattle.commands.specs.Text.{controlStep};
+ghost use Rattle.commands.specs.Commands.{escStep, bracketStep};
+ghost use Rattle.commands.specs.Host.{FinalInTable, eventStep};
+ghost use Rattle.commands.specs.Light.{isLight, isLightControl, isLightLetter, isLightFinal};
+
+fn is_light_control(code: u8) -> bool
+    ensures { λ r. ⌜ r ≡ isLightControl code ⌝ }
+{
+    match code {
+        0x09 => false,
+        0x0A => false,
+        _ => true,
+    }
+}
+
+fn is_light_letter(letter: u8) -> bool
+    ensures { λ r. ⌜ r ≡ isLightLetter letter ⌝ }
+{
+    match letter {
+        b'V' => true,
+        b'W' => true,
+        _ => false,
+    }
+}
+
+fn is_light_final(letter: u8) -> bool
+    ensures { λ r. ⌜ r ≡ isLightFinal letter ⌝ }
+{
+    if letter < b'A' {
+        return false;
+    }
+    if letter <= b'H' {
+        return true;
+    }
+    match letter {
+        b'd' => true,
+        b'f' => true,
+        b'm' => true,
+        b'h' => true,
+        b'l' => true,
+        _ => false,
+    }
+}
+
+// Whether the event is light.
+pub fn is_light(event: Event) -> bool
+    ensures { λ r. ⌜ r ≡ isLight event ⌝ }
+{
+    match event {
+        Event::Nothing => true,
+        Event::Text(_) => false,
+        Event::Control(code) => is_light_control(code),
+        Event::EscCommand(letter) => is_light_letter(letter),
+        Event::BracketCommand(letter) => is_light_final(letter),
+        Event::Refused(_, _) => true,
+    }
+}
+
+// BS, and CR.
+fn light_control(state: State, code: u8) -> Light
+    requires { ⌜ isLightControl code ≡ true ⌝ }
+    ensures { λ r. ⌜ ((page : Page) →
+        lightStep r (record { state = state; page = page })
+        ≡ controlStep code (record { state = state; page = page })) ⌝ }
+{
+    if code == 0x08 {
+        return steps::moves_to(state.left_by(1));
+    }
+    steps::moves_to(state.to_margin())
+}
+
+// SPA, and EPA.
+fn light_letter(state: State, letter: u8) -> Light
+    requires { ⌜ isLightLetter letter ≡ true ⌝ }
+    ensures { λ r. ⌜ ((page : Page) →
+        lightStep r (record { state = state; page = page })
+        ≡ escStep letter (record { state = state; page = page })) ⌝ }
+{
+    if letter == b'V' {
+        return steps::sets(state.with_pen(state::pen_protected(state.modes.pen)));
+    }
+    steps::sets(state.with_pen(state::pen_unprotected(state.modes.pen)))
+}
+
+// After ESC [; the table is consulted before anything else, and lists each of these.
+fn light_final(state: State, half: HalfRead, letter: u8) -> Light
+    requires { ⌜ OnPage state ⌝ }
+    requires { ⌜ (0x40 ≤ letter) × (letter ≤ 0x7E) × (half .count ≤ 8) × (isLightFinal letter ≡ true) ⌝ }
+    ensures { λ r. ⌜ ((page : Page) →
+        lightStep r (record { state = state; page = page })
+        ≡ bracketStep letter half (record { state = state; page = page })) ⌝ }
+{
+    let arguments = half.arguments;
+    let count = half.count;
+    if table::most_arguments(letter) < count {
+        return Light::Refused(Reason::WrongArguments, letter);
+    }
+    match letter {
+        b'm' => table::settings::rendition(state, letter, arguments, count as usize), // SGR
+        b'h' => table::settings::set_mode(state, letter, true, arguments, count as usize), // SM
+        b'l' => table::settings::set_mode(state, letter, false, arguments, count as usize), // RM
+        _ => table::moves::move_command(state, letter, arguments),
+    }
+}
+
+// What a light event does. `half` is the half-read record before its byte, which has a command's arguments.
+pub fn light_step(state: State, half: HalfRead, event: Event) -> Light
+    requires { ⌜ OnPage state ⌝ }
+    requires { ⌜ FinalInTable event × (half .count ≤ 8) × (isLight event ≡ true) ⌝ }
+    ensures { λ r. ⌜ ((page : Page) →
+        lightStep r (record { state = state; page = page })
+        ≡ eventStep half event (record { state = state; page = page })) ⌝ }
+{
+    match event {
+        Event::Nothing => steps::moves_to(state),
+        Event::Text(_) => steps::moves_to(state), // does not come here
+        Event::Control(code) => light_control(state, code),
+        Event::EscCommand(letter) => light_letter(state, letter),
+        Event::BracketCommand(letter) => light_final(state, half, letter),
+        Event::Refused(reason, byte) => Light::Refused(reason, byte),
+    }
+}
