@@ -2,7 +2,7 @@
 use mathlib.Core.Path.{_≡_, refl, sym, ap, _∙_}
 use mathlib.Core.Bool.{Bool, true, false}
 use Prim.Native.Nat.{ℕ, zero, suc, _+_, _-_, _*_, _<_, _≤_, max}
-use native.Mathlib.Nat.{suc-mul, zero-mul}
+use native.Mathlib.Nat.{mul-le-mul-right, suc-mul, zero-mul}
 use native.Mathlib.Numerals.{add-one, sub-one}
 use native.Mathlib.Omega.{arith}
 use lib.Arith.{digits-div, digits-mod}
@@ -165,17 +165,24 @@ below-largest : (bound : Most) → NotAbove bound largest → mostAfter false bo
 unfolding mostAfter largest if_then_else_
 below-largest bound h = h .protected-case
 
-pub bounded : (full : Bool) (rows columns : ℕ) (page : Page) → rows ≤ 48 → columns ≤ 160 → cells page ≡ rows * columns
-    → length (block full columns page) ≤ 35138
+-- A page need not end at a row's end.
+pub bounded-within : (full : Bool) (columns : ℕ) (page : Page) → columns ≤ 160 → cells page ≤ 48 * columns → length (block full columns page) ≤ 35138
 unfolding unprotectedBefore
-bounded full rows columns page few narrow size =
+bounded-within full columns page narrow within =
     let isUnprotected = unprotected (page .marks) in
     let wider : columns + (160 - columns) ≡ 160 = omega arith in
-    let more : rows + (48 - rows) ≡ 48 = omega arith in
     let first : 0 * columns ≡ 0 = zero-mul columns in
-    let sum : total (weight isUnprotected columns) 0 (rows * columns) ≤ mostAfter false (mostOfRows columns 0 rows) = rw first at (rows-from isUnprotected columns rows 0) in
-    let bound : NotAbove (mostOfRows columns 0 rows) largest = rw (wider, more, largest-is) at (more-rows columns (160 - columns) rows (48 - rows) 0) in
-    omega (arith, no-longer full columns page, rw size at (block-length columns page), below-largest _ bound)
+    let all : cells page + (48 * columns - cells page) ≡ 48 * columns = omega arith in
+    let sum : total (weight isUnprotected columns) 0 (48 * columns) ≤ mostAfter false (mostOfRows columns 0 48) = rw first at (rows-from isUnprotected columns 48 0) in
+    let bound : NotAbove (mostOfRows columns 0 48) largest = rw (wider, largest-is) at (more-rows columns (160 - columns) 48 0 0) in
+    let rest = rw all at (total-append (weight isUnprotected columns) 0 (cells page) (48 * columns - cells page)) in
+    omega (arith, no-longer full columns page, block-length columns page, below-largest _ bound, rest)
+
+pub bounded : (full : Bool) (rows columns : ℕ) (page : Page) → rows ≤ 48 → columns ≤ 160 → cells page ≡ rows * columns
+    → length (block full columns page) ≤ 35138
+bounded full rows columns page few narrow size =
+    let within : cells page ≤ 48 * columns = omega (arith, size, mul-le-mul-right columns few) in
+    bounded-within full columns page narrow within
 
 -- The block of a blank form, by the cells that are to be unprotected.
 module _ (isUnprotected : ℕ → Bool) (cells : ℕ) where

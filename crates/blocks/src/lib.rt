@@ -1,10 +1,11 @@
-// The block that is sent to the host: first its length, then, only if there is room, its bytes.
+// The block that is sent to the host, if there is room: its length is worked out first only where the room might be little.
 // Its bytes are defined in specs/Blocks.antt.
 use page::Mark;
 use places::Place;
 ghost use mathlib.Core.Path.{_≡_};
 ghost use mathlib.Core.List.{List};
 ghost use Prim.Native.Nat.{ℕ, _+_, _-_, _*_, _<_, _≤_};
+ghost use lib.Dec.{leb};
 ghost use lib.ListN.{length, take, drop};
 ghost use Rattle.words.specs.Output.{Wrote};
 ghost use Rattle.page.specs.Page.{pageOf};
@@ -92,6 +93,21 @@ pub fn block_length(marks: &[Mark], columns: usize, full: bool) -> usize
     total
 }
 
+// As many bytes as no block exceeds (`longest-block`).
+const LONGEST: usize = 35138;
+
+// Whether the block has no more bytes than the room.
+fn fits(marks: &[Mark], columns: usize, full: bool, room: usize) -> bool
+    requires { ⌜ (0 < columns) × (columns ≤ 160) × (length (now marks) ≤ 48 * columns) ⌝ }
+    ensures { λ r. ⌜ ((characters : List ℕ) → length characters ≡ length (now (marks .entry)) →
+        r ≡ leb (length (block full columns (pageOf characters (now (marks .entry))))) room) ⌝ }
+{
+    if LONGEST <= room {
+        return true;
+    }
+    block_length(marks, columns, full) <= room
+}
+
 // What the block has for a cell, written.
 fn put_at(
     out: &mut [u8],
@@ -162,11 +178,11 @@ pub fn write_block(
     ensures { λ r. ⌜ record { answer = r; marks = now (marks .exit); output = now (out .exit) }
         ≡ writingBlock full columns (pageOf (now (characters .entry)) (now (marks .entry))) at (now (out .entry)) ⌝ }
 {
-    let length = block_length(marks, columns, full);
-    if out.len() - at < length {
+    let room = out.len() - at;
+    if !fits(marks, columns, full, room) {
         return BlockResult::NoRoom;
     }
-    put_block(out, at, characters, marks, columns, full);
+    let end = put_block(out, at, characters, marks, columns, full);
     page::clear_modified(marks);
-    BlockResult::Bytes(length)
+    BlockResult::Bytes(end - at)
 }
