@@ -1,4 +1,4 @@
-// The block that is sent to the host, if there is room: its length is worked out first only where the room might be little.
+// The block that is sent to the host, if there is room: its length is worked out first where there might be too little.
 // Its bytes are defined in specs/Blocks.antt.
 use page::Mark;
 use places::Place;

@@ -9,7 +9,7 @@ use Rattle.words.specs.Choice.{if_then_else_, _and_, _or_, _is_to_}
 use Rattle.words.proofs.Choosing.{true-is-not-false, either-way, neither, refuted, second-decides}
 use Rattle.table.specs.Table.{allowed}
 use Rattle.table.specs.Moves.{isMove, isPlainMove}
-use Rattle.table.proofs.Tables.{allFrom, in-range}
+use Rattle.table.proofs.Ranges.{allFrom, in-range}
 use Rattle.commands.specs.Light.{isLightControl, isLightLetter, isLightFinal}
 
 -- Of the control bytes HT and LF are not light.

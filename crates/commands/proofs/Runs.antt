@@ -7,12 +7,11 @@ use native.Mathlib.Numerals.{add-one}
 use native.Mathlib.Omega.{arith}
 use borrow.Author.Tests.{le-ltb, leb-true, eq-eqb, eqb-true}
 use lib.Dec.{ltb, eqb}
-use lib.ListN.{length, drop, getD, replicate, length-set, length-drop, drop-of-length-le}
+use lib.ListN.{length, drop, getD, replicate, length-set, drop-of-length-le}
 use lib.Seq.{drop-cons}
 use Rattle.words.specs.Choice.{_is_to_}
 use Rattle.words.proofs.Choosing.{then-case, else-case, either-line, either-way, less-or-not, both}
 use Rattle.sequence.specs.declared.HalfRead.{HalfRead}
-use Rattle.sequence.specs.declared.Reason.{Reason}
 use Rattle.sequence.specs.Record.{nothingRead, largestArgument, argumentsFit, validHalfRead}
 use Rattle.sequence.specs.declared.Advanced.{Advanced}
 use Rattle.sequence.specs.declared.Event.the-variants.{Text}
@@ -20,15 +19,13 @@ use Rattle.sequence.specs.Reading.{ends, outsideSequence, advanceOf}
 use Rattle.sequence.proofs.Events.{Tells, event-tells}
 use Rattle.sequence.proofs.Keeping.{eight-at-most}
 use Rattle.page.specs.Page.{Page, textStored}
-use Rattle.state.specs.declared.Cursor.{Cursor}
-use Rattle.state.specs.declared.Modes.{Modes}
 use Rattle.state.specs.declared.State.{State}
-use Rattle.state.specs.State.{withCursor, withModes, withHalf}
+use Rattle.state.specs.State.{withCursor, withHalf}
 use Rattle.state.specs.Moves.{toNextCell}
 use Rattle.state.proofs.Keeping.{parts}
 use Rattle.steps.specs.declared.Light.{Light}
 use Rattle.steps.specs.declared.Light.the-variants.{Cursor as Moved, Modes as Set, Refused}
-use Rattle.steps.specs.Steps.{Terminal, silent, withState, goesTo, refusing, cursorCell, Valid}
+use Rattle.steps.specs.Steps.{Terminal, silent, cursorCell, Valid}
 use Rattle.steps.specs.Light.{lightStep}
 use Rattle.commands.specs.Text.{textStep, textLength, afterText}
 use Rattle.commands.specs.declared.texts.TextRun.{TextRun}
@@ -72,10 +69,6 @@ module _ (byte : ℕ) (t : Terminal) where
   pub text-not-refused : textStep byte t .wasRefused ≡ false
   unfolding textStep
   text-not-refused = refl
-
-  pub text-may-protect : textStep byte t .protection ≡ true
-  unfolding textStep
-  text-may-protect = refl
 
 -- A valid record in which nothing is half read has nothing in it: arguments that aren't reached are 0.
 largest-none : (i : ℕ) → largestArgument i 0 ≡ 0
@@ -153,12 +146,6 @@ length-fits [] = omega arith
 length-fits (byte ∷ later) =
     let further = length-fits later in
     either-line (λ (n : ℕ). n ≤ suc (length later)) (byte is 0x20 to 0x7E) (textLength later + 1) 0 (λ _. omega (arith, further)) (λ _. omega arith)
-
-pub run-inside : (bytes : List ℕ) (at : ℕ) → at ≤ length bytes → at + textLength (drop at bytes) ≤ length bytes
-run-inside bytes at inside =
-    let fits = length-fits (drop at bytes) in
-    let left = length-drop at bytes in
-    omega (arith, fits, left)
 
 pub run-goes-on : (bytes : List ℕ) (at : ℕ) → at < length bytes → (getD bytes at 0 is 0x20 to 0x7E) ≡ true → at < at + textLength (drop at bytes)
 run-goes-on bytes at here text = let some = length-goes-on bytes at here text in omega (arith, some)
@@ -271,31 +258,8 @@ final-in-table half byte advanced told final gives =
 pub eight-arguments : (t : Terminal) → Valid t → t .state .half .count ≤ 8
 eight-arguments t valid = eight-at-most (t .state .half) (parts (t .state) (valid .state) .half)
 
--- A light event's step is the byte's, on the terminal whose half-read record is advanced.
-pub light-is-host-step : (byte : ℕ) (t : Terminal) (advanced : Advanced) (next : State) → advanced ≡ advanceOf (t .state .half) byte → next ≡ withHalf (t .state) (advanced .half) → (light : Light) → lightStep light (withState t next) ≡ eventStep (t .state .half) (advanced .event) (withState t next) → hostStep byte t ≡ lightStep light (withState t next)
-light-is-host-step byte t advanced next told goes light does = host-is t byte advanced next told goes (advanced .event) refl ∙ sym does
-
--- A light step is that of its variant.
+-- Whichever a light step is, it sends nothing, names no cell, and leaves protection.
 module _ (t : Terminal) where
-  pub cursor-step : (cursor : Cursor) → lightStep (Moved cursor) t ≡ goesTo (withCursor (t .state) cursor) t
-  unfolding lightStep
-  cursor-step cursor = refl
-
-  pub modes-step : (modes : Modes) → lightStep (Set modes) t ≡ goesTo (withModes (t .state) modes) t
-  unfolding lightStep
-  modes-step modes = refl
-
-  pub refused-step : (reason : Reason) (byte : ℕ) → lightStep (Refused reason byte) t ≡ refusing reason byte t
-  unfolding lightStep
-  refused-step reason byte = refl
-
-  -- Whichever it is, it leaves the page, sends nothing, names no cell, and leaves protection.
-  pub light-keeps-page : (light : Light) → lightStep light t .terminal .page ≡ t .page
-  unfolding lightStep
-  light-keeps-page (Moved cursor) = refl
-  light-keeps-page (Set modes) = refl
-  light-keeps-page (Refused reason byte) = refl
-
   pub light-sends-nothing : (light : Light) → lightStep light t .transmission ≡ silent
   unfolding lightStep
   light-sends-nothing (Moved cursor) = refl

@@ -1,21 +1,19 @@
 -- A turn of reading on, and its end.
-use mathlib.Core.Path.{_≡_, refl, sym, ap, _∙_}
-use mathlib.Core.Bool.{Bool, true, false}
-use mathlib.Core.List.{List, [], _∷_}
+use mathlib.Core.Path.{_≡_, _∙_}
+use mathlib.Core.Bool.{true, false}
+use mathlib.Core.List.{List, []}
 use Prim.Native.Nat.{ℕ, _+_, _-_, _*_, _<_, _≤_}
 use native.Mathlib.Omega.{arith}
-use borrow.Author.Tests.{lt-ltb, le-ltb, le-leb, lt-leb, eq-eqb, ne-eqb}
-use lib.Dec.{leb, eqb, ltb}
-use lib.ListN.{length, getD, drop, set, replicate, drop-of-length-le}
+use borrow.Author.Tests.{le-ltb, lt-leb, eq-eqb, ne-eqb}
+use lib.Dec.{leb}
+use lib.ListN.{length, getD, drop, set, drop-of-length-le}
 use Rattle.words.specs.Choice.{if_then_else_, _is_to_, _and_, _or_}
 use Rattle.words.proofs.Choosing.{then-case, else-case, less-or-not, second-decides, range-is, refuted, range-holds}
 use Rattle.words.proofs.Walking.{next-element}
 use Rattle.sequence.specs.declared.HalfRead.{HalfRead}
-use Rattle.sequence.specs.declared.Event.{Event}
-use Rattle.sequence.specs.declared.Event.the-variants.{Nothing, EscCommand, BracketCommand}
+use Rattle.sequence.specs.declared.Event.the-variants.{EscCommand, BracketCommand}
 use Rattle.sequence.specs.Record.{nothingRead, escRead, bracketRead, withDigit, withNextArgument}
 use Rattle.sequence.specs.Reading.{advanceOf, insideSequence, outsideSequence, afterEsc, afterBracket, isCancel, isControl, readsOn, ends}
-use Rattle.reading.specs.declared.Reading.{Reading}
 use Rattle.reading.specs.Ahead.{isNothing, readTo, readFrom}
 
 -- at a place that is the last

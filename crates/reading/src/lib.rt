@@ -47,7 +47,7 @@ fn is_nothing(event: Event) -> bool
 pub fn takes_text(half: HalfRead, byte: u8) -> bool
     ensures { λ r. ⌜ r ≡ (eqb (half .kind) 0 and byte is 0x20 to 0x7E) ⌝ }
 {
-    if half.kind == sequence::NONE {
+    if half.kind == sequence::NONE { // else it belongs to a sequence
         return sequence::is_text(byte);
     }
     false

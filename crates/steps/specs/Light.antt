@@ -1,5 +1,4 @@
 -- A light step: the cursor moves, pen or mode is set, or a command is refused.
-use Prim.Native.Nat.{ℕ}
 use Rattle.state.specs.State.{withCursor, withModes}
 use Rattle.steps.specs.declared.Light.{Light}
 use Rattle.steps.specs.declared.Light.the-variants.{Cursor, Modes, Refused}

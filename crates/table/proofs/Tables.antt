@@ -1,26 +1,34 @@
--- A rule that holds for each of so many numbers: antt computes the test of all, and the law says it of one.
-use mathlib.Core.Path.{_≡_, sym, ap, _∙_}
-use mathlib.Core.Bool.{Bool, true, false}
+-- Tables of digits that follow a rule: antt computes `digitsOf`, and compares it with a table of the code digit by
+-- digit.
+use mathlib.Core.Path.{_≡_, ap, _∙_}
+use mathlib.Core.List.{List, [], _∷_}
 use Prim.Native.Nat.{ℕ, zero, suc, _+_, _-_, _<_, _≤_}
 use native.Mathlib.Nat.{add-zero}
 use native.Mathlib.Omega.{arith}
-use Rattle.words.specs.Choice.{_and_, _or_}
-use Rattle.words.proofs.Choosing.{both}
+use lib.ListN.{getD}
 
-unfoldable pub allFrom : (ℕ → Bool) → ℕ → ℕ → Bool
-allFrom test least zero = true
-allFrom test least (suc more) = test least and allFrom test (least + 1) more
+-- What a rule gives for so many numbers, from the least on, as digits.
+unfoldable pub digitsOf : (ℕ → ℕ) → ℕ → ℕ → List ℕ
+digitsOf rule least zero = []
+digitsOf rule least (suc more) = (0x30 + rule least) ∷ digitsOf rule (least + 1) more
 
-module _ (test : ℕ → Bool) where
-  at-place : (least size place : ℕ) → allFrom test least size ≡ true → place < size → test (least + place) ≡ true
-  unfolding allFrom
-  at-place least zero place all h = absurd (omega arith)
-  at-place least (suc more) zero all h = ap test (add-zero least) ∙ both all .0
-  at-place least (suc more) (suc place) all h =
+module _ (rule : ℕ → ℕ) where
+  at-place : (least size place : ℕ) → place < size → getD (digitsOf rule least size) place 0 ≡ 0x30 + rule (least + place)
+  unfolding digitsOf
+  at-place least zero place h = absurd (omega arith)
+  at-place least (suc more) zero h = rw (add-zero least)
+  at-place least (suc more) (suc place) h =
       let same : least + 1 + place ≡ least + suc place = omega arith in
-      sym (ap test same) ∙ at-place (least + 1) more place (both all .1) (omega arith)
+      at-place (least + 1) more place (omega arith) ∙ ap (λ (n : ℕ). 0x30 + rule n) same
 
-  pub in-range : (least size n : ℕ) → allFrom test least size ≡ true → least ≤ n → n < least + size → test n ≡ true
-  in-range least size n all low high =
-      let same : least + (n - least) ≡ n = omega arith in
-      sym (ap test same) ∙ at-place least size (n - least) all (omega arith)
+  module _ (least size n : ℕ) (h : least ≤ n) (l : n < least + size) where
+    entry : getD (digitsOf rule least size) (n - least) 0 ≡ 0x30 + rule n
+    entry =
+        let same : least + (n - least) ≡ n = omega arith in
+        at-place least size (n - least) (omega arith) ∙ ap (λ (n : ℕ). 0x30 + rule n) same
+
+    pub is-digit : 0x30 ≤ getD (digitsOf rule least size) (n - least) 0
+    is-digit = omega (arith, entry)
+
+    pub digit-is : getD (digitsOf rule least size) (n - least) 0 - 0x30 ≡ rule n
+    digit-is = omega (arith, entry)

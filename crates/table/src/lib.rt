@@ -7,45 +7,31 @@ ghost use Rattle.table.specs.Table.{allowed, valueOf};
 pub mod moves;
 pub mod settings;
 
-// How many arguments a command may have at most, by its final byte (`letter` in the code, as `final` is a word of the
-// language); 0 is for one that isn't listed. Document 01's table is consulted here alone.
+// A digit for each final byte, 40 to 7E (`letter` in the code, as `final` is a word of the language).
+// How many arguments a command may have at most; 0 is for one that isn't listed.
+//                        @ABCDEFGHIJKLMNOPQRSTUVWXYZ[\]^_`abcdefghijklmnopqrstuvwxyz{|}~
+const MOST: [u8; 63] = *b"011111112111000000000001001000000000102080008810000000000000000";
+
+// What an argument of 0 stands for.
+//                           @ABCDEFGHIJKLMNOPQRSTUVWXYZ[\]^_`abcdefghijklmnopqrstuvwxyz{|}~
+const ZERO_IS: [u8; 63] = *b"011111111100000000000000001000000000101000000000000000000000000";
+
+// How many arguments a command may have at most: document 01's table, consulted here alone.
 pub fn most_arguments(letter: u8) -> u8
     requires { ⌜ (0x40 ≤ letter) × (letter ≤ 0x7E) ⌝ }
     ensures { λ r. ⌜ r ≡ allowed letter .most ⌝ }
 {
-    match letter {
-        b'A' => 1,
-        b'B' => 1,
-        b'C' => 1,
-        b'D' => 1,
-        b'E' => 1,
-        b'F' => 1,
-        b'G' => 1,
-        b'H' => 2,
-        b'I' => 1,
-        b'J' => 1,
-        b'K' => 1,
-        b'W' => 1,
-        b'Z' => 1,
-        b'd' => 1,
-        b'f' => 2,
-        b'h' => 8,
-        b'l' => 8,
-        b'm' => 8,
-        b'n' => 1,
-        _ => 0,
-    }
+    let at = (letter - b'@') as usize;
+    MOST[at] - b'0'
 }
 
-// What an argument of 0 stands for: 1 for the moves.
+// What an argument of 0 stands for.
 fn zero_is(letter: u8) -> u8
     requires { ⌜ (0x40 ≤ letter) × (letter ≤ 0x7E) ⌝ }
     ensures { λ r. ⌜ r ≡ allowed letter .zeroIs ⌝ }
 {
-    if moves::is_move(letter) {
-        return 1;
-    }
-    0
+    let at = (letter - b'@') as usize;
+    ZERO_IS[at] - b'0'
 }
 
 // The value of an argument, counted from 0.

@@ -9,12 +9,13 @@ ghost use Prim.Native.Nat.{_≤_};
 ghost use Rattle.page.specs.Page.{Page};
 ghost use Rattle.state.specs.State.{OnPage};
 ghost use Rattle.steps.specs.Light.{lightStep};
-ghost use Rattle.table.specs.Moves.{isMove, isPlainMove, moveStep, toColumn, toRow, toPlace, keptColumn};
+ghost use Rattle.table.specs.Moves.{isPlainMove, moveStep, toColumn, toRow, toPlace, keptColumn};
 
 // CHA: past the last column it is ignored.
 fn to_column(state: State, column: usize) -> Light
     ensures { λ r. ⌜ ((page : Page) →
-        lightStep r (record { state = state; page = page }) ≡ toColumn column (record { state = state; page = page })) ⌝ }
+        lightStep r (record { state = state; page = page })
+        ≡ toColumn column (record { state = state; page = page })) ⌝ }
 {
     if column <= state.size.columns {
         return Light::Cursor(Cursor {
@@ -66,24 +67,6 @@ fn kept_column(row: u16, given: u16, column: usize, present: usize) -> usize
         return column;
     }
     column
-}
-
-// Whether a final byte is that of a command that only moves the cursor: A to I, Z, d or f.
-pub fn is_move(letter: u8) -> bool
-    ensures { λ r. ⌜ r ≡ isMove letter ⌝ }
-{
-    if letter < b'A' {
-        return false;
-    }
-    if letter <= b'I' {
-        return true;
-    }
-    match letter {
-        b'Z' => true,
-        b'd' => true,
-        b'f' => true,
-        _ => false,
-    }
 }
 
 // After ESC [, the moves that look at no tab stop: A to H, d and f.

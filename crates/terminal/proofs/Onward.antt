@@ -1,14 +1,13 @@
 -- A call on its way, over steps that send nothing: bytes that are read on, light steps, a run of text.
 use mathlib.Core.Path.{_≡_, refl, sym, ap, _∙_, subst}
 use mathlib.Core.Bool.{Bool, true, false}
-use mathlib.Core.List.{List, [], _∷_}
+use mathlib.Core.List.{List, []}
 use Prim.Native.Nat.{ℕ, zero, suc, _+_, _-_, _<_, _≤_}
 use native.Mathlib.Omega.{arith}
 use borrow.Author.Tests.{eq-eqb}
-use lib.ListN.{length, drop, getD, drop-of-length-le}
-use Rattle.words.specs.Choice.{if_then_else_, _or_, _is_to_}
-use Rattle.words.proofs.Choosing.{true-is-not-false, either-way, less-or-not, then-case, else-case}
-use Rattle.words.proofs.Walking.{next-element}
+use lib.ListN.{length, drop, getD}
+use Rattle.words.specs.Choice.{_or_, _is_to_}
+use Rattle.words.proofs.Choosing.{true-is-not-false, either-way, less-or-not, then-case}
 use Rattle.sequence.specs.declared.HalfRead.{HalfRead}
 use Rattle.sequence.specs.declared.Advanced.{Advanced}
 use Rattle.sequence.specs.declared.Event.{Event}
@@ -23,7 +22,7 @@ use Rattle.state.specs.declared.State.{State}
 use Rattle.state.specs.State.{withHalf}
 use Rattle.steps.specs.declared.Step.{Step}
 use Rattle.steps.specs.Told.{told, written}
-use Rattle.steps.specs.Steps.{Terminal, Stepped, Valid, bytesOf, withState}
+use Rattle.steps.specs.Steps.{Terminal, Valid, bytesOf, withState}
 use Rattle.steps.specs.declared.Light.{Light}
 use Rattle.steps.specs.declared.Light.the-variants as light
 use Rattle.steps.specs.Light.{lightStep}

@@ -1,23 +1,16 @@
-use mathlib.Core.Path.{_≡_, refl, sym, ap, _∙_}
-use mathlib.Core.Bool.{Bool, true, false}
-use mathlib.Core.List.{List, [], _∷_, _++_}
+use mathlib.Core.Path.{_≡_, refl, sym, _∙_}
+use mathlib.Core.List.{List, []}
 use Prim.Native.Nat.{ℕ, _+_, _-_, _<_, _≤_}
 use native.Mathlib.Omega.{arith}
 use borrow.Author.Needs.{needs}
-use lib.ListN.{length, take, drop, getD, set}
-use borrow.Author.Tests.{not-true, not-false}
+use lib.ListN.{length, drop}
 use lib.ListN.{length-set}
-use Rattle.words.specs.Choice.{_is_to_}
 use Rattle.words.proofs.Choosing.{true-is-not-false}
 use Rattle.sequence.specs.Record.{bracketRead}
 use Rattle.reading.specs.Ahead.{isNothing, readFrom}
 use Rattle.reading.proofs.Laws.{openSequence, over-digit, over-semicolon, to-final}
 use Rattle.reading.proofs.read_arguments.Statement.{statement}
 use Rattle.reading.proofs.read_arguments.Tie as tie
-use Rattle.reading.proofs.read_arguments.Reads as reads
-use Rattle.reading.proofs.read_arguments.Lts as lts
-use Rattle.reading.proofs.with_digit.Reads as with-digit-reads
-use Rattle.sequence.proofs.is_between.Reads as is-between-reads
 
 abbrev Inv-loop : tie.InvT-loop
 Inv-loop bytes from arguments₀ last₀ at₀ arguments last at =

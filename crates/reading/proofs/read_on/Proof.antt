@@ -1,10 +1,10 @@
-use mathlib.Core.Path.{_≡_, refl, sym, ap, _∙_}
-use mathlib.Core.Bool.{Bool, true, false}
-use mathlib.Core.List.{List, [], _∷_, _++_}
-use Prim.Native.Nat.{ℕ, _+_, _-_, _<_, _≤_}
+use mathlib.Core.Path.{_≡_, sym, ap, _∙_}
+use mathlib.Core.Bool.{true}
+use mathlib.Core.List.{List, []}
+use Prim.Native.Nat.{ℕ, _+_, _-_, _<_}
 use native.Mathlib.Omega.{arith}
 use borrow.Author.Needs.{needs}
-use lib.ListN.{length, take, drop, getD, set}
+use lib.ListN.{length, drop}
 use Rattle.sequence.specs.Record.{validHalfRead}
 use Rattle.sequence.proofs.Keeping.{advance-keeps}
 use Rattle.sequence.specs.declared.Advanced.{Advanced}
@@ -13,10 +13,6 @@ use borrow.Author.Tests.{not-true, not-false}
 use Rattle.reading.proofs.Laws.{reads-on, reads-to, reads-last}
 use Rattle.reading.proofs.read_on.Statement.{statement}
 use Rattle.reading.proofs.read_on.Tie as tie
-use Rattle.reading.proofs.read_on.Reads as reads
-use Rattle.reading.proofs.read_on.Lts as lts
-use Rattle.reading.proofs.is_nothing.Reads as is-nothing-reads
-use Rattle.sequence.proofs.HalfRead.advance.Reads as advance-reads
 
 abbrev Inv-loop : tie.InvT-loop
 Inv-loop bytes from here₀ at₀ here at =

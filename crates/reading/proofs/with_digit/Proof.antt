@@ -1,15 +1,9 @@
-use mathlib.Core.Path.{_≡_, refl, sym, ap, _∙_}
-use mathlib.Core.Bool.{Bool, true, false}
-use mathlib.Core.List.{List, [], _∷_, _++_}
-use Prim.Native.Nat.{ℕ, _+_, _-_, _<_, _≤_}
+use mathlib.Core.List.{[]}
 use native.Mathlib.Omega.{arith}
 use borrow.Author.Needs.{needs}
-use lib.ListN.{length, take, drop, getD, set}
 use Rattle.words.proofs.Choosing.{range-holds}
 use Rattle.reading.proofs.with_digit.Statement.{statement}
 use Rattle.reading.proofs.with_digit.Tie as tie
-use Rattle.reading.proofs.with_digit.Reads as reads
-use Rattle.reading.proofs.with_digit.Lts as lts
 
 -- src/lib.rt:94:5
 mul-result : tie.Need-mul-result

@@ -1,5 +1,4 @@
-use mathlib.Core.Path.{_≡_, refl, sym, ap, _∙_}
-use mathlib.Core.Bool.{true}
+use mathlib.Core.Path.{_≡_, refl, sym, _∙_}
 use Prim.Native.Nat.{_+_, _-_}
 use native.Mathlib.Omega.{arith}
 use borrow.Author.Needs.{needs}
@@ -10,8 +9,6 @@ use Rattle.page.specs.Page.{pageOf}
 use Rattle.state.specs.State.{refused}
 use Rattle.state.proofs.Keeping.{parts, half-keeps-valid}
 use Rattle.sequence.proofs.Keeping.{nothing-valid}
-use Rattle.steps.specs.Steps.{Terminal}
-use Rattle.steps.specs.declared.Light.{Light}
 use Rattle.steps.specs.Light.{lightStep}
 use Rattle.steps.proofs.Measuring.{measured}
 use Rattle.terminal.specs.Runs.{countOf}

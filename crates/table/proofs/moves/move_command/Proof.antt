@@ -1,5 +1,5 @@
 use mathlib.Core.Path.{_≡_, refl, sym, ap, _∙_}
-use mathlib.Core.Bool.{Bool, true, false, not}
+use mathlib.Core.Bool.{Bool, true, not}
 use Prim.Native.Nat.{ℕ}
 use native.Mathlib.Omega.{arith}
 use borrow.Author.Needs.{needs}
@@ -10,7 +10,7 @@ use Rattle.words.proofs.Choosing.{second-decides}
 use Rattle.state.specs.Moves.{upBy, downBy, rightBy, leftBy, toMargin}
 use Rattle.steps.specs.Light.{lightStep}
 use Rattle.table.specs.Moves.{isPlainMove, moveStep}
-use Rattle.table.proofs.Tables.{allFrom, in-range}
+use Rattle.table.proofs.Ranges.{allFrom, in-range}
 use Rattle.table.proofs.moves.move_command.Statement.{statement}
 use Rattle.table.proofs.moves.move_command.Tie as tie
 
