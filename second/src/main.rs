@@ -1,6 +1,7 @@
 //! A second terminal after document 01, M-101 and M-102, to be compared byte for byte with another.
 
 mod compare;
+mod feed;
 mod frames;
 mod generate;
 mod generate_calls;
@@ -23,6 +24,7 @@ const USAGE: &str = "usage: second [--wrong N] COMMAND
   compare MODE PROGRAM.. -- SEED_FROM SEED_COUNT FRAMES
   sweep PROGRAM..                                   its `calls`, with damage everywhere and every byte in turn
   rooms PROGRAM..                                   its `calls`, at every room up to a message's length
+  stream FILE ROWS COLUMNS CALL BYTES               that many of the file's bytes, in calls of one length, timed
   teeth SEED_FROM SEED_COUNT FRAMES";
 
 fn number(text: &str) -> Result<u64, String> {
@@ -65,6 +67,13 @@ fn run(arguments: &[String]) -> Result<bool, String> {
         }
         ["sweep", _, ..] => compare::sweep(&arguments[1..]),
         ["rooms", _, ..] => rooms::rooms(&arguments[1..]),
+        ["stream", file, rows, columns, call, bytes] => {
+            let [rows, columns] =
+                [number(rows)?, number(columns)?].map(|n| u16::try_from(n).unwrap_or(0));
+            let told =
+                feed::stream(file, rows, columns, number(call)? as usize, number(bytes)? as usize)?;
+            print(told.as_bytes())
+        }
         ["teeth", from, count, frames] => {
             Ok(teeth::teeth(number(from)?, number(count)?, number(frames)? as usize))
         }

@@ -1,0 +1,180 @@
+/* Runs a terminal, ours or plain C, over a stream or keys, and prints what is left and how long it took:
+
+   drive PROGRAM stream FILE ROWS COLUMNS CALL BYTES    the first bytes of the file in calls of this many
+   drive PROGRAM keys WHAT PAGE ROWS COLUMNS COUNT      WHAT: typed, next, previous, changed, full, none
+                                                        PAGE: form (60 fields), densest (every second cell is one)
+
+   What is left, the digest, is the same for every program that follows the papers, to the last bit of the half-read
+   sequence. `keys none` does all but press a key: what it costs is taken off by whoever measures keys. */
+#include "programs.h"
+
+#include <stdio.h>
+#include <stdlib.h>
+#include <string.h>
+#include <time.h>
+
+static void fail(const char *what)
+{
+    fprintf(stderr, "drive: %s\n", what);
+    exit(2);
+}
+
+static size_t number(const char *text)
+{
+    char *end;
+    unsigned long value = strtoul(text, &end, 10);
+    if (*text == 0 || *end != 0)
+        fail("not a number");
+    return value;
+}
+
+static double seconds(void)
+{
+    struct timespec now;
+    clock_gettime(CLOCK_MONOTONIC, &now);
+    return (double)now.tv_sec + (double)now.tv_nsec / 1e9;
+}
+
+/* FNV-1a */
+static uint64_t digested(uint64_t digest, const uint8_t *bytes, size_t length)
+{
+    for (size_t i = 0; i < length; i++)
+        digest = (digest ^ bytes[i]) * 0x100000001B3u;
+    return digest;
+}
+
+static void print_left(const struct program *program, size_t rows, size_t columns, const struct told *told,
+                       const uint8_t *sent, size_t sent_length)
+{
+    static struct snapshot left;
+    const uint8_t *record = left.record;
+    uint64_t digest = 0xCBF29CE484222325u;
+    program->get(&left);
+    digest = digested(digest, record, sizeof left.record);
+    digest = digested(digest, left.characters, rows * columns);
+    digest = digested(digest, left.marks, rows * columns);
+    digest = digested(digest, sent, sent_length);
+    printf("digest %016llx cursor %u;%u message %u byte %02X sent %llu stored %llu\n", (unsigned long long)digest,
+           (unsigned)panel_two_bytes(record + PANEL_RECORD_ROW),
+           (unsigned)panel_two_bytes(record + PANEL_RECORD_COLUMN),
+           (unsigned)record[PANEL_RECORD_MESSAGE], (unsigned)record[PANEL_RECORD_BYTE],
+           (unsigned long long)told->sent, (unsigned long long)told->stored);
+}
+
+/* -- streams */
+
+/* The whole file, whatever part is used: two runs over different parts then differ by the terminal's work alone. */
+static uint8_t *contents(const char *name, size_t *length)
+{
+    FILE *file = fopen(name, "rb");
+    if (!file || fseek(file, 0, SEEK_END) != 0)
+        fail("no such stream");
+    *length = (size_t)ftell(file);
+    rewind(file);
+    uint8_t *bytes = malloc(*length + 1);
+    if (!bytes || fread(bytes, 1, *length, file) != *length)
+        fail("cannot read the stream");
+    fclose(file);
+    return bytes;
+}
+
+static void run_stream(const struct program *program, char **words)
+{
+    size_t rows = number(words[1]), columns = number(words[2]), call = number(words[3]), length = number(words[4]);
+    size_t have;
+    uint8_t *bytes = contents(words[0], &have);
+    struct told told = {0, 0, 0, 0};
+    if (length > have)
+        fail("the stream is shorter");
+    program->start(rows, columns, &told);
+    if (told.number != PANEL_DONE)
+        fail("no such size");
+    told.stored = 0;
+    double before = seconds();
+    program->host(bytes, length, call, &told);
+    double after = seconds();
+    print_left(program, rows, columns, &told, NULL, 0);
+    printf("MB/s %.3f\n", (double)length / 1e6 / (after - before));
+    free(bytes);
+}
+
+/* -- keys */
+
+static size_t key_named(const char *name)
+{
+    static const struct {
+        const char *name;
+        size_t key;
+    } keys[] = {{"none", 0}, {"typed", 'A'}, {"next", PANEL_KEY_NEXT_FIELD}, {"previous", PANEL_KEY_PREVIOUS_FIELD},
+                {"changed", PANEL_KEY_SEND_CHANGED}, {"full", PANEL_KEY_SEND_ALL}};
+    for (size_t i = 0; i < sizeof keys / sizeof *keys; i++)
+        if (strcmp(keys[i].name, name) == 0)
+            return keys[i].key;
+    fail("no such key");
+    return 0;
+}
+
+/* 60 fields of 10 cells, evenly over the page; or 1;1 and every even column, which makes the longest block. Every
+   unprotected cell is modified. */
+static void make_page(struct snapshot *page, const char *kind, size_t cells)
+{
+    size_t apart = cells / 60;
+    int densest = strcmp(kind, "densest") == 0;
+    if (!densest && strcmp(kind, "form") != 0)
+        fail("no such page");
+    for (size_t cell = 0; cell < cells; cell++) {
+        int open = densest ? cell == 0 || cell % 2 == 1 : cell % apart >= 5 && cell % apart < 15;
+        page->characters[cell] = (uint8_t)('a' + cell % 26);
+        page->marks[cell] = open ? PANEL_MARK_MODIFIED : PANEL_MARK_PROTECTED;
+    }
+}
+
+/* The page as it was made is put back for each block: the first one sent takes the modified marks off. */
+static double press(const struct program *program, const struct snapshot *page, size_t key, size_t count,
+                    struct told *told)
+{
+    int again = key == PANEL_KEY_SEND_CHANGED || key == PANEL_KEY_SEND_ALL || key == 0;
+    double before = seconds();
+    for (size_t i = 0; i < count; i++) {
+        if (again)
+            program->put(page);
+        if (key != 0)
+            program->key(key, told);
+    }
+    return seconds() - before;
+}
+
+static void run_keys(const struct program *program, char **words)
+{
+    static struct snapshot page;
+    size_t key = key_named(words[0]), rows = number(words[2]), columns = number(words[3]), count = number(words[4]);
+    struct told told = {0, 0, 0, 0};
+    program->start(rows, columns, &told);
+    if (told.number != PANEL_DONE)
+        fail("no such size");
+    told.stored = 0;
+    program->get(&page);
+    make_page(&page, words[1], rows * columns);
+    program->put(&page);
+    if (strcmp(words[1], "form") == 0)
+        program->key(PANEL_KEY_NEXT_FIELD, &told);
+    double took = press(program, &page, key, count, &told);
+    if (told.number != PANEL_DONE)
+        fail("the key was refused");
+    /* every block was the same */
+    print_left(program, rows, columns, &told, output, (size_t)(told.sent / count));
+    printf("us %.4f\n", took * 1e6 / (double)count);
+}
+
+int main(int count, char **words)
+{
+    const struct program *program = count > 1 ? program_named(words[1]) : NULL;
+    if (program && count == 8 && strcmp(words[2], "stream") == 0)
+        run_stream(program, words + 3);
+    else if (program && count == 8 && strcmp(words[2], "keys") == 0)
+        run_keys(program, words + 3);
+    else
+        fail("usage: drive ours|plain stream FILE ROWS COLUMNS CALL BYTES\n"
+             "       drive ours|plain keys WHAT form|densest ROWS COLUMNS COUNT");
+    return 0;
+}

@@ -1,0 +1,907 @@
+#include "plain.h"
+
+#include <string.h>
+
+enum { DONE, WRONG_SIZE, WRONG_STATE, NO_ROOM, UNKNOWN_KEY, LOCKED, TOO_LONG, NO_CELL };
+enum { NO_MESSAGE, UNKNOWN_COMMAND, WRONG_ARGUMENTS, BROKEN_SEQUENCE, HIGH_BYTE };
+enum { PROTECTED = 1, MODIFIED = 2, VISUAL = 0x7C };
+enum { BS = 0x08, TAB = 0x09, LF = 0x0A, CR = 0x0D, CAN = 0x18, SUB = 0x1A, ESC = 0x1B, DEL = 0x7F, ETX = 0x03 };
+enum {
+    UP = 256,
+    DOWN,
+    LEFT,
+    RIGHT,
+    NEXT_FIELD,
+    PREVIOUS_FIELD,
+    FIRST_CELL,
+    BLANK_FIELD,
+    DELETE,
+    INSERT,
+    SEND_CHANGED,
+    SEND_ALL,
+    UNLOCK
+};
+
+/* A call under way: where its output goes and what it has done so far. */
+struct call {
+    struct plain *t;
+    uint8_t *output;
+    size_t room, sent;
+    uint32_t stored;
+};
+
+static bool listed_size(size_t rows, size_t columns)
+{
+    return (rows == 24 || rows == 27 || rows == 48) && (columns == 80 || columns == 132 || columns == 160);
+}
+
+static unsigned cells(const struct plain *t)
+{
+    return (unsigned)t->rows * t->columns;
+}
+
+static unsigned cursor(const struct plain *t)
+{
+    return (unsigned)t->row * t->columns + t->column;
+}
+
+static bool is_protected(const struct plain *t, unsigned cell)
+{
+    return t->marks[cell] & PROTECTED;
+}
+
+/* -- the page */
+
+static void blank(struct plain *t, unsigned from, unsigned length)
+{
+    memset(t->characters + from, ' ', length);
+    memset(t->marks + from, 0, length);
+}
+
+static void fresh(struct call *c)
+{
+    struct plain *t = c->t;
+    uint16_t rows = t->rows, columns = t->columns;
+    memset(t, 0, offsetof(struct plain, characters));
+    t->rows = rows;
+    t->columns = columns;
+    blank(t, 0, cells(t));
+    c->stored += cells(t);
+}
+
+static void scroll_up(struct call *c)
+{
+    struct plain *t = c->t;
+    unsigned moved = cells(t) - t->columns;
+    memmove(t->characters, t->characters + t->columns, moved);
+    memmove(t->marks, t->marks + t->columns, moved);
+    blank(t, moved, t->columns);
+    c->stored += cells(t);
+}
+
+static void scroll_down(struct call *c)
+{
+    struct plain *t = c->t;
+    unsigned moved = cells(t) - t->columns;
+    memmove(t->characters + t->columns, t->characters, moved);
+    memmove(t->marks + t->columns, t->marks, moved);
+    blank(t, 0, t->columns);
+    c->stored += cells(t);
+}
+
+static void erase(struct call *c, unsigned from, unsigned to)
+{
+    struct plain *t = c->t;
+    for (unsigned cell = from; cell < to; cell++) {
+        if (t->erasure || !is_protected(t, cell)) {
+            t->characters[cell] = ' ';
+            t->marks[cell] = 0;
+            c->stored++;
+        }
+    }
+}
+
+/* -- the cursor */
+
+/* the next cell, from the last one the first */
+static void step_on(struct plain *t)
+{
+    if (++t->column == t->columns) {
+        t->column = 0;
+        if (++t->row == t->rows)
+            t->row = 0;
+    }
+}
+
+static void go_to_cell(struct plain *t, unsigned cell)
+{
+    t->row = 0;
+    while (cell >= t->columns) {
+        cell -= t->columns;
+        t->row++;
+    }
+    t->column = (uint16_t)cell;
+}
+
+static void go_up(struct plain *t, unsigned n)
+{
+    t->row = n < t->row ? (uint16_t)(t->row - n) : 0;
+}
+
+static void go_down(struct plain *t, unsigned n)
+{
+    t->row = t->row + n < t->rows ? (uint16_t)(t->row + n) : (uint16_t)(t->rows - 1);
+}
+
+static void go_left(struct plain *t, unsigned n)
+{
+    t->column = n < t->column ? (uint16_t)(t->column - n) : 0;
+}
+
+static void go_right(struct plain *t, unsigned n)
+{
+    t->column = t->column + n < t->columns ? (uint16_t)(t->column + n) : (uint16_t)(t->columns - 1);
+}
+
+static void index_down(struct call *c)
+{
+    if (c->t->row + 1 < c->t->rows)
+        c->t->row++;
+    else
+        scroll_up(c);
+}
+
+static void index_up(struct call *c)
+{
+    if (c->t->row > 0)
+        c->t->row--;
+    else
+        scroll_down(c);
+}
+
+static void tab_on(struct plain *t, unsigned n)
+{
+    unsigned column = t->column;
+    while (n > 0 && column + 1 < t->columns)
+        if (t->stops[++column])
+            n--;
+    t->column = (uint16_t)column;
+}
+
+static void tab_back(struct plain *t, unsigned n)
+{
+    unsigned column = t->column;
+    while (n > 0 && column > 0)
+        if (t->stops[--column])
+            n--;
+    t->column = (uint16_t)column;
+}
+
+/* -- fields: a field is a longest run of unprotected cells in page order */
+
+static bool starts_field(const struct plain *t, unsigned cell)
+{
+    return !is_protected(t, cell) && (cell == 0 || is_protected(t, cell - 1));
+}
+
+static unsigned field_start(const struct plain *t, unsigned cell)
+{
+    while (cell > 0 && !is_protected(t, cell - 1))
+        cell--;
+    return cell;
+}
+
+/* the cell after its last */
+static unsigned field_end(const struct plain *t, unsigned cell)
+{
+    unsigned all = cells(t);
+    while (cell < all && !is_protected(t, cell))
+        cell++;
+    return cell;
+}
+
+static bool is_modified(const struct plain *t, unsigned from, unsigned to)
+{
+    for (unsigned cell = from; cell < to; cell++)
+        if (t->marks[cell] & MODIFIED)
+            return true;
+    return false;
+}
+
+/* -- what is sent */
+
+static unsigned digits(unsigned number)
+{
+    return number < 10 ? 1 : number < 100 ? 2 : 3;
+}
+
+/* The small panel has no divide instruction: hundreds and tens are taken off one by one. */
+static uint8_t *put_number(uint8_t *at, unsigned number)
+{
+    unsigned length = digits(number);
+    uint8_t hundreds = '0', tens = '0';
+    for (; number >= 100; number -= 100)
+        hundreds++;
+    for (; number >= 10; number -= 10)
+        tens++;
+    if (length == 3)
+        *at++ = hundreds;
+    if (length >= 2)
+        *at++ = tens;
+    *at++ = (uint8_t)('0' + number);
+    return at;
+}
+
+/* ESC [ row ; column and a final byte; rows and columns from 0 on */
+static uint8_t *put_place(uint8_t *at, unsigned row, unsigned column, char final)
+{
+    *at++ = ESC;
+    *at++ = '[';
+    at = put_number(at, row + 1);
+    *at++ = ';';
+    at = put_number(at, column + 1);
+    *at++ = (uint8_t)final;
+    return at;
+}
+
+/* A field of a block: where it starts and ends. */
+struct field {
+    unsigned row, column, from, to;
+};
+
+/* The next field for the block, from field->to on; false if there is none. Row and column are counted along. */
+static bool next_in_block(const struct plain *t, bool changed_only, struct field *field)
+{
+    unsigned all = cells(t), cell = field->to, passed = field->to - field->from;
+    unsigned row = field->row, column = field->column + passed;
+    for (;;) {
+        while (cell < all && is_protected(t, cell)) {
+            cell++;
+            column++;
+        }
+        while (column >= t->columns) {
+            column -= t->columns;
+            row++;
+        }
+        if (cell >= all)
+            return false;
+        unsigned end = field_end(t, cell);
+        if (!changed_only || is_modified(t, cell, end)) {
+            *field = (struct field){row, column, cell, end};
+            return true;
+        }
+        column += end - cell;
+        cell = end;
+    }
+}
+
+static size_t block_length(const struct plain *t, bool changed_only)
+{
+    struct field field = {0, 0, 0, 0};
+    size_t length = 1;
+    while (next_in_block(t, changed_only, &field))
+        length += 4 + digits(field.row + 1) + digits(field.column + 1) + (field.to - field.from);
+    return length;
+}
+
+static bool send_block(struct call *c, bool changed_only)
+{
+    struct plain *t = c->t;
+    size_t length = block_length(t, changed_only);
+    if (length > c->room - c->sent)
+        return false;
+    uint8_t *at = c->output + c->sent;
+    struct field field = {0, 0, 0, 0};
+    while (next_in_block(t, changed_only, &field)) {
+        at = put_place(at, field.row, field.column, 'f');
+        memcpy(at, t->characters + field.from, field.to - field.from);
+        at += field.to - field.from;
+    }
+    *at = ETX;
+    c->sent += length;
+    for (unsigned cell = 0, all = cells(t); cell < all; cell++)
+        if (!is_protected(t, cell))
+            t->marks[cell] &= (uint8_t)~MODIFIED;
+    return true;
+}
+
+static bool send_bytes(struct call *c, const uint8_t *bytes, size_t length)
+{
+    if (length > c->room - c->sent)
+        return false;
+    memcpy(c->output + c->sent, bytes, length);
+    c->sent += length;
+    return true;
+}
+
+static bool send_report(struct call *c, unsigned which)
+{
+    uint8_t report[16];
+    if (which == 5)
+        return send_bytes(c, (const uint8_t *)"\033[0n", 4);
+    return send_bytes(c, report, (size_t)(put_place(report, c->t->row, c->t->column, 'R') - report));
+}
+
+/* -- commands of the host; false is for want of room */
+
+static void refuse(struct plain *t, uint8_t message, uint8_t byte)
+{
+    t->soft = true;
+    t->message = message;
+    t->refused_at = byte;
+}
+
+static void unlock(struct plain *t)
+{
+    t->soft = false;
+    t->message = NO_MESSAGE;
+    t->refused_at = 0;
+}
+
+static bool escape_command(struct call *c, uint8_t byte)
+{
+    struct plain *t = c->t;
+    switch (byte) {
+    case 'D':
+        index_down(c);
+        break;
+    case 'E':
+        index_down(c);
+        t->column = 0;
+        break;
+    case 'M':
+        index_up(c);
+        break;
+    case 'H':
+        t->stops[t->column] = true;
+        break;
+    case 'V':
+        t->pen |= PROTECTED;
+        break;
+    case 'W':
+        t->pen &= (uint8_t)~PROTECTED;
+        break;
+    case 'S':
+        return send_block(c, false);
+    case 'c':
+        fresh(c);
+        break;
+    case '`':
+        t->manual = true;
+        break;
+    case 'b':
+        t->manual = false;
+        unlock(t);
+        break;
+    default:
+        refuse(t, UNKNOWN_COMMAND, byte);
+    }
+    return true;
+}
+
+/* How many arguments a command may have; 0 for one that isn't listed. */
+static unsigned most_arguments(uint8_t final)
+{
+    switch (final) {
+    case 'A': case 'B': case 'C': case 'D': case 'E': case 'F': case 'G': case 'd':
+    case 'I': case 'Z': case 'W': case 'J': case 'K': case 'n':
+        return 1;
+    case 'H': case 'f':
+        return 2;
+    case 'm': case 'h': case 'l':
+        return 8;
+    default:
+        return 0;
+    }
+}
+
+/* rows and columns from 1 on; false if off the page */
+static bool go_to(struct plain *t, unsigned row, unsigned column)
+{
+    if (row > t->rows || column > t->columns)
+        return false;
+    t->row = (uint16_t)(row - 1);
+    t->column = (uint16_t)(column - 1);
+    return true;
+}
+
+static bool erase_page(struct call *c, unsigned which)
+{
+    unsigned here = cursor(c->t);
+    switch (which) {
+    case 0:
+        erase(c, here, cells(c->t));
+        return true;
+    case 1:
+        erase(c, 0, here + 1);
+        return true;
+    case 2:
+        erase(c, 0, cells(c->t));
+        return true;
+    default:
+        return false;
+    }
+}
+
+static bool erase_row(struct call *c, unsigned which)
+{
+    unsigned here = cursor(c->t), start = here - c->t->column;
+    switch (which) {
+    case 0:
+        erase(c, here, start + c->t->columns);
+        return true;
+    case 1:
+        erase(c, start, here + 1);
+        return true;
+    case 2:
+        erase(c, start, start + c->t->columns);
+        return true;
+    default:
+        return false;
+    }
+}
+
+static bool change_stops(struct plain *t, unsigned which)
+{
+    switch (which) {
+    case 0:
+        t->stops[t->column] = true;
+        return true;
+    case 2:
+        t->stops[t->column] = false;
+        return true;
+    case 5:
+        memset(t->stops, 0, sizeof t->stops);
+        return true;
+    default:
+        return false;
+    }
+}
+
+/* The values act only after all of them were found good. */
+static bool change_pen(struct plain *t)
+{
+    uint8_t pen = t->pen;
+    for (unsigned i = 0; i < t->count; i++) {
+        switch (t->arguments[i]) {
+        case 0:
+            pen &= (uint8_t)~VISUAL;
+            break;
+        case 1:
+            pen |= 1 << 2;
+            break;
+        case 4:
+            pen |= 1 << 3;
+            break;
+        case 5:
+            pen |= 1 << 4;
+            break;
+        case 7:
+            pen |= 1 << 5;
+            break;
+        case 8:
+            pen |= 1 << 6;
+            break;
+        default:
+            return false;
+        }
+    }
+    t->pen = pen;
+    return true;
+}
+
+static bool change_mode(struct plain *t, bool set)
+{
+    for (unsigned i = 0; i < t->count; i++)
+        if (t->arguments[i] != 6)
+            return false;
+    t->erasure = set;
+    return true;
+}
+
+/* false if an argument is not allowed */
+static bool do_command(struct call *c, uint8_t final)
+{
+    struct plain *t = c->t;
+    unsigned first = t->arguments[0], second = t->arguments[1];
+    unsigned n = first ? first : 1, m = second ? second : 1;
+    switch (final) {
+    case 'A':
+        go_up(t, n);
+        return true;
+    case 'B':
+        go_down(t, n);
+        return true;
+    case 'C':
+        go_right(t, n);
+        return true;
+    case 'D':
+        go_left(t, n);
+        return true;
+    case 'E':
+        go_down(t, n);
+        t->column = 0;
+        return true;
+    case 'F':
+        go_up(t, n);
+        t->column = 0;
+        return true;
+    case 'G':
+        if (n <= t->columns)
+            t->column = (uint16_t)(n - 1);
+        return true;
+    case 'd':
+        return go_to(t, n, t->column + 1u);
+    case 'H':
+        return go_to(t, n, m);
+    case 'f':
+        return go_to(t, n, first > 0 && second == 0 ? t->column + 1u : m);
+    case 'I':
+        tab_on(t, n);
+        return true;
+    case 'Z':
+        tab_back(t, n);
+        return true;
+    case 'W':
+        return change_stops(t, first);
+    case 'J':
+        return erase_page(c, first);
+    case 'K':
+        return erase_row(c, first);
+    case 'm':
+        return change_pen(t);
+    default:
+        return change_mode(t, final == 'h');
+    }
+}
+
+static bool bracket_command(struct call *c, uint8_t final)
+{
+    struct plain *t = c->t;
+    unsigned most = most_arguments(final);
+    if (t->spoilt)
+        refuse(t, BROKEN_SEQUENCE, final);
+    else if (most == 0)
+        refuse(t, UNKNOWN_COMMAND, final);
+    else if (t->count > most)
+        refuse(t, WRONG_ARGUMENTS, final);
+    else if (final == 'n' && (t->arguments[0] == 5 || t->arguments[0] == 6))
+        return send_report(c, t->arguments[0]);
+    else if (final == 'n' || !do_command(c, final))
+        refuse(t, WRONG_ARGUMENTS, final);
+    return true;
+}
+
+/* -- reading host bytes */
+
+static void drop_sequence(struct plain *t)
+{
+    t->kind = PLAIN_OUTSIDE;
+    t->spoilt = false;
+    t->count = 0;
+    memset(t->arguments, 0, sizeof t->arguments);
+}
+
+static void spoil(struct plain *t)
+{
+    t->spoilt = true;
+    t->count = 1;
+    memset(t->arguments, 0, sizeof t->arguments);
+}
+
+static void store_text(struct call *c, uint8_t byte)
+{
+    struct plain *t = c->t;
+    unsigned cell = cursor(t);
+    t->characters[cell] = byte;
+    t->marks[cell] = t->pen;
+    c->stored++;
+    step_on(t);
+}
+
+static void control_byte(struct call *c, uint8_t byte)
+{
+    switch (byte) {
+    case BS:
+        go_left(c->t, 1);
+        break;
+    case TAB:
+        tab_on(c->t, 1);
+        break;
+    case LF:
+        index_down(c);
+        break;
+    case CR:
+        c->t->column = 0;
+        break;
+    }
+}
+
+static bool outside_byte(struct call *c, uint8_t byte)
+{
+    if (byte >= ' ' && byte < DEL)
+        store_text(c, byte);
+    else if (byte == ESC)
+        c->t->kind = PLAIN_AFTER_ESC;
+    else if (byte >= 0x80)
+        refuse(c->t, HIGH_BYTE, byte);
+    else
+        control_byte(c, byte);
+    return true;
+}
+
+static bool after_escape(struct call *c, uint8_t byte)
+{
+    if (byte == '[') {
+        c->t->kind = PLAIN_AFTER_BRACKET;
+        c->t->count = 1;
+        return true;
+    }
+    if (byte < 0x30) {
+        c->t->kind = PLAIN_AFTER_INTERMEDIATE;
+        return true;
+    }
+    if (!escape_command(c, byte))
+        return false;
+    c->t->kind = PLAIN_OUTSIDE;
+    return true;
+}
+
+static bool after_intermediate(struct call *c, uint8_t byte)
+{
+    if (byte >= 0x30) {
+        refuse(c->t, UNKNOWN_COMMAND, byte);
+        c->t->kind = PLAIN_OUTSIDE;
+    }
+    return true;
+}
+
+static void digit(struct plain *t, unsigned value)
+{
+    unsigned number = t->arguments[t->count - 1] * 10u + value;
+    if (number > 9999)
+        spoil(t);
+    else
+        t->arguments[t->count - 1] = (uint16_t)number;
+}
+
+static bool after_bracket(struct call *c, uint8_t byte)
+{
+    struct plain *t = c->t;
+    if (byte >= 0x40) {
+        if (!bracket_command(c, byte))
+            return false;
+        drop_sequence(t);
+    } else if (t->spoilt) {
+        return true;
+    } else if (byte >= '0' && byte <= '9') {
+        digit(t, byte - '0');
+    } else if (byte == ';' && t->count < PLAIN_MOST_ARGUMENTS) {
+        t->count++;
+    } else {
+        spoil(t);
+    }
+    return true;
+}
+
+/* a byte that ends the half-read sequence without a command */
+static void break_off(struct plain *t, uint8_t byte)
+{
+    drop_sequence(t);
+    if (byte == ESC)
+        t->kind = PLAIN_AFTER_ESC;
+    else if (byte >= 0x80)
+        refuse(t, HIGH_BYTE, byte);
+    else if (byte != CAN && byte != SUB)
+        refuse(t, BROKEN_SEQUENCE, byte);
+}
+
+/* false if what the byte asks for doesn't fit: it isn't taken then */
+static bool host_byte(struct call *c, uint8_t byte)
+{
+    if (c->t->kind == PLAIN_OUTSIDE)
+        return outside_byte(c, byte);
+    if (byte < ' ' || byte >= DEL) {
+        break_off(c->t, byte);
+        return true;
+    }
+    switch (c->t->kind) {
+    case PLAIN_AFTER_ESC:
+        return after_escape(c, byte);
+    case PLAIN_AFTER_INTERMEDIATE:
+        return after_intermediate(c, byte);
+    default:
+        return after_bracket(c, byte);
+    }
+}
+
+/* -- keys; each is called only where it has a cell */
+
+static void type(struct call *c, uint8_t character)
+{
+    struct plain *t = c->t;
+    unsigned cell = cursor(t);
+    t->characters[cell] = character;
+    t->marks[cell] |= MODIFIED;
+    c->stored++;
+    do
+        step_on(t);
+    while (is_protected(t, cursor(t)));
+}
+
+static bool next_field(struct plain *t)
+{
+    unsigned all = cells(t), here = cursor(t);
+    for (unsigned cell = here + 1; cell < all; cell++)
+        if (starts_field(t, cell)) {
+            go_to_cell(t, cell);
+            return true;
+        }
+    for (unsigned cell = 0; cell <= here; cell++)
+        if (starts_field(t, cell)) {
+            go_to_cell(t, cell);
+            return true;
+        }
+    return false;
+}
+
+static bool previous_field(struct plain *t)
+{
+    unsigned all = cells(t), here = cursor(t);
+    for (unsigned cell = here; cell > 0; cell--)
+        if (starts_field(t, cell - 1)) {
+            go_to_cell(t, cell - 1);
+            return true;
+        }
+    for (unsigned cell = all; cell > here; cell--)
+        if (starts_field(t, cell - 1)) {
+            go_to_cell(t, cell - 1);
+            return true;
+        }
+    return false;
+}
+
+static void first_cell(struct plain *t)
+{
+    unsigned all = cells(t), cell = 0;
+    while (cell < all && is_protected(t, cell))
+        cell++;
+    go_to_cell(t, cell < all ? cell : 0);
+}
+
+static void set_modified(struct call *c, unsigned from, unsigned to)
+{
+    for (unsigned cell = from; cell < to; cell++)
+        c->t->marks[cell] |= MODIFIED;
+    c->stored += to - from;
+}
+
+static void blank_field(struct call *c)
+{
+    struct plain *t = c->t;
+    unsigned from = field_start(t, cursor(t)), to = field_end(t, cursor(t));
+    memset(t->characters + from, ' ', to - from);
+    set_modified(c, from, to);
+    go_to_cell(t, from);
+}
+
+static void delete_character(struct call *c)
+{
+    struct plain *t = c->t;
+    unsigned from = cursor(t), to = field_end(t, from);
+    memmove(t->characters + from, t->characters + from + 1, to - from - 1);
+    t->characters[to - 1] = ' ';
+    set_modified(c, from, to);
+}
+
+static void insert_blank(struct call *c)
+{
+    struct plain *t = c->t;
+    unsigned from = cursor(t), to = field_end(t, from);
+    memmove(t->characters + from + 1, t->characters + from, to - from - 1);
+    t->characters[from] = ' ';
+    set_modified(c, from, to);
+}
+
+static bool is_character(size_t key)
+{
+    return key >= ' ' && key < DEL;
+}
+
+static uint32_t do_key(struct call *c, size_t key)
+{
+    struct plain *t = c->t;
+    if (!is_character(key) && (key < UP || key > UNLOCK))
+        return UNKNOWN_KEY;
+    if ((t->manual || t->soft) && key != UNLOCK)
+        return LOCKED;
+    if ((is_character(key) || (key >= BLANK_FIELD && key <= INSERT)) && is_protected(t, cursor(t)))
+        return NO_CELL;
+    switch (key) {
+    case UP:
+        go_up(t, 1);
+        break;
+    case DOWN:
+        go_down(t, 1);
+        break;
+    case LEFT:
+        go_left(t, 1);
+        break;
+    case RIGHT:
+        go_right(t, 1);
+        break;
+    case NEXT_FIELD:
+        return next_field(t) ? DONE : NO_CELL;
+    case PREVIOUS_FIELD:
+        return previous_field(t) ? DONE : NO_CELL;
+    case FIRST_CELL:
+        first_cell(t);
+        break;
+    case BLANK_FIELD:
+        blank_field(c);
+        break;
+    case DELETE:
+        delete_character(c);
+        break;
+    case INSERT:
+        insert_blank(c);
+        break;
+    case SEND_CHANGED:
+        return send_block(c, true) ? DONE : NO_ROOM;
+    case SEND_ALL:
+        return send_block(c, false) ? DONE : NO_ROOM;
+    case UNLOCK:
+        unlock(t);
+        break;
+    default:
+        type(c, (uint8_t)key);
+    }
+    return DONE;
+}
+
+/* -- the calls */
+
+static struct plain_answer refused_call(uint32_t number)
+{
+    return (struct plain_answer){number, 0, 0, 0};
+}
+
+struct plain_answer plain_start(struct plain *terminal, size_t rows, size_t columns)
+{
+    struct call c = {terminal, NULL, 0, 0, 0};
+    if (!listed_size(rows, columns)) {
+        memset(terminal, 0, offsetof(struct plain, characters));
+        return refused_call(WRONG_SIZE);
+    }
+    terminal->rows = (uint16_t)rows;
+    terminal->columns = (uint16_t)columns;
+    fresh(&c);
+    return (struct plain_answer){DONE, 0, 0, c.stored};
+}
+
+struct plain_answer plain_host(struct plain *terminal, const uint8_t *bytes, size_t length,
+                               uint8_t *output, size_t room)
+{
+    struct call c = {terminal, output, room, 0, 0};
+    if (!listed_size(terminal->rows, terminal->columns))
+        return refused_call(WRONG_SIZE);
+    if (terminal->row >= terminal->rows || terminal->column >= terminal->columns)
+        return refused_call(WRONG_STATE);
+    if (length > PLAIN_MOST_HOST_BYTES)
+        return refused_call(TOO_LONG);
+    size_t taken = 0;
+    while (taken < length && host_byte(&c, bytes[taken]))
+        taken++;
+    return (struct plain_answer){taken < length ? NO_ROOM : DONE, (uint32_t)taken, (uint32_t)c.sent, c.stored};
+}
+
+struct plain_answer plain_key(struct plain *terminal, size_t key, uint8_t *output, size_t room)
+{
+    struct call c = {terminal, output, room, 0, 0};
+    if (!listed_size(terminal->rows, terminal->columns))
+        return refused_call(WRONG_SIZE);
+    if (terminal->row >= terminal->rows || terminal->column >= terminal->columns)
+        return refused_call(WRONG_STATE);
+    uint32_t number = do_key(&c, key);
+    return number == DONE ? (struct plain_answer){DONE, 0, (uint32_t)c.sent, c.stored} : refused_call(number);
+}
