@@ -3,29 +3,34 @@ use mathlib.Core.Path.{_≡_, refl, sym, ap, _∙_}
 use mathlib.Core.Bool.{Bool, true, false, not}
 use Prim.Native.Nat.{ℕ, _<_, _≤_}
 use native.Mathlib.Omega.{arith}
-use borrow.Author.Tests.{ltb-true, eqb-true, eqb-false, ne-eqb}
+use borrow.Author.Tests.{ltb-true, eqb-true, eqb-false, ne-eqb, eq-eqb}
 use lib.Dec.{ltb, eqb}
 use Rattle.words.specs.Choice.{if_then_else_, _and_, _or_, _is_to_}
-use Rattle.words.proofs.Choosing.{true-is-not-false, either-way, neither, refuted, second-decides}
+use Rattle.words.proofs.Choosing.{true-is-not-false, then-case, else-case, either-way, neither, refuted, second-decides}
+use Rattle.state.specs.declared.Size.{Size}
+use Rattle.state.specs.declared.Cursor.{Cursor}
 use Rattle.table.specs.Table.{allowed}
 use Rattle.table.specs.Moves.{isMove, isPlainMove}
 use Rattle.table.proofs.Ranges.{allFrom, in-range}
 use Rattle.commands.specs.Light.{isLightControl, isLightLetter, isLightFinal}
 
 -- Of the control bytes HT and LF are not light.
-pub heavy-control : (byte : ℕ) → isLightControl byte ≡ false → (byte ≡ 0x09 → ⊥) → byte ≡ 0x0A
-unfolding isLightControl not
-heavy-control byte heavy other =
+pub heavy-control : (size : Size) (cursor : Cursor) (byte : ℕ) → isLightControl size cursor byte ≡ false → (byte ≡ 0x09 → ⊥) → byte ≡ 0x0A
+unfolding isLightControl
+heavy-control size cursor byte heavy other =
     eqb-true byte 0x0A
-    (either-way (eqb byte 0x0A) (λ yes. yes)
-    (λ none. absurd (true-is-not-false (sym (ap not (second-decides _ _ (ne-eqb byte 0x09 other) ∙ none)) ∙ heavy))))
+    (either-way (eqb byte 0x0A) (λ lf. lf)
+    (λ none. absurd (true-is-not-false (sym (else-case _ _ _ (ne-eqb byte 0x09 other) ∙ else-case _ _ _ none) ∙ heavy))))
 
-pub light-control-is-no-tab : (byte : ℕ) → isLightControl byte ≡ true → (eqb byte 0x09 ≡ false) × (eqb byte 0x0A ≡ false)
-unfolding isLightControl not
-light-control-is-no-tab byte light =
-    neither
-    (refuted (eqb byte 0x09 or eqb byte 0x0A)
-    (λ tab. true-is-not-false (sym light ∙ ap not tab)))
+module _ (size : Size) (cursor : Cursor) (byte : ℕ) (light : isLightControl size cursor byte ≡ true) where
+  pub light-control-is-no-tab : eqb byte 0x09 ≡ false
+  unfolding isLightControl
+  light-control-is-no-tab = refuted (eqb byte 0x09) (λ tab. true-is-not-false (sym light ∙ then-case _ _ _ tab))
+
+  -- A line feed that is light scrolls nothing.
+  pub light-line-feed : byte ≡ 0x0A → ltb (cursor .row) (size .rows) ≡ true
+  unfolding isLightControl
+  light-line-feed lf = sym (else-case _ _ _ light-control-is-no-tab ∙ then-case _ _ _ (eq-eqb byte 0x0A lf)) ∙ light
 
 -- A letter that is light and not V is W.
 pub light-letter-left : (letter : ℕ) → isLightLetter letter ≡ true → (letter ≡ 0x56 → ⊥) → letter ≡ 0x57

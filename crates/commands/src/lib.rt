@@ -80,10 +80,10 @@ fn fresh(state: State, characters: &mut [u8], marks: &mut [Mark]) -> Step
     steps::stored(State::fresh(state.size), cells, true)
 }
 
-// HT and LF; the other control bytes that act are light.
+// HT, and LF in the last row; else the control bytes that act are light.
 fn control(state: State, characters: &mut [u8], marks: &mut [Mark], byte: u8) -> Step
     requires { ⌜ Valid (terminalOf state (now characters) (now marks)) ⌝ }
-    requires { ⌜ isLight (Control byte) ≡ false ⌝ }
+    requires { ⌜ isLight (state .size) (state .cursor) (Control byte) ≡ false ⌝ }
     ensures { λ r. ⌜
         told r (pageOf (now (characters .exit)) (now (marks .exit)))
         ≡ tells (controlStep byte (terminalOf state (now (characters .entry)) (now (marks .entry)))) ⌝ }
@@ -97,7 +97,7 @@ fn control(state: State, characters: &mut [u8], marks: &mut [Mark], byte: u8) ->
 // After ESC, what is not light, but for S, which sends.
 fn silent_esc_step(state: State, characters: &mut [u8], marks: &mut [Mark], byte: u8) -> Step
     requires { ⌜ Valid (terminalOf state (now characters) (now marks)) ⌝ }
-    requires { ⌜ (isLight (EscCommand byte) ≡ false) × (byte ≡ 0x53 → ⊥) ⌝ }
+    requires { ⌜ (isLight (state .size) (state .cursor) (EscCommand byte) ≡ false) × (byte ≡ 0x53 → ⊥) ⌝ }
     ensures { λ r. ⌜
         told r (pageOf (now (characters .exit)) (now (marks .exit)))
         ≡ tells (escStep byte (terminalOf state (now (characters .entry)) (now (marks .entry)))) ⌝ }
@@ -195,7 +195,7 @@ fn esc_step(
     byte: u8,
 ) -> Step
     requires { ⌜ Valid (terminalOf state (now characters) (now marks)) ⌝ }
-    requires { ⌜ (at ≤ length (now out)) × (isLight (EscCommand byte) ≡ false) ⌝ }
+    requires { ⌜ (at ≤ length (now out)) × (isLight (state .size) (state .cursor) (EscCommand byte) ≡ false) ⌝ }
     ensures { λ r. ⌜
         record { told = told r (pageOf (now (characters .exit)) (now (marks .exit))); output = now (out .exit) }
         ≡ written at (now (out .entry))
@@ -220,7 +220,7 @@ fn bracket_step(
 ) -> Step
     requires { ⌜ Valid (terminalOf state (now characters) (now marks)) ⌝ }
     requires { ⌜ (at ≤ length (now out)) × (0x40 ≤ letter) × (letter ≤ 0x7E) × (before .half .count ≤ 8) ×
-        (isLight (BracketCommand letter) ≡ false) ⌝ }
+        (isLight (state .size) (state .cursor) (BracketCommand letter) ≡ false) ⌝ }
     ensures { λ r. ⌜
         record { told = told r (pageOf (now (characters .exit)) (now (marks .exit))); output = now (out .exit) }
         ≡ written at (now (out .entry))
@@ -261,7 +261,8 @@ pub fn heavy_step(
     event: Event,
 ) -> Step
     requires { ⌜ Valid (terminalOf state (now characters) (now marks)) ⌝ }
-    requires { ⌜ (at ≤ length (now out)) × FinalInTable event × (before .half .count ≤ 8) × (isLight event ≡ false) ⌝ }
+    requires { ⌜ (at ≤ length (now out)) × FinalInTable event × (before .half .count ≤ 8) ×
+        (isLight (state .size) (state .cursor) event ≡ false) ⌝ }
     ensures { λ r. ⌜
         record { told = told r (pageOf (now (characters .exit)) (now (marks .exit))); output = now (out .exit) }
         ≡ written at (now (out .entry))

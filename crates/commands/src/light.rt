@@ -3,6 +3,8 @@
 use sequence::Event;
 use sequence::HalfRead;
 use sequence::Reason;
+use state::Cursor;
+use state::Size;
 use state::State;
 use steps::Light;
 ghost use mathlib.Core.Path.{_≡_};
@@ -17,12 +19,12 @@ ghost use Rattle.commands.specs.Commands.{escStep, bracketStep};
 ghost use Rattle.commands.specs.Host.{FinalInTable, eventStep};
 ghost use Rattle.commands.specs.Light.{isLight, isLightControl, isLightLetter, isLightFinal};
 
-fn is_light_control(code: u8) -> bool
-    ensures { λ r. ⌜ r ≡ isLightControl code ⌝ }
+fn is_light_control(size: Size, cursor: Cursor, code: u8) -> bool
+    ensures { λ r. ⌜ r ≡ isLightControl size cursor code ⌝ }
 {
     match code {
         0x09 => false,
-        0x0A => false,
+        0x0A => cursor.row < size.rows,
         _ => true,
     }
 }
@@ -57,28 +59,32 @@ fn is_light_final(letter: u8) -> bool
 }
 
 // Whether the event is light.
-pub fn is_light(event: Event) -> bool
-    ensures { λ r. ⌜ r ≡ isLight event ⌝ }
+pub fn is_light(size: Size, cursor: Cursor, event: Event) -> bool
+    ensures { λ r. ⌜ r ≡ isLight size cursor event ⌝ }
 {
     match event {
         Event::Nothing => true,
         Event::Text(_) => false,
-        Event::Control(code) => is_light_control(code),
+        Event::Control(code) => is_light_control(size, cursor, code),
         Event::EscCommand(letter) => is_light_letter(letter),
         Event::BracketCommand(letter) => is_light_final(letter),
         Event::Refused(_, _) => true,
     }
 }
 
-// BS, and CR.
+// BS, LF and CR.
 fn light_control(state: State, code: u8) -> Light
-    requires { ⌜ isLightControl code ≡ true ⌝ }
+    requires { ⌜ OnPage state ⌝ }
+    requires { ⌜ isLightControl (state .size) (state .cursor) code ≡ true ⌝ }
     ensures { λ r. ⌜ ((page : Page) →
         lightStep r (record { state = state; page = page })
         ≡ controlStep code (record { state = state; page = page })) ⌝ }
 {
     if code == 0x08 {
         return steps::moves_to(state.left_by(1));
+    }
+    if code == 0x0A {
+        return steps::moves_to(state.down_by(1));
     }
     steps::moves_to(state.to_margin())
 }
@@ -120,7 +126,7 @@ fn light_final(state: State, half: HalfRead, letter: u8) -> Light
 // What a light event does. `half` is the half-read record before its byte, which has a command's arguments.
 pub fn light_step(state: State, half: HalfRead, event: Event) -> Light
     requires { ⌜ OnPage state ⌝ }
-    requires { ⌜ FinalInTable event × (half .count ≤ 8) × (isLight event ≡ true) ⌝ }
+    requires { ⌜ FinalInTable event × (half .count ≤ 8) × (isLight (state .size) (state .cursor) event ≡ true) ⌝ }
     ensures { λ r. ⌜ ((page : Page) →
         lightStep r (record { state = state; page = page })
         ≡ eventStep half event (record { state = state; page = page })) ⌝ }

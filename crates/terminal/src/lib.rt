@@ -138,7 +138,7 @@ fn run(
             let event = read.event;
             let before = read.before;
             let after = read.after;
-            if commands::is_light(event) {
+            if commands::is_light(here.size, here.cursor, event) {
                 here.half = after;
                 taken = read.end;
                 let light = commands::light_step(here, before, event);

@@ -13,7 +13,7 @@ unfolding controlStep isLight if_then_else_
 returns-2 c =
     let asked = c .before .before .before .before .before .before .before in
     let start = asked .before .before .before in
-    let is-LF : start .args .byte ≡ 0x0A = heavy-control (start .args .byte) (start .pre .1) (asked .if1 .left) in
+    let is-LF : start .args .byte ≡ 0x0A = heavy-control _ _ (start .args .byte) (start .pre .1) (asked .if1 .left) in
     rw (c .before .before .before .before .line-down .ensures, is-LF)
 
 pub control-spec : {M : Type 1} → statement M

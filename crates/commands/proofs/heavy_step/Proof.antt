@@ -14,12 +14,12 @@ use Rattle.commands.proofs.heavy_step.Tie as tie
 control-requires : tie.Need-control-requires
 control-requires c κs =
     let start = c .before .before .before .before .before .before .before .before in
-    (start .pre .0, ap isLight (sym (c .before .before .before .event2 .given .1)) ∙ start .pre .1 .3)
+    (start .pre .0, ap (isLight _ _) (sym (c .before .before .before .event2 .given .1)) ∙ start .pre .1 .3)
 
 esc-step-requires : tie.Need-esc-step-requires
 esc-step-requires c κs =
     let start = c .before .before .before .before .before .before .before .before .before in
-    (start .pre .0, (start .pre .1 .0, ap isLight (sym (c .before .before .before .before .event3 .given .1)) ∙ start .pre .1 .3))
+    (start .pre .0, (start .pre .1 .0, ap (isLight _ _) (sym (c .before .before .before .before .event3 .given .1)) ∙ start .pre .1 .3))
 
 -- And the final byte of a command of ESC [ is in the table.
 bracket-step-requires : tie.Need-bracket-step-requires
@@ -27,7 +27,7 @@ bracket-step-requires c κs =
     let start = c .before .before .before .before .before .before .before .before .before in
     let told = c .before .before .before .before .event4 .given .1 in
     let final = start .pre .1 .1 _ told in
-    (start .pre .0, (start .pre .1 .0, final .0, final .1, start .pre .1 .2, ap isLight (sym told) ∙ start .pre .1 .3))
+    (start .pre .0, (start .pre .1 .0, final .0, final .1, start .pre .1 .2, ap (isLight _ _) (sym told) ∙ start .pre .1 .3))
 
 -- What the called function tells of the event, where it sends nothing; else what it writes.
 returns : tie.Need-returns
@@ -62,7 +62,7 @@ returns-6 : tie.Need-returns-6
 unfolding isLight
 returns-6 c =
     let start = c .before .before .before .before .before .before in
-    absurd (true-is-not-false (ap isLight (sym (c .before .enum-told2 .given .1)) ∙ start .pre .1 .3))
+    absurd (true-is-not-false (ap (isLight _ _) (sym (c .before .enum-told2 .given .1)) ∙ start .pre .1 .3))
 
 pub heavy-step-spec : {M : Type 1} → statement M
 heavy-step-spec =

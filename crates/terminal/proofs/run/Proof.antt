@@ -162,7 +162,7 @@ heavy-step-requires c κs =
     let more = c .before .before .before .before .before .before .before .before .before .before .before .before .before .loop-test .taken in
     let read = c .before .before .before .before .before .before .before .before .read .ensures in
     let going = turn .loop .inv .0 in
-    (rw (c .before .before .before .with-half .ensures) (arrived-valid _ _ _ _ _ _ _ _ _ _ (turn .loop .inv .0) more _ read), (omega (arith, going .room, going .as-long), arrived-final _ _ _ _ _ _ _ _ _ _ (turn .loop .inv .0) more _ read, arrived-count _ _ _ _ _ _ _ _ _ _ (turn .loop .inv .0) more _ read, sym (c .before .before .before .before .before .is-light .ensures) ∙ c .before .before .before .before .if2 .left))
+    (rw (c .before .before .before .with-half .ensures) (arrived-valid _ _ _ _ _ _ _ _ _ _ (turn .loop .inv .0) more _ read), (omega (arith, going .room, going .as-long), arrived-final _ _ _ _ _ _ _ _ _ _ (turn .loop .inv .0) more _ read, arrived-count _ _ _ _ _ _ _ _ _ _ (turn .loop .inv .0) more _ read, rw (c .before .before .before .with-half .ensures) (sym (c .before .before .before .before .before .is-light .ensures) ∙ c .before .before .before .before .if2 .left)))
 
 sub-t47 : tie.Need-sub-t47 Inv-loop μ-loop
 sub-t47 c =

@@ -9,11 +9,13 @@ use Rattle.commands.proofs.light.light_step.Tie as tie
 
 light-control-requires : tie.Need-light-control-requires
 unfolding isLight
-light-control-requires c κs = ap isLight (sym (c .before .event .given .1)) ∙ c .before .before .before .pre .1 .2
+light-control-requires c κs =
+    let start = c .before .before .before in
+    (start .pre .0, ap (isLight _ _) (sym (c .before .event .given .1)) ∙ start .pre .1 .2)
 
 light-letter-requires : tie.Need-light-letter-requires
 unfolding isLight
-light-letter-requires c κs = ap isLight (sym (c .before .event2 .given .1)) ∙ c .before .before .before .pre .1 .2
+light-letter-requires c κs = ap (isLight _ _) (sym (c .before .event2 .given .1)) ∙ c .before .before .before .pre .1 .2
 
 light-final-requires : tie.Need-light-final-requires
 unfolding isLight
@@ -21,11 +23,11 @@ light-final-requires c κs =
     let start = c .before .before .before in
     let is = c .before .event3 .given .1 in
     let final = start .pre .1 .0 _ is in
-    (start .pre .0, (final .0, final .1, start .pre .1 .1, ap isLight (sym is) ∙ start .pre .1 .2))
+    (start .pre .0, (final .0, final .1, start .pre .1 .1, ap (isLight _ _) (sym is) ∙ start .pre .1 .2))
 
 returns-2 : tie.Need-returns-2
 unfolding isLight
-returns-2 c = λ page. absurd (true-is-not-false (sym (ap isLight (sym (c .before .enum-told2 .given .1)) ∙ c .before .before .before .pre .1 .2)))
+returns-2 c = λ page. absurd (true-is-not-false (sym (ap (isLight _ _) (sym (c .before .enum-told2 .given .1)) ∙ c .before .before .before .pre .1 .2)))
 
 pub light-step-spec : {M : Type 1} → statement M
 unfolding eventStep lightStep
