@@ -2,15 +2,16 @@
 use mathlib.Core.Path.{_≡_, refl, sym, ap, _∙_, subst}
 use mathlib.Core.Bool.{Bool, true, false}
 use mathlib.Core.List.{List, [], _∷_}
-use Prim.Native.Nat.{ℕ, zero, suc, _+_, _<_, _≤_}
+use Prim.Native.Nat.{ℕ, zero, suc, _+_, _-_, _<_, _≤_}
 use native.Mathlib.Numerals.{add-one}
 use native.Mathlib.Omega.{arith}
-use borrow.Author.Tests.{le-ltb, leb-true, eq-eqb, eqb-true}
+use borrow.Author.Tests.{lt-ltb, le-ltb, leb-true, eq-eqb, eqb-true}
 use lib.Dec.{ltb, eqb}
 use lib.ListN.{length, drop, getD, replicate, length-set, drop-of-length-le}
 use lib.Seq.{drop-cons}
 use Rattle.words.specs.Choice.{_is_to_}
 use Rattle.words.proofs.Choosing.{then-case, else-case, either-line, either-way, less-or-not, both}
+use Rattle.words.proofs.Walking.{once-more}
 use Rattle.sequence.specs.declared.HalfRead.{HalfRead}
 use Rattle.sequence.specs.Record.{nothingRead, largestArgument, argumentsFit, validHalfRead}
 use Rattle.sequence.specs.declared.Advanced.{Advanced}
@@ -20,7 +21,8 @@ use Rattle.sequence.proofs.Events.{Tells, event-tells}
 use Rattle.sequence.proofs.Keeping.{eight-at-most}
 use Rattle.page.specs.Page.{Page, textStored}
 use Rattle.state.specs.declared.State.{State}
-use Rattle.state.specs.State.{withCursor, withHalf}
+use Rattle.places.specs.Places.{cellAt}
+use Rattle.state.specs.State.{OnPage, withCursor, cursorAt, withHalf}
 use Rattle.state.specs.Moves.{toNextCell}
 use Rattle.state.proofs.Keeping.{parts}
 use Rattle.steps.specs.declared.Light.{Light}
@@ -247,6 +249,35 @@ module _ {bytes : List ℕ} {from : ℕ} {begun : Terminal} {at : ℕ} {t : Term
 
   pub ends-here : length bytes ≤ at → Ran (record { cursor = t .state .cursor; end = at })
   ends-here over = ran (text-ends bytes at over t) (length-ends bytes at over)
+
+-- The next cell, counted along: in the row, in the next row, and round the page.
+module _ (s : State) (row column : ℕ) where
+  abbrev at-cursor : State
+  at-cursor = withCursor s (cursorAt row column)
+
+  module _ (inside : column < s .size .columns) where
+    pub next-in-row : withCursor s (cursorAt row (column + 1)) ≡ toNextCell at-cursor
+    unfolding toNextCell
+    next-in-row = sym (then-case _ _ _ (lt-ltb column (s .size .columns) inside))
+
+    pub cell-in-row : 1 ≤ column → cellAt (s .size .columns) row column + 1 ≡ cellAt (s .size .columns) row (column + 1)
+    cell-in-row least = omega arith
+
+  module _ (edge : s .size .columns ≤ column) where
+    pub next-row : row < s .size .rows → withCursor s (cursorAt (row + 1) 1) ≡ toNextCell at-cursor
+    unfolding toNextCell
+    next-row above = sym (else-case _ _ _ (le-ltb column (s .size .columns) edge) ∙ then-case _ _ _ (lt-ltb row (s .size .rows) above))
+
+    pub cell-in-next-row : OnPage at-cursor → cellAt (s .size .columns) row column + 1 ≡ cellAt (s .size .columns) (row + 1) 1
+    cell-in-next-row on-page =
+        let row-before : row - 1 + 1 ≡ row = omega (arith, on-page .row-least) in
+        let rows = rw row-before at (once-more (row - 1) (s .size .columns)) in
+        let same : row + 1 - 1 ≡ row = omega arith in
+        rw same (omega (arith, rows, on-page .column-least, on-page .column-most))
+
+    pub round-the-page : s .size .rows ≤ row → withCursor s (cursorAt 1 1) ≡ toNextCell at-cursor
+    unfolding toNextCell
+    round-the-page last = sym (else-case _ _ _ (le-ltb column (s .size .columns) edge) ∙ else-case _ _ _ (le-ltb row (s .size .rows) last))
 
 -- What the functions for events ask of a byte's event: its final byte, and the count of the record before it.
 pub final-in-table : (half : HalfRead) (byte : ℕ) (advanced : Advanced) → advanced ≡ advanceOf half byte → FinalInTable (advanced .event)

@@ -5,7 +5,7 @@ use state::State;
 ghost use mathlib.Core.Path.{_≡_};
 ghost use Prim.Native.Nat.{_+_, _≤_};
 ghost use lib.ListN.{length, drop};
-ghost use Rattle.state.specs.State.{withCursor};
+ghost use Rattle.state.specs.State.{withCursor, cursorAt};
 ghost use Rattle.steps.specs.Steps.{Valid, terminalOf};
 ghost use Rattle.commands.specs.Text.{textLength, afterText};
 
@@ -15,14 +15,15 @@ pub struct TextRun {
     pub end: usize,
 }
 
-fn ended(state: State, at: usize) -> TextRun
-    ensures { λ r. ⌜ r ≡ record { cursor = state .cursor; end = at } ⌝ }
+fn ended(row: usize, column: usize, at: usize) -> TextRun
+    ensures { λ r. ⌜ r ≡ record { cursor = cursorAt row column; end = at } ⌝ }
 {
-    let cursor = state.cursor;
+    let cursor = Cursor { row, column };
     TextRun { cursor, end: at }
 }
 
-// The bytes from one on, as far as they are text: each takes the cursor's cell, and the cursor goes on.
+// The bytes from one on, as far as they are text: each takes the cursor's cell, and the cursor goes on. Row, column and
+// cell are counted along: a state handed around for each byte takes half as long again.
 pub fn text_run(
     state: State,
     characters: &mut [u8],
@@ -37,17 +38,30 @@ pub fn text_run(
         (terminalOf state (now (characters .entry)) (now (marks .entry))) ⌝ }
     ensures { λ r. ⌜ r .end ≡ from + textLength (drop from (now (bytes .entry))) ⌝ }
 {
-    let mut here = state;
+    let place = state.place();
+    let mut cell = place.cell;
+    let mut row = state.cursor.row;
+    let mut column = state.cursor.column;
     let mut at = from;
     while at < bytes.len() {
         let byte = bytes[at];
         if !sequence::is_text(byte) {
-            return ended(here, at);
+            return ended(row, column, at);
         }
-        let place = here.place();
-        page::store_text(characters, marks, place.cell, byte, here.modes.pen);
-        here = here.to_next_cell();
+        page::store_text(characters, marks, cell, byte, state.modes.pen);
         at += 1;
+        cell += 1;
+        if column < state.size.columns {
+            column += 1;
+        } else {
+            column = 1;
+            if row < state.size.rows {
+                row += 1;
+            } else { // round the page
+                row = 1;
+                cell = 0;
+            }
+        }
     }
-    ended(here, at)
+    ended(row, column, at)
 }
