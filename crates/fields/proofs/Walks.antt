@@ -1,11 +1,11 @@
 -- What the walks over a page know, a turn of the loop at a time.
-use mathlib.Core.Path.{_≡_, sym, subst}
+use mathlib.Core.Path.{_≡_, sym, ap, subst, _∙_}
 use mathlib.Core.Bool.{Bool, true, false}
-use mathlib.Core.Logic.{⊎-elim}
+use mathlib.Core.Logic.{inl, inr, ⊎-elim}
 use Prim.Native.Nat.{ℕ, zero, suc, _+_, _-_, _<_, _≤_}
 use native.Mathlib.Numerals.{sub-one}
 use native.Mathlib.Omega.{arith}
-use Rattle.words.proofs.Choosing.{not-both, then-case, else-case, le-or-lt}
+use Rattle.words.proofs.Choosing.{not-both, then-case, else-case, less-or-not, le-or-lt}
 use Rattle.places.specs.declared.Place.{Place}
 use Rattle.places.specs.Places.{placeOf, Counted}
 use Rattle.places.proofs.Counting.{cell-is, counted}
@@ -14,7 +14,7 @@ use Rattle.fields.specs.declared.Sought.the-variants.{At, Nowhere}
 use Rattle.fields.specs.Fields.{joined, fieldStart, endFrom, fieldEnd, fieldsFrom, fieldsOf}
 use Rattle.fields.specs.Searches.{orElse, firstUnprotectedFrom, firstUnprotected}
 use Rattle.fields.proofs.Claims.{Finds, found, nothing, First, Last, Passes}
-use Rattle.fields.proofs.Laws.{joined-has-before}
+use Rattle.fields.proofs.Laws.{joined-has-before, are-apart}
 
 -- A turn of the walk to a field's start.
 pub start-on : (isUnprotected : ℕ → Bool) (cell : ℕ) → joined isUnprotected cell ≡ true → fieldStart isUnprotected cell ≡ fieldStart isUnprotected (cell - 1)
@@ -35,6 +35,14 @@ module _ (isUnprotected : ℕ → Bool) (cells cell : ℕ) where
   pub end-at-last : cells ≤ cell + 1 → fieldEnd isUnprotected cells cell ≡ cell + 1
   unfolding fieldEnd endFrom
   end-at-last h = let no-more : cells - (cell + 1) ≡ 0 = omega arith in rw no-more
+
+  -- a protected cell stands by itself
+  pub end-of-protected : isUnprotected cell ≡ false → fieldEnd isUnprotected cells cell ≡ cell + 1
+  end-of-protected protected =
+      let back : cell + 1 - 1 ≡ cell = omega arith in
+      less-or-not (cell + 1) cells
+      (λ more. end-stops more (are-apart isUnprotected (cell + 1) (inr (inl (ap isUnprotected back ∙ protected)))))
+      end-at-last
 
 -- A search onward that has come from one place to another, and found nothing on the way.
 pub record Onward (test : ℕ → Bool) (columns cells : ℕ) (from here : Place) : Type 0 where

@@ -62,8 +62,11 @@ pub fn field_end(marks: &[Mark], cell: usize) -> usize
     ensures { λ r. ⌜ r ≡ fieldEnd (unprotected (now (marks .entry))) (length (now (marks .entry))) cell ⌝ }
 {
     let mut end = cell + 1;
+    if !page::is_unprotected(marks, cell) {
+        return end;
+    }
     while end < marks.len() {
-        if !is_joined(marks, end) {
+        if !page::is_unprotected(marks, end) {
             return end;
         }
         end += 1;

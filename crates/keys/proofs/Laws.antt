@@ -1,24 +1,25 @@
--- The cursor's cell and the rest of its field as the code finds them, and what a search of the fields says of their
--- list.
+-- The cursor's cell and the rest of its field as the code finds them, and where there is no field.
 use mathlib.Core.Path.{_≡_, refl, sym, ap, _∙_}
 use mathlib.Core.Bool.{Bool, true, false, not}
-use mathlib.Core.List.{List, [], _∷_}
+use mathlib.Core.List.{List, [], _∷_, List·Memᴰ·head, List·Memᴰ·not-nil}
 use Prim.Native.Nat.{ℕ, _-_, _<_, _≤_}
 use native.Mathlib.Omega.{arith}
 use borrow.Author.Tests.{not-true, not-false}
-use lib.ListN.{length}
+use lib.ListN.{length, getD}
 use Rattle.words.specs.Choice.{if_then_else_}
+use Rattle.words.specs.Lists.{every}
+use Rattle.words.proofs.Choosing.{not-both, either-way, refuted}
 use Rattle.words.proofs.Elements.{run-length}
-use Rattle.page.specs.Marks.{unprotected}
+use Rattle.words.proofs.Passing.{passes, every-passes}
+use Rattle.page.specs.Marks.{isProtected, unprotected}
 use Rattle.page.specs.Page.{Page, partStored}
 use Rattle.places.specs.declared.Place.{Place}
 use Rattle.places.specs.Places.{placeOf, Counted}
 use Rattle.places.proofs.Counting.{cell-is, counted}
-use Rattle.fields.specs.declared.Sought.{Sought}
-use Rattle.fields.specs.declared.Sought.the-variants.{At, Nowhere}
-use Rattle.fields.specs.Fields.{Field, fieldStart, fieldEnd}
-use Rattle.fields.specs.Searches.{orElse, firstField, firstAfter, nextField}
+use Rattle.fields.specs.Fields.{Field, fieldStart, fieldEnd, fieldsOf}
 use Rattle.fields.proofs.Bounds.{start-of, end-of}
+use Rattle.fields.proofs.Claims.{Lists, _has_}
+use Rattle.fields.proofs.Theorems.{all-fields-listed}
 use Rattle.steps.specs.declared.Step.{Step}
 use Rattle.steps.specs.Steps.{Terminal, Stepped, Valid, goesTo, stores, cursorCell}
 use Rattle.steps.specs.Told.{told, tells}
@@ -97,17 +98,29 @@ module _ {t : Terminal} {place : Place} (here : Found t place) where
         ∙ ap (λ (cells : ℕ). fieldEnd (unprotectedAt t) cells (place .cell)) (here .as-many)
         ∙ ap (fieldEnd (unprotectedAt t) (cellsHere t)) (here .cell)
 
--- A search of the fields, going round, finds nothing exactly where there is none.
-pub none-sought : (columns cell : ℕ) (fields : List Field) → nextField columns cell fields ≡ Nowhere → noField fields ≡ true
-unfolding nextField firstField orElse noField
-none-sought columns cell [] is = refl
-none-sought columns cell (field ∷ later) is = go (firstAfter columns cell (field ∷ later)) is
-  where
-    go : (sought : Sought) → orElse sought (At (placeOf columns (field .start))) ≡ Nowhere → false ≡ true
-    go (At place) is = cc
-    go Nowhere is = cc
+-- There is no field exactly where every cell is protected.
+module _ (marks : List ℕ) where
+  protected-if-not : (cell : ℕ) → unprotected marks cell ≡ false → isProtected (getD marks cell 0) ≡ true
+  unfolding unprotected
+  protected-if-not cell is = not-false _ is
 
-pub one-sought : (columns cell : ℕ) (fields : List Field) {place : Place} → nextField columns cell fields ≡ At place → noField fields ≡ false
-unfolding nextField firstField firstAfter orElse noField
-one-sought columns cell [] is = cc
-one-sought columns cell (field ∷ later) is = refl
+  not-unprotected : (cell : ℕ) → isProtected (getD marks cell 0) ≡ true → unprotected marks cell ≡ false
+  unfolding unprotected
+  not-unprotected cell is = ap not is
+
+  by-fields : (fields : List Field) → Lists (unprotected marks) (length marks) fields → every isProtected marks ≡ noField fields
+  unfolding noField
+  by-fields [] lists =
+      every-passes isProtected marks
+      (λ cell here. either-way (unprotected marks cell)
+      (λ is. absurd (List·Memᴰ·not-nil (lists .every-cell cell here is .listed)))
+      (protected-if-not cell))
+  by-fields (field ∷ later) lists =
+      let is = lists .only-fields field (List·Memᴰ·head refl) in
+      let first : field has field .start = (omega arith, omega (arith, is .some-cells)) in
+      refuted (every isProtected marks)
+      (λ all. not-both (is .all-unprotected (field .start) first)
+      (not-unprotected (field .start) (passes isProtected marks all (field .start) (omega (arith, is .some-cells, is .on-page)))))
+
+  pub all-protected : every isProtected marks ≡ noField (fieldsOf (unprotected marks) (length marks))
+  all-protected = by-fields _ (all-fields-listed (unprotected marks) (length marks))

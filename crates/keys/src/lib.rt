@@ -95,11 +95,7 @@ fn has_no_field(state: State, characters: &[u8], marks: &[Mark]) -> bool
     ensures { λ r. ⌜ r ≡ noField
         (fieldsHere (terminalOf state (now (characters .entry)) (now (marks .entry)))) ⌝ }
 {
-    let sought = fields::next_field(marks, state.place(), state.size.columns);
-    match sought {
-        Sought::At(_) => false,
-        Sought::Nowhere => true,
-    }
+    page::is_all_protected(marks)
 }
 
 // Whether line 7 holds.

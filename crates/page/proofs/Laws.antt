@@ -5,14 +5,14 @@ use mathlib.Core.List.{List, [], _∷_, _++_}
 use Prim.Native.Nat.{ℕ, suc, _+_, _-_, _<_, _≤_}
 use native.Mathlib.Nat.{not-suc-le-zero}
 use native.Mathlib.Omega.{arith}
-use borrow.Author.Tests.{not-true, not-false}
+use borrow.Author.Tests.{not-false}
 use lib.ListN.{length, take, drop, getD, set, replicate, length-drop, drop-of-length-le}
 use lib.Seq.{drop-cons, drop-drop, set-at, length-take-le}
 use Rattle.words.specs.Choice.{if_then_else_, _and_, _or_}
 use Rattle.words.specs.Lists.{within, each, onPart}
-use Rattle.words.proofs.Choosing.{then-case, else-case, both-hold, first-fails, second-fails}
+use Rattle.words.proofs.Choosing.{then-case, else-case, both-hold, first-decides, first-fails}
 use Rattle.words.proofs.Writing.{pushed, each-last, each-first, inside, before-range, after-range}
-use Rattle.page.specs.Marks.{withoutModified, unprotected}
+use Rattle.page.specs.Marks.{unprotected}
 use Rattle.page.specs.Page.{Page, pageOf, cells, closedUp, movedRight, erasable, erased, scrolledUp, scrolledDown, pulledUp, pushedDown, tagged, partStored, markAfterBlock}
 
 -- The last store of `close_up`, and of `move_right`.
@@ -39,11 +39,11 @@ abbrev erasing : Bool → ℕ → ℕ → List ℕ → ℕ → ℕ → ℕ → �
 erasing mode from to marks v cell x = if within from to cell and erasable mode marks cell then v else x
 
 module _ (mode : Bool) (from to : ℕ) (marks : List ℕ) (v cell x : ℕ) where
+  pub erases-if : from ≤ cell → cell < to → (hit : Bool) → hit ≡ erasable mode marks cell → (if hit then v else x) ≡ erasing mode from to marks v cell x
+  erases-if h l hit is = rw (first-decides _ (erasable mode marks cell) (inside from to cell h l), is)
+
   pub erases : from ≤ cell → cell < to → erasable mode marks cell ≡ true → erasing mode from to marks v cell x ≡ v
   erases h l p = then-case _ _ _ (both-hold _ _ (inside from to cell h l) p)
-
-  pub passes-by : erasable mode marks cell ≡ false → erasing mode from to marks v cell x ≡ x
-  passes-by p = else-case _ _ _ (second-fails _ _ p)
 
   pub leaves-before : cell < from → erasing mode from to marks v cell x ≡ x
   leaves-before h = else-case _ _ _ (first-fails _ _ (before-range from to cell h))
@@ -58,10 +58,6 @@ still-erasable mode before now cell same = rw same
 
 -- What sending makes of the mark of a cell.
 module _ (marks : List ℕ) (cell : ℕ) where
-  pub sent-unprotected : unprotected marks cell ≡ true → markAfterBlock (getD marks cell 0) ≡ withoutModified (getD marks cell 0)
-  unfolding unprotected markAfterBlock
-  sent-unprotected cell-unprotected = else-case _ _ _ (not-true _ cell-unprotected)
-
   pub sent-protected : unprotected marks cell ≡ false → markAfterBlock (getD marks cell 0) ≡ getD marks cell 0
   unfolding unprotected markAfterBlock
   sent-protected protected = then-case _ _ _ (not-false _ protected)

@@ -2,3 +2,5 @@ pub mod Bits
 pub mod Laws
 pub mod Keeping
 pub mod Protecting
+pub mod Asking
+pub mod Counting

@@ -29,4 +29,6 @@ pub use scrolling::scroll_up;
 pub use storing::clear_modified;
 pub use storing::store_text;
 pub use storing::store_typed;
+pub use tests::both;
+pub use tests::is_all_protected;
 pub use tests::is_valid_page;

@@ -2,6 +2,7 @@
 ghost use mathlib.Core.Path.{_≡_};
 ghost use Prim.Native.Nat.{_<_};
 ghost use lib.ListN.{length, getD, set};
+ghost use Rattle.words.specs.Choice.{if_then_else_};
 ghost use Rattle.page.specs.Marks.{isProtected, isModified, isBold, isUnderlined, isBlinking, isReversed};
 ghost use Rattle.page.specs.Marks.{isConcealed, withModified, withoutModified, unprotected};
 
@@ -55,6 +56,16 @@ pub fn is_concealed(mark: Mark) -> bool
     ensures { λ r. ⌜ r ≡ isConcealed mark ⌝ }
 {
     mark / 64 % 2 == 1
+}
+
+// One byte or the other, without a branch: so a loop that stores it takes many cells at a time.
+pub fn chosen(first: bool, one: u8, other: u8) -> u8
+    ensures { λ r. ⌜ r ≡ (if first then one else other) ⌝ }
+{
+    if first {
+        return one;
+    }
+    other
 }
 
 // The mark of a cell that a key has stored.

@@ -1,6 +1,7 @@
 // One cell stored, by text or by a key; and what a block that was sent leaves of the marks.
 use crate::marks::Mark;
-use crate::marks::is_unprotected;
+use crate::marks::chosen;
+use crate::marks::is_protected;
 use crate::marks::mark_at;
 use crate::marks::set_mark;
 use crate::marks::with_modified;
@@ -37,11 +38,9 @@ pub fn clear_modified(marks: &mut [Mark])
 {
     let mut cell = 0;
     while cell < marks.len() {
-        let at = cell;
+        let mark = mark_at(marks, cell);
+        let sent = chosen(is_protected(mark), mark, without_modified(mark));
+        set_mark(marks, cell, sent);
         cell += 1;
-        if is_unprotected(marks, at) {
-            let mark = mark_at(marks, at);
-            set_mark(marks, at, without_modified(mark));
-        }
     }
 }

@@ -1,39 +1,85 @@
 // What a lent page may have, and no other; see specs/Page.antt, validPage.
 use crate::marks::Mark;
+use crate::marks::is_protected;
 use crate::marks::mark_at;
 ghost use mathlib.Core.Path.{_≡_};
+ghost use lib.Dec.{ltb};
+ghost use Rattle.words.specs.Choice.{if_then_else_, _and_};
 ghost use Rattle.words.specs.Lists.{every};
-ghost use Rattle.page.specs.Marks.{validCharacter, validMark};
+ghost use Rattle.page.specs.Marks.{isProtected, validCharacter, validMark};
 ghost use Rattle.page.specs.Page.{pageOf, validPage};
 
+// The larger of two bytes, and the smaller.
+fn larger(a: u8, b: u8) -> u8
+    ensures { λ r. ⌜ r ≡ (if ltb a b then b else a) ⌝ }
+{
+    if a < b {
+        return b;
+    }
+    a
+}
+
+fn smaller(a: u8, b: u8) -> u8
+    ensures { λ r. ⌜ r ≡ (if ltb b a then b else a) ⌝ }
+{
+    if b < a {
+        return b;
+    }
+    a
+}
+
+// The loops ask every cell, whatever was found before: then the compiler takes many cells at a time.
 fn characters_are_valid(characters: &[u8]) -> bool
     ensures { λ r. ⌜ r ≡ every validCharacter (now (characters .entry)) ⌝ }
 {
+    let mut least = 0x20;
+    let mut most = 0x20;
     let mut cell = 0;
     while cell < characters.len() {
         let character = characters[cell];
-        if character < 0x20 {
-            return false;
-        }
-        if 0x7E < character {
-            return false;
-        }
+        least = smaller(least, character);
+        most = larger(most, character);
         cell += 1;
     }
-    true
+    if least < 0x20 {
+        return false;
+    }
+    most <= 0x7E
 }
 
 fn marks_are_valid(marks: &[Mark]) -> bool
     ensures { λ r. ⌜ r ≡ every validMark (now (marks .entry)) ⌝ }
 {
+    let mut most = 0;
     let mut cell = 0;
     while cell < marks.len() {
-        if 0x80 <= mark_at(marks, cell) {
-            return false;
-        }
+        most = larger(most, mark_at(marks, cell));
         cell += 1;
     }
-    true
+    most < 0x80
+}
+
+// Both tests hold. A loop that asks by it goes on to the end, as the two above do.
+pub fn both(one: bool, other: bool) -> bool
+    ensures { λ r. ⌜ r ≡ (one and other) ⌝ }
+{
+    if one {
+        return other;
+    }
+    false
+}
+
+// Whether no cell is unprotected: then there is no field.
+pub fn is_all_protected(marks: &[Mark]) -> bool
+    ensures { λ r. ⌜ r ≡ every isProtected (now (marks .entry)) ⌝ }
+{
+    let mut all = true;
+    let mut cell = 0;
+    while cell < marks.len() {
+        all = both(all, is_protected(mark_at(marks, cell)));
+        cell += 1;
+    }
+    all
 }
 
 // Document 01's number 2 asks this of the lent page.

@@ -1,10 +1,13 @@
 -- What is read place by place: how much it is, and what is at each place.
-use mathlib.Core.Path.{_≡_, refl, ap, _∙_}
-use Prim.Native.Nat.{ℕ, zero, suc, _+_, _*_, _<_}
+use mathlib.Core.Path.{_≡_, refl, sym, ap, _∙_}
+use mathlib.Core.Bool.{Bool, false}
+use mathlib.Core.List.{List}
+use Prim.Native.Nat.{ℕ, zero, suc, _+_, _*_, _<_, _≤_}
 use native.Mathlib.Nat.{le-of-suc-le-suc, not-suc-le-zero, suc-mul}
 use native.Mathlib.Omega.{arith}
-use lib.ListN.{length, getD}
-use Rattle.record.specs.Bytes.{readEach}
+use lib.ListN.{length, getD, set}
+use Rattle.words.proofs.Writing.{upTo, next-put, all-written}
+use Rattle.record.specs.Bytes.{flagAt, readEach}
 
 module _ {A : Type 0} (read : ℕ → A) (width : ℕ) where
   pub length-each : (at n : ℕ) → length (readEach read width at n) ≡ n
@@ -19,3 +22,18 @@ module _ {A : Type 0} (read : ℕ → A) (width : ℕ) where
   each-there other at (suc n) (suc k) here =
       let next : at + width + k * width ≡ at + suc k * width = rw (suc-mul k width) (omega arith) in
       each-there other (at + width) n k (le-of-suc-le-suc here) ∙ ap read next
+
+-- A loop that reads the stops of a record and has come to column i, counted from 0.
+abbrev pub stopsRead : List ℕ → List Bool
+stopsRead bytes = readEach (flagAt bytes) 1 33 160
+
+module _ (bytes : List ℕ) (start now : List Bool) (i : ℕ) (all : length start ≡ 160) (so-far : now ≡ upTo i (stopsRead bytes) start) where
+  pub next-stop-read : i < 160 → (stop : Bool) → stop ≡ flagAt bytes (33 + i) → set now i stop ≡ upTo (i + 1) (stopsRead bytes) start
+  next-stop-read here stop is =
+      let size = length-each (flagAt bytes) 1 33 160 in
+      let place : 33 + i * 1 ≡ 33 + i = omega arith in
+      next-put false (stopsRead bytes) start now i so-far stop (omega (arith, here, size)) (omega (arith, here, all))
+      (is ∙ sym (rw place at (each-there (flagAt bytes) 1 false 33 160 i here)))
+
+  pub stops-read : 160 ≤ i → now ≡ stopsRead bytes
+  stops-read h = so-far ∙ all-written (stopsRead bytes) start i (length-each (flagAt bytes) 1 33 160 ∙ sym all) (omega (arith, h, all))

@@ -174,9 +174,26 @@ fn arguments_in(bytes: &[u8]) -> [u16; 8]
     arguments
 }
 
+// The stops of a whole record. Here no byte is past the end, and the compiler takes many at a time.
+fn stops_there(bytes: &[u8]) -> [bool; 160]
+    requires { ⌜ 193 ≤ length (now bytes) ⌝ }
+    ensures { λ r. ⌜ r ≡ readEach (flagAt (now (bytes .entry))) 1 33 160 ⌝ }
+{
+    let mut stops = [false; 160];
+    let mut i = 0;
+    while i < 160 {
+        stops[i] = bytes[STOPS + i] == 1;
+        i += 1;
+    }
+    stops
+}
+
 fn stops_in(bytes: &[u8]) -> [bool; 160]
     ensures { λ r. ⌜ r ≡ readEach (flagAt (now (bytes .entry))) 1 33 160 ⌝ }
 {
+    if LENGTH <= bytes.len() {
+        return stops_there(bytes);
+    }
     let mut stops = [false; 160];
     let mut i = 0;
     while i < 160 {

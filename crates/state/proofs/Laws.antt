@@ -1,13 +1,13 @@
 -- The loops over tab stops, a turn at a time, and the columns that they end at.
 use mathlib.Core.Path.{_≡_, refl, ap}
-use mathlib.Core.Bool.{Bool, true, false, not}
+use mathlib.Core.Bool.{Bool, false, not}
 use mathlib.Core.List.{List}
 use Prim.Native.Nat.{ℕ, zero, suc, _+_, _-_, _<_, _≤_}
 use native.Mathlib.Omega.{arith}
 use lib.ListN.{length, getD}
-use Rattle.words.specs.Choice.{if_then_else_}
+use Rattle.words.specs.Choice.{if_then_else_, _and_}
 use Rattle.words.proofs.Choosing.{either-line}
-use Rattle.words.proofs.Passing.{next-passes, next-fails, all-pass}
+use Rattle.page.proofs.Asking.{next-asked, all-asked}
 use Rattle.state.specs.Tabs.{stopRight, stopLeft, stopsOn, stopsBack}
 use Rattle.state.specs.Tests.{stopsFit}
 
@@ -15,19 +15,15 @@ use Rattle.state.specs.Tests.{stopsFit}
 abbrev pub OneTo : ℕ → ℕ → Type 0
 OneTo last at = (1 ≤ at) × (at ≤ last)
 
--- The stops after the first i columns.
-module _ (stops : List Bool) (i : ℕ) where
-  pub no-stop-next : i < length stops → getD stops i false ≡ false → stopsFit i stops ≡ stopsFit (i + 1) stops
+-- The stops after the first i columns, asked one by one, with what is known of those before them.
+module _ (stops : List Bool) (i : ℕ) (so-far : Bool) where
+  pub next-stop-asked : i < length stops → (so-far and stopsFit i stops) ≡ ((so-far and not (getD stops i false)) and stopsFit (i + 1) stops)
   unfolding stopsFit
-  no-stop-next here p = next-passes not false stops i here (ap not p)
+  next-stop-asked here = next-asked not false stops i so-far here
 
-  pub stop-next : i < length stops → getD stops i false ≡ true → stopsFit i stops ≡ false
+  pub stops-asked : length stops ≤ i → (so-far and stopsFit i stops) ≡ so-far
   unfolding stopsFit
-  stop-next here p = next-fails not false stops i here (ap not p)
-
-  pub no-stops-left : length stops ≤ i → stopsFit i stops ≡ true
-  unfolding stopsFit
-  no-stops-left h = all-pass not false stops i h
+  stops-asked h = all-asked not false stops i so-far h
 
 module _ (stops : List Bool) where
   -- One column on, and one back.
@@ -72,6 +68,17 @@ module _ (stops : List Bool) where
     pub stops-back-end : n ≤ 0 → stopsBack stops column n ≡ column
     unfolding stopsBack
     stops-back-end h = let none : n ≡ 0 = omega arith in rw none
+
+  -- At the last column no stop is left to find, however many are asked for; nor at column 1 back.
+  pub stops-on-over : (last column n : ℕ) → last ≤ column → stopsOn stops last column n ≡ column
+  unfolding stopsOn
+  stops-on-over last column zero h = refl
+  stops-on-over last column (suc n) h = rw (right-end last column h) (stops-on-over last column n h)
+
+  pub stops-back-over : (column n : ℕ) → column ≡ 1 → stopsBack stops column n ≡ column
+  unfolding stopsBack
+  stops-back-over column zero h = refl
+  stops-back-over column (suc n) h = rw (h, left-end 1 (omega arith)) (stops-back-over 1 n refl)
 
   -- A stop to the right is not past the last column, and one to the left not before the first.
   pub right-within : (last more column : ℕ) → 1 ≤ column → column + more ≤ last → OneTo last (stopRight stops column more)

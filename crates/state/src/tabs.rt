@@ -7,9 +7,9 @@ ghost use Rattle.state.specs.Tabs.{stopSet, stopCleared, stopsCleared, s
 ghost use Rattle.state.specs.Tabs.{tabbedOn, tabbedBack};
 
 // The next tab stop to the right of a column, else the last column.
-fn stop_right(stops: [bool; 160], last: usize, column: usize) -> usize
+fn stop_right(stops: &[bool; 160], last: usize, column: usize) -> usize
     requires { ⌜ (1 ≤ column) × (column ≤ last) × (last ≤ 160) ⌝ }
-    ensures { λ r. ⌜ r ≡ stopRight stops column (last - column) ⌝ }
+    ensures { λ r. ⌜ r ≡ stopRight (now (stops .entry)) column (last - column) ⌝ }
 {
     let mut at = column;
     while at < last {
@@ -22,9 +22,9 @@ fn stop_right(stops: [bool; 160], last: usize, column: usize) -> usize
 }
 
 // The next tab stop to the left of a column, else column 1.
-fn stop_left(stops: [bool; 160], column: usize) -> usize
+fn stop_left(stops: &[bool; 160], column: usize) -> usize
     requires { ⌜ (1 ≤ column) × (column ≤ 160) ⌝ }
-    ensures { λ r. ⌜ r ≡ stopLeft stops column ⌝ }
+    ensures { λ r. ⌜ r ≡ stopLeft (now (stops .entry)) column ⌝ }
 {
     let mut at = column;
     while 1 < at {
@@ -37,13 +37,16 @@ fn stop_left(stops: [bool; 160], column: usize) -> usize
 }
 
 // So many tab stops on.
-fn stops_on(stops: [bool; 160], last: usize, column: usize, n: usize) -> usize
+fn stops_on(stops: &[bool; 160], last: usize, column: usize, n: usize) -> usize
     requires { ⌜ (1 ≤ column) × (column ≤ last) × (last ≤ 160) ⌝ }
-    ensures { λ r. ⌜ r ≡ stopsOn stops last column n ⌝ }
+    ensures { λ r. ⌜ r ≡ stopsOn (now (stops .entry)) last column n ⌝ }
 {
     let mut at = column;
     let mut left = n;
     while 0 < left {
+        if last <= at { // no stop is left to find
+            return at;
+        }
         at = stop_right(stops, last, at);
         left -= 1;
     }
@@ -51,13 +54,16 @@ fn stops_on(stops: [bool; 160], last: usize, column: usize, n: usize) -> usize
 }
 
 // So many tab stops back.
-fn stops_back(stops: [bool; 160], column: usize, n: usize) -> usize
+fn stops_back(stops: &[bool; 160], column: usize, n: usize) -> usize
     requires { ⌜ (1 ≤ column) × (column ≤ 160) ⌝ }
-    ensures { λ r. ⌜ r ≡ stopsBack stops column n ⌝ }
+    ensures { λ r. ⌜ r ≡ stopsBack (now (stops .entry)) column n ⌝ }
 {
     let mut at = column;
     let mut left = n;
     while 0 < left {
+        if at <= 1 { // no stop is left to find
+            return at;
+        }
         at = stop_left(stops, at);
         left -= 1;
     }
@@ -71,7 +77,7 @@ impl State {
         ensures { λ r. ⌜ r ≡ tabbedOn n self ⌝ }
     {
         let stops = self.stops;
-        let column = stops_on(stops, self.size.columns, self.cursor.column, n);
+        let column = stops_on(&stops, self.size.columns, self.cursor.column, n);
         self.moved_to(self.cursor.row, column)
     }
 
@@ -81,7 +87,7 @@ impl State {
         ensures { λ r. ⌜ r ≡ tabbedBack n self ⌝ }
     {
         let stops = self.stops;
-        let column = stops_back(stops, self.cursor.column, n);
+        let column = stops_back(&stops, self.cursor.column, n);
         self.moved_to(self.cursor.row, column)
     }
 

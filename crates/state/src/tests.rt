@@ -54,14 +54,13 @@ fn cursor_fits(size: Size, cursor: Cursor) -> bool
 fn stops_fit(columns: usize, stops: [bool; 160]) -> bool
     ensures { λ r. ⌜ r ≡ stopsFit columns stops ⌝ }
 {
+    let mut fit = true;
     let mut i = columns;
-    while i < 160 {
-        if stops[i] {
-            return false;
-        }
+    while i < 160 { // to the end, whatever was found: then the compiler takes many columns at a time
+        fit = page::both(fit, !stops[i]);
         i += 1;
     }
-    true
+    fit
 }
 
 // A pen in range: modified and bit 7 are clear.

@@ -1,12 +1,10 @@
-use mathlib.Core.Path.{_≡_, refl, sym, ap, _∙_}
+use mathlib.Core.Path.{_≡_, refl, _∙_}
 use Prim.Native.Nat.{_≤_, _<_, _-_}
 use native.Mathlib.Omega.{arith}
 use borrow.Author.Needs.{needs}
 use lib.ListN.{length}
-use Rattle.words.proofs.Writing.{upTo, length-each, next-changed, next-same, all-written}
-use Rattle.page.specs.Marks.{withoutModified}
-use Rattle.page.specs.Page.{modifiedCleared}
-use Rattle.page.proofs.Laws.{sent-unprotected, sent-protected}
+use Rattle.words.proofs.Writing.{upTo, length-each, next-changed, all-written}
+use Rattle.page.specs.Page.{markAfterBlock, modifiedCleared}
 use Rattle.page.proofs.storing.clear_modified.Statement.{statement}
 use Rattle.page.proofs.storing.clear_modified.Tie as tie
 
@@ -19,30 +17,18 @@ abbrev μ-loop : tie.MeasureT-loop
 μ-loop marks₀ cell₀ marks cell = length marks₀ - cell
 
 loop-again : tie.Need-loop-again Inv-loop μ-loop
-unfolding modifiedCleared
+unfolding modifiedCleared markAfterBlock
 loop-again c =
     let stored = c .before .before in
-    let read = stored .before .before .before in
-    let answer = read .before .before .before in
-    let turn = answer .before .before .before in
+    let picked = stored .before .before in
+    let read = picked .before .before .before in
+    let turn = read .before .before .before in
     let here : turn .loop .cell < length (turn .before .before .args .marks .now) = omega arith in (
       search needs,
       search needs,
       stored .set-mark .ensures
           ∙ next-changed _ _ _ _ (turn .loop .inv .2) here _
-          (stored .before .without-modified .ensures
-          ∙ ap withoutModified (read .mark-at .ensures)
-          ∙ sym (sent-unprotected _ _ (sym (answer .is-unprotected .ensures) ∙ read .before .before .if1 .taken))),
-    )
-
-loop-again-2 : tie.Need-loop-again-2 Inv-loop μ-loop
-unfolding modifiedCleared
-loop-again-2 c =
-    let turn = c .before .before .before .before in
-    let here : turn .loop .cell < length (turn .before .before .args .marks .now) = omega arith in (
-      search needs,
-      turn .loop .inv .1,
-      next-same _ _ _ _ (turn .loop .inv .2) here (sym (sent-protected _ _ (sym (c .before .is-unprotected .ensures) ∙ c .if1 .left))),
+          (rw (picked .chosen .ensures, picked .before .without-modified .ensures, picked .before .before .is-protected .ensures, read .mark-at .ensures)),
     )
 
 returns : tie.Need-returns Inv-loop μ-loop
@@ -58,14 +44,13 @@ clear-modified-spec =
     Inv-loop
     μ-loop
     (λ c. (search needs, refl, refl))
+    (λ c κs. search needs)
+    (λ c κs. search needs)
+    (λ c κs. search needs)
+    (λ c κs. search needs)
+    (λ c κs. search needs)
     (λ c. search needs)
-    (λ c κs. search needs)
-    (λ c κs. search needs)
-    (λ c κs. search needs)
-    (λ c κs. search needs)
     (λ c. search needs)
     loop-again
-    (λ c. search needs)
-    loop-again-2
     (λ c. search needs)
     returns)
