@@ -136,7 +136,7 @@ def worst(results):
         ]
         rows.append((-by_byte, cells))
     rows.sort()
-    heads = ["instructions", "a byte", "passes over the page", "plain C, a byte", "ratio", "9,600 baud", "19,200 baud"]
+    heads = ["instructions", "a byte", "a cell", "plain C, a byte", "ratio", "9,600 baud", "19,200 baud"]
     return table(["command", "sequence", "when", *heads], [cells for _, cells in rows])
 
 
@@ -146,7 +146,7 @@ def worst_keys(results):
         ours, plain = int(ours), int(plain)
         cells = [f"{ours:,}", f"{ours / CELLS:.2f}", f"{plain:,}", ratio(plain, ours), millions(10 * ours)]
         rows.append([name, "" if when == "any" else when, *cells])
-    return table(["key", "when", "instructions", "passes over the page", "plain C", "ratio", "ten a second"], rows)
+    return table(["key", "when", "instructions", "a cell", "plain C", "ratio", "ten a second"], rows)
 
 
 def summary(results):

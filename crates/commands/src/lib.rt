@@ -8,6 +8,7 @@ pub use light::is_light;
 pub use light::light_step;
 use page::Mark;
 use sequence::Event;
+use sequence::HalfRead;
 use sequence::Reason;
 use state::State;
 use steps::Step;
@@ -18,7 +19,9 @@ ghost use mathlib.Core.Bool.{false};
 ghost use Prim.Native.Nat.{_≤_, _+_};
 ghost use lib.ListN.{length};
 ghost use Rattle.sequence.specs.declared.Event.the-variants.{Control, EscCommand, BracketCommand};
-ghost use Rattle.page.specs.Page.{pageOf};
+ghost use Rattle.page.specs.Page.{Page, pageOf};
+ghost use Rattle.state.specs.State.{OnPage, withHalf};
+ghost use Rattle.sending.specs.Sending.{statusReport};
 ghost use Rattle.steps.specs.Steps.{Valid, cursorCell, rowStart, terminalOf};
 ghost use Rattle.steps.specs.Told.{told, tells, written};
 ghost use Rattle.commands.specs.Text.{textStep, lineDown, lineUp, controlStep};
@@ -187,7 +190,7 @@ fn erase_row(
 // After ESC: S sends, and its transmission may not fit.
 fn esc_step(
     state: State,
-    before: State,
+    half: HalfRead,
     characters: &mut [u8],
     marks: &mut [Mark],
     out: &mut [u8],
@@ -199,19 +202,41 @@ fn esc_step(
     ensures { λ r. ⌜
         record { told = told r (pageOf (now (characters .exit)) (now (marks .exit))); output = now (out .exit) }
         ≡ written at (now (out .entry))
-        (terminalOf before (now (characters .entry)) (now (marks .entry)))
+        (terminalOf (withHalf state half) (now (characters .entry)) (now (marks .entry)))
         (escStep byte (terminalOf state (now (characters .entry)) (now (marks .entry)))) ⌝ }
 {
     if byte == b'S' {
+        let before = state.with_half(half);
         return sending::send_block(state, before, characters, marks, out, at, true);
     }
     silent_esc_step(state, characters, marks, byte)
 }
 
+// DSR.
+fn status_report(
+    state: State,
+    half: HalfRead,
+    out: &mut [u8],
+    at: usize,
+    letter: u8,
+    what: usize,
+) -> Step
+    requires { ⌜ OnPage state ⌝ }
+    requires { ⌜ at ≤ length (now out) ⌝ }
+    ensures { λ r. ⌜ ((page : Page) →
+        record { told = told r page; output = now (out .exit) }
+        ≡ written at (now (out .entry))
+        (record { state = withHalf state half; page = page })
+        (statusReport letter what (record { state = state; page = page }))) ⌝ }
+{
+    let before = state.with_half(half);
+    sending::status_report(state, before, out, at, letter, what)
+}
+
 // After ESC [, what is not light: the table is consulted before anything else.
 fn bracket_step(
     state: State,
-    before: State,
+    half: HalfRead,
     characters: &mut [u8],
     marks: &mut [Mark],
     out: &mut [u8],
@@ -219,15 +244,14 @@ fn bracket_step(
     letter: u8,
 ) -> Step
     requires { ⌜ Valid (terminalOf state (now characters) (now marks)) ⌝ }
-    requires { ⌜ (at ≤ length (now out)) × (0x40 ≤ letter) × (letter ≤ 0x7E) × (before .half .count ≤ 8) ×
+    requires { ⌜ (at ≤ length (now out)) × (0x40 ≤ letter) × (letter ≤ 0x7E) × (half .count ≤ 8) ×
         (isLight (state .size) (state .cursor) (BracketCommand letter) ≡ false) ⌝ }
     ensures { λ r. ⌜
         record { told = told r (pageOf (now (characters .exit)) (now (marks .exit))); output = now (out .exit) }
         ≡ written at (now (out .entry))
-        (terminalOf before (now (characters .entry)) (now (marks .entry)))
-        (bracketStep letter (before .half) (terminalOf state (now (characters .entry)) (now (marks .entry)))) ⌝ }
+        (terminalOf (withHalf state half) (now (characters .entry)) (now (marks .entry)))
+        (bracketStep letter half (terminalOf state (now (characters .entry)) (now (marks .entry)))) ⌝ }
 {
-    let half = before.half;
     let arguments = half.arguments;
     let count = half.count;
     let most = table::most_arguments(letter);
@@ -245,15 +269,15 @@ fn bracket_step(
         b'W' => table::settings::tab_control(state, letter, what), // CTC
         b'J' => erase_part(state, characters, marks, letter, what, 0, cells), // ED
         b'K' => erase_row(state, characters, marks, letter, what), // EL
-        _ => sending::status_report(state, before, out, at, letter, what), // n: DSR
+        _ => status_report(state, half, out, at, letter, what), // n: DSR
     }
 }
 
-// The step of an event that is not light. `before` is the state before the event's byte, which has a
-// command's arguments. A transmission is written into the output from `at` on; where it doesn't fit nothing happens.
+// The step of an event that is not light. `half` is the half-read record before the event's byte, which has a command's
+// arguments. A transmission is written into the output from `at` on; where it doesn't fit nothing happens.
 pub fn heavy_step(
     state: State,
-    before: State,
+    half: HalfRead,
     characters: &mut [u8],
     marks: &mut [Mark],
     out: &mut [u8],
@@ -261,22 +285,22 @@ pub fn heavy_step(
     event: Event,
 ) -> Step
     requires { ⌜ Valid (terminalOf state (now characters) (now marks)) ⌝ }
-    requires { ⌜ (at ≤ length (now out)) × FinalInTable event × (before .half .count ≤ 8) ×
+    requires { ⌜ (at ≤ length (now out)) × FinalInTable event × (half .count ≤ 8) ×
         (isLight (state .size) (state .cursor) event ≡ false) ⌝ }
     ensures { λ r. ⌜
         record { told = told r (pageOf (now (characters .exit)) (now (marks .exit))); output = now (out .exit) }
         ≡ written at (now (out .entry))
-        (terminalOf before (now (characters .entry)) (now (marks .entry)))
-        (eventStep (before .half) event (terminalOf state (now (characters .entry)) (now (marks .entry)))) ⌝ }
+        (terminalOf (withHalf state half) (now (characters .entry)) (now (marks .entry)))
+        (eventStep half event (terminalOf state (now (characters .entry)) (now (marks .entry)))) ⌝ }
 {
     match event {
         Event::Nothing => steps::quiet(state), // does not come here
         Event::Text(character) => text(state, characters, marks, character),
         Event::Control(code) => control(state, characters, marks, code),
-        Event::EscCommand(letter) => esc_step(state, before, characters, marks, out, at, letter),
+        Event::EscCommand(letter) => esc_step(state, half, characters, marks, out, at, letter),
         Event::BracketCommand(letter) => bracket_step(
             state,
-            before,
+            half,
             characters,
             marks,
             out,

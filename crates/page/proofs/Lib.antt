@@ -3,4 +3,3 @@ pub mod Laws
 pub mod Keeping
 pub mod Protecting
 pub mod Asking
-pub mod Counting

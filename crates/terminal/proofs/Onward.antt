@@ -18,7 +18,6 @@ use Rattle.reading.specs.declared.Reading.{Reading}
 use Rattle.reading.specs.Ahead.{isNothing, readFrom, readTo}
 use Rattle.reading.proofs.Laws.{reads-on, reads-to, reads-last}
 use Rattle.page.specs.Page.{Page}
-use Rattle.state.specs.declared.State.{State}
 use Rattle.state.specs.State.{withHalf}
 use Rattle.steps.specs.declared.Step.{Step}
 use Rattle.steps.specs.Told.{told, written}
@@ -133,11 +132,9 @@ module _ (start : Terminal) (bytes before : List ℕ) (sent stored refused : ℕ
         (goes-silently (arrives .going) (arrives .inside) (lightStep light t) steps (ap bytesOf (light-sends-nothing t light)) stored refused′ protection (omega (arith, ap length (light-names-none t light))) refuses (ap (λ (b : Bool). protection or b) (light-protects-none t light) ∙ or-false protection))
 
     -- A step that may send, as the code tells of it: it is done, or it exceeds the room.
-    module _ (next : State) (goes : next ≡ withHalf (here .state) (read .after)) (step : Step) (page : Page) (written-to : List ℕ) (told-of : record { told = told step page; output = written-to } ≡ written sent output (reading here (read .before)) (eventStep (read .before) (read .event) (withState here next))) where
+    module _ (step : Step) (page : Page) (written-to : List ℕ) (told-of : record { told = told step page; output = written-to } ≡ written sent output (reading here (read .before)) (eventStep (read .before) (read .event) (reading here (read .after)))) where
       told-of-host : record { told = told step page; output = written-to } ≡ written sent output (reading here (read .before)) (hostStep last-byte (reading here (read .before)))
-      told-of-host =
-          told-of ∙ (λ i. written sent output (reading here (read .before)) (eventStep (read .before) (read .event) (withState here (goes i))))
-          ∙ ap (written sent output (reading here (read .before))) (sym arrived-step)
+      told-of-host = told-of ∙ ap (written sent output (reading here (read .before))) (sym arrived-step)
 
       pub goes-heavily : step .exceeds ≡ false → Going start bytes before (record { state = step .state; page = page }) (read .end) (sent + step .sent) (stored + step .stored) (refused + countOf (step .refused)) (protection or step .protection) written-to
       goes-heavily done =

@@ -155,10 +155,10 @@ fn run(
                     }
                 }
             } else {
-                here.half = before;
-                let next = here.with_half(after);
-                let step = commands::heavy_step(next, here, characters, marks, out, sent, event);
+                here.half = after;
+                let step = commands::heavy_step(here, before, characters, marks, out, sent, event);
                 if step.exceeds {
+                    here.half = before;
                     return Reply {
                         answer: Answer::NoRoom,
                         state: here,

@@ -8,7 +8,7 @@ use native.Mathlib.Omega.{arith}
 use lib.ListN.{length, take, drop, getD, set, replicate, length-take, length-drop, drop-of-length-le, length-replicate, getD-replicate}
 use lib.Seq.{getD-take, getD-drop}
 use Rattle.words.specs.Lists.{every, eachFrom, numbersFrom, onPart}
-use Rattle.words.proofs.Choosing.{both, both-hold, first-decides, first-fails}
+use Rattle.words.proofs.Choosing.{both, both-hold, first-decides, first-fails, then-case, else-case}
 use Rattle.words.proofs.Walking.{next-element}
 use Rattle.words.proofs.Writing.{length-each, getD-each}
 
@@ -29,6 +29,18 @@ module _ {A : Type 0} (test : A → Bool) (other : A) (list : List A) (i : ℕ) 
 -- A loop that counts the places before `to` that pass the test and has come to `place`:
 -- with those to come it makes `all`.
 module _ (test : ℕ → Bool) (place to count all : ℕ) (so-far : count + length (numbersFrom test place (to - place)) ≡ all) where
+  pub place-counted : place < to → test place ≡ true → count + 1 + length (numbersFrom test (place + 1) (to - (place + 1))) ≡ all
+  unfolding numbersFrom
+  place-counted h p =
+      let n : to - place ≡ suc (to - (place + 1)) = omega arith in
+      omega (arith, rw (n, then-case (test place) _ _ p) at so-far)
+
+  pub place-passed-by : place < to → test place ≡ false → count + length (numbersFrom test (place + 1) (to - (place + 1))) ≡ all
+  unfolding numbersFrom
+  place-passed-by h p =
+      let n : to - place ≡ suc (to - (place + 1)) = omega arith in
+      rw (n, else-case (test place) _ _ p) at so-far
+
   pub all-counted : to ≤ place → count ≡ all
   unfolding numbersFrom
   all-counted h = let n : to - place ≡ 0 = omega arith in omega (arith, rw n at so-far)

@@ -8,7 +8,7 @@ use native.Mathlib.Numerals.{add-one}
 use native.Mathlib.Omega.{arith}
 use borrow.Author.Tests.{lt-ltb, le-ltb, le-leb, lt-leb}
 use lib.ListN.{length, take, drop, getD, set, replicate, length-append, length-take, length-drop, drop-of-length-le, List·getD-append, List·getD-eq-default}
-use lib.Seq.{set-at, take-suc, drop-cons, append-snoc, take-all, getD-take, getD-drop, getD-append-add, drop-at, length-take-le}
+use lib.Seq.{set-getD, set-at, take-suc, drop-cons, append-snoc, take-all, getD-take, getD-drop, getD-append-add, drop-at, length-take-le}
 use Rattle.words.specs.Lists.{within, eachFrom, each, onPart}
 use Rattle.words.proofs.Choosing.{both-hold, first-fails, second-fails, less-or-not}
 
@@ -36,6 +36,9 @@ module _ (target start now : List ℕ) (i : ℕ) (so-far : now ≡ upTo i target
 
   pub next-stored : (v : ℕ) → i < length target → i < length start → v ≡ getD target i 0 → set now i v ≡ upTo (i + 1) target start
   next-stored v h k e = next-put 0 target start now i so-far v h k e
+
+  next-kept : i < length target → i < length start → getD now i 0 ≡ getD target i 0 → now ≡ upTo (i + 1) target start
+  next-kept h k e = sym (set-getD now i 0) ∙ next-stored (getD now i 0) h k e
 
 -- A loop from the back that has come down to i.
 module _ (target start now : List ℕ) (i : ℕ) (so-far : now ≡ upTo i start target) where
@@ -177,6 +180,9 @@ module _ (f : ℕ → ℕ → ℕ) (start now : List ℕ) (i : ℕ) (so-far : no
 
   pub next-changed : i < length start → (v : ℕ) → v ≡ f i (getD now i 0) → set now i v ≡ upTo (i + 1) (each f start) start
   next-changed here v e = next-stored (each f start) start now i so-far v (in-each here) here (e ∙ becomes here)
+
+  pub next-same : i < length start → getD now i 0 ≡ f i (getD now i 0) → now ≡ upTo (i + 1) (each f start) start
+  next-same here e = next-kept (each f start) start now i so-far (in-each here) here (e ∙ becomes here)
 
 -- The tests of a range.
 module _ (from to k : ℕ) where

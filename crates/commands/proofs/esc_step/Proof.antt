@@ -9,7 +9,7 @@ use Rattle.commands.proofs.esc_step.Tie as tie
 
 returns : tie.Need-returns
 unfolding escStep if_then_else_
-returns c = rw (c .before .before .before .before .before .before .before .before .if1 .taken) (c .before .before .before .before .send-block .ensures)
+returns c = rw (c .before .before .before .before .before .before .before .before .before .if1 .taken) (rw (c .before .before .before .before .before .before .before .before .with-half .ensures) at (c .before .before .before .before .send-block .ensures))
 
 returns-2 : tie.Need-returns-2
 returns-2 c = told-silent _ _ _ _ _ _ (c .before .before .before .before .silent-esc-step .ensures) (esc-silent _ _ (ne-eqb _ _ (c .before .before .before .before .before .before .before .if1 .left)))
@@ -18,6 +18,7 @@ pub esc-step-spec : {M : Type 1} → statement M
 esc-step-spec =
     tie.close
     (tie.spec
+    (λ c κs. search needs)
     (λ c κs. search needs)
     (λ c. search needs)
     (λ c. search needs)
