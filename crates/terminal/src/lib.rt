@@ -155,8 +155,8 @@ fn run(
                     }
                 }
             } else {
-                here.half = after;
-                let step = commands::heavy_step(here, before, characters, marks, out, sent, event);
+                let next = here.with_half(after);
+                let step = commands::heavy_step(next, before, characters, marks, out, sent, event);
                 if step.exceeds {
                     here.half = before;
                     return Reply {

@@ -158,68 +158,74 @@ loop-again-4 c =
 -- Any other event.
 heavy-step-requires : tie.Need-heavy-step-requires Inv-loop μ-loop
 heavy-step-requires c κs =
-    let turn = c .before .before .before .before .before .before .before .before .before .before .before .before .before in
-    let more = c .before .before .before .before .before .before .before .before .before .before .before .before .loop-test .taken in
-    let read = c .before .before .before .before .before .before .before .read .ensures in
+    let turn = c .before .before .before .before .before .before .before .before .before .before .before .before .before .before in
+    let more = c .before .before .before .before .before .before .before .before .before .before .before .before .before .loop-test .taken in
+    let read = c .before .before .before .before .before .before .before .before .read .ensures in
     let going = turn .loop .inv .0 in
-    (arrived-valid _ _ _ _ _ _ _ _ _ _ (turn .loop .inv .0) more _ read, (omega (arith, going .room, going .as-long), arrived-final _ _ _ _ _ _ _ _ _ _ (turn .loop .inv .0) more _ read, arrived-count _ _ _ _ _ _ _ _ _ _ (turn .loop .inv .0) more _ read, sym (c .before .before .before .before .is-light .ensures) ∙ c .before .before .before .if2 .left))
+    let next = c .before .before .before .with-half .ensures in
+    (rw next (arrived-valid _ _ _ _ _ _ _ _ _ _ (turn .loop .inv .0) more _ read), (omega (arith, going .room, going .as-long), arrived-final _ _ _ _ _ _ _ _ _ _ (turn .loop .inv .0) more _ read, arrived-count _ _ _ _ _ _ _ _ _ _ (turn .loop .inv .0) more _ read, rw next (sym (c .before .before .before .before .before .is-light .ensures) ∙ c .before .before .before .before .if2 .left)))
 
-sub-t46 : tie.Need-sub-t46 Inv-loop μ-loop
-sub-t46 c =
-    let turn = c .before .before .before .before .before .before .before .before .before .before .before .before .before .before .before .before .before .before .before .before .before .before in
-    let more = c .before .before .before .before .before .before .before .before .before .before .before .before .before .before .before .before .before .before .before .before .before .loop-test .taken in
-    let read = c .before .before .before .before .before .before .before .before .before .before .before .before .before .before .before .before .read .ensures in
+sub-t47 : tie.Need-sub-t47 Inv-loop μ-loop
+sub-t47 c =
+    let turn = c .before .before .before .before .before .before .before .before .before .before .before .before .before .before .before .before .before .before .before .before .before .before .before in
+    let more = c .before .before .before .before .before .before .before .before .before .before .before .before .before .before .before .before .before .before .before .before .before .before .loop-test .taken in
+    let read = c .before .before .before .before .before .before .before .before .before .before .before .before .before .before .before .before .before .read .ensures in
     omega (arith, arrived-past _ _ _ _ _ _ _ _ _ _ (turn .loop .inv .0) more _ read)
 
 returns : tie.Need-returns Inv-loop μ-loop
 unfolding numberOf
 returns c =
-    let turn = c .before .before .before .before .before .before .before .before .before .before .before .before .before .before .before .before .before .before .before .before .before .before in
-    let more = c .before .before .before .before .before .before .before .before .before .before .before .before .before .before .before .before .before .before .before .before .before .loop-test .taken in
-    let read = c .before .before .before .before .before .before .before .before .before .before .before .before .before .before .before .before .read .ensures in
-    let start = c .before .before .before .before .before .before .before .before .before .before .before .before .before .before .before .before .before .before .before .before .before .before .before .before .before .before .before in
-    stops-full _ _ _ _ _ _ _ _ _ _ (turn .loop .inv .0) more _ read (c .before .before .before .before .before .before .before .before .heavy-step .result) _ _ (c .before .before .before .before .before .before .before .before .heavy-step .ensures) (start .pre .0) (start .pre .1) (c .before .if3 .taken)
-
-add-sent : tie.Need-add-sent Inv-loop μ-loop
-add-sent c =
     let turn = c .before .before .before .before .before .before .before .before .before .before .before .before .before .before .before .before .before .before .before .before .before .before .before in
     let more = c .before .before .before .before .before .before .before .before .before .before .before .before .before .before .before .before .before .before .before .before .before .before .loop-test .taken in
     let read = c .before .before .before .before .before .before .before .before .before .before .before .before .before .before .before .before .before .read .ensures in
     let start = c .before .before .before .before .before .before .before .before .before .before .before .before .before .before .before .before .before .before .before .before .before .before .before .before .before .before .before .before in
-    let on = goes-heavily _ _ _ _ _ _ _ _ _ _ (turn .loop .inv .0) more _ read (c .before .before .before .before .before .before .before .before .before .heavy-step .result) _ _ (c .before .before .before .before .before .before .before .before .before .heavy-step .ensures) (c .before .before .if3 .left) in
-    omega (arith, on .room, start .good)
+    let told = rw (c .before .before .before .before .before .before .before .before .before .before .before .before .with-half .ensures) at (c .before .before .before .before .before .before .before .before .heavy-step .ensures) in
+    stops-full _ _ _ _ _ _ _ _ _ _ (turn .loop .inv .0) more _ read (c .before .before .before .before .before .before .before .before .heavy-step .result) _ _ told (start .pre .0) (start .pre .1) (c .before .if3 .taken)
 
-add-stored-2 : tie.Need-add-stored-2 Inv-loop μ-loop
-add-stored-2 c =
+add-sent : tie.Need-add-sent Inv-loop μ-loop
+add-sent c =
     let turn = c .before .before .before .before .before .before .before .before .before .before .before .before .before .before .before .before .before .before .before .before .before .before .before .before in
     let more = c .before .before .before .before .before .before .before .before .before .before .before .before .before .before .before .before .before .before .before .before .before .before .before .loop-test .taken in
     let read = c .before .before .before .before .before .before .before .before .before .before .before .before .before .before .before .before .before .before .read .ensures in
     let start = c .before .before .before .before .before .before .before .before .before .before .before .before .before .before .before .before .before .before .before .before .before .before .before .before .before .before .before .before .before in
-    let on = goes-heavily _ _ _ _ _ _ _ _ _ _ (turn .loop .inv .0) more _ read (c .before .before .before .before .before .before .before .before .before .before .heavy-step .result) _ _ (c .before .before .before .before .before .before .before .before .before .before .heavy-step .ensures) (c .before .before .before .if3 .left) in
-    omega (arith, on .few, on .inside, start .pre .1)
+    let told = rw (c .before .before .before .before .before .before .before .before .before .before .before .before .before .with-half .ensures) at (c .before .before .before .before .before .before .before .before .before .heavy-step .ensures) in
+    let on = goes-heavily _ _ _ _ _ _ _ _ _ _ (turn .loop .inv .0) more _ read (c .before .before .before .before .before .before .before .before .before .heavy-step .result) _ _ told (c .before .before .if3 .left) in
+    omega (arith, on .room, start .good)
 
-add-refused-2 : tie.Need-add-refused-2 Inv-loop μ-loop
-add-refused-2 c =
+add-stored-2 : tie.Need-add-stored-2 Inv-loop μ-loop
+add-stored-2 c =
     let turn = c .before .before .before .before .before .before .before .before .before .before .before .before .before .before .before .before .before .before .before .before .before .before .before .before .before in
     let more = c .before .before .before .before .before .before .before .before .before .before .before .before .before .before .before .before .before .before .before .before .before .before .before .before .loop-test .taken in
     let read = c .before .before .before .before .before .before .before .before .before .before .before .before .before .before .before .before .before .before .before .read .ensures in
     let start = c .before .before .before .before .before .before .before .before .before .before .before .before .before .before .before .before .before .before .before .before .before .before .before .before .before .before .before .before .before .before in
-    let on = goes-heavily _ _ _ _ _ _ _ _ _ _ (turn .loop .inv .0) more _ read (c .before .before .before .before .before .before .before .before .before .before .before .heavy-step .result) _ _ (c .before .before .before .before .before .before .before .before .before .before .before .heavy-step .ensures) (c .before .before .before .before .if3 .left) in
+    let told = rw (c .before .before .before .before .before .before .before .before .before .before .before .before .before .before .with-half .ensures) at (c .before .before .before .before .before .before .before .before .before .before .heavy-step .ensures) in
+    let on = goes-heavily _ _ _ _ _ _ _ _ _ _ (turn .loop .inv .0) more _ read (c .before .before .before .before .before .before .before .before .before .before .heavy-step .result) _ _ told (c .before .before .before .if3 .left) in
+    omega (arith, on .few, on .inside, start .pre .1)
+
+add-refused-2 : tie.Need-add-refused-2 Inv-loop μ-loop
+add-refused-2 c =
+    let turn = c .before .before .before .before .before .before .before .before .before .before .before .before .before .before .before .before .before .before .before .before .before .before .before .before .before .before in
+    let more = c .before .before .before .before .before .before .before .before .before .before .before .before .before .before .before .before .before .before .before .before .before .before .before .before .before .loop-test .taken in
+    let read = c .before .before .before .before .before .before .before .before .before .before .before .before .before .before .before .before .before .before .before .before .read .ensures in
+    let start = c .before .before .before .before .before .before .before .before .before .before .before .before .before .before .before .before .before .before .before .before .before .before .before .before .before .before .before .before .before .before .before in
+    let told = rw (c .before .before .before .before .before .before .before .before .before .before .before .before .before .before .before .with-half .ensures) at (c .before .before .before .before .before .before .before .before .before .before .before .heavy-step .ensures) in
+    let on = goes-heavily _ _ _ _ _ _ _ _ _ _ (turn .loop .inv .0) more _ read (c .before .before .before .before .before .before .before .before .before .before .before .heavy-step .result) _ _ told (c .before .before .before .before .if3 .left) in
     omega (arith, c .count-of .ensures, on .few-refused, on .inside, start .pre .1)
 
 loop-less-5 : tie.Need-loop-less-5 Inv-loop μ-loop
 loop-less-5 c =
-    let turn = c .before .before .before .before .before .before .before .before .before .before .before .before .before .before .before .before .before .before .before .before .before .before .before .before .before .before in
-    let more = c .before .before .before .before .before .before .before .before .before .before .before .before .before .before .before .before .before .before .before .before .before .before .before .before .before .loop-test .taken in
-    let read = c .before .before .before .before .before .before .before .before .before .before .before .before .before .before .before .before .before .before .before .before .read .ensures in
+    let turn = c .before .before .before .before .before .before .before .before .before .before .before .before .before .before .before .before .before .before .before .before .before .before .before .before .before .before .before in
+    let more = c .before .before .before .before .before .before .before .before .before .before .before .before .before .before .before .before .before .before .before .before .before .before .before .before .before .before .loop-test .taken in
+    let read = c .before .before .before .before .before .before .before .before .before .before .before .before .before .before .before .before .before .before .before .before .before .read .ensures in
     omega (arith, arrived-past _ _ _ _ _ _ _ _ _ _ (turn .loop .inv .0) more _ read, arrived-inside _ _ _ _ _ _ _ _ _ _ (turn .loop .inv .0) more _ read, more)
 
 loop-again-5 : tie.Need-loop-again-5 Inv-loop μ-loop
 loop-again-5 c =
-    let turn = c .before .before .before .before .before .before .before .before .before .before .before .before .before .before .before .before .before .before .before .before .before .before .before .before .before .before in
-    let more = c .before .before .before .before .before .before .before .before .before .before .before .before .before .before .before .before .before .before .before .before .before .before .before .before .before .loop-test .taken in
-    let read = c .before .before .before .before .before .before .before .before .before .before .before .before .before .before .before .before .before .before .before .before .read .ensures in
-    let on = goes-heavily _ _ _ _ _ _ _ _ _ _ (turn .loop .inv .0) more _ read (c .before .before .before .before .before .before .before .before .before .before .before .before .heavy-step .result) _ _ (c .before .before .before .before .before .before .before .before .before .before .before .before .heavy-step .ensures) (c .before .before .before .before .before .if3 .left) in
+    let turn = c .before .before .before .before .before .before .before .before .before .before .before .before .before .before .before .before .before .before .before .before .before .before .before .before .before .before .before in
+    let more = c .before .before .before .before .before .before .before .before .before .before .before .before .before .before .before .before .before .before .before .before .before .before .before .before .before .before .loop-test .taken in
+    let read = c .before .before .before .before .before .before .before .before .before .before .before .before .before .before .before .before .before .before .before .before .before .read .ensures in
+    let told = rw (c .before .before .before .before .before .before .before .before .before .before .before .before .before .before .before .before .with-half .ensures) at (c .before .before .before .before .before .before .before .before .before .before .before .before .heavy-step .ensures) in
+    let on = goes-heavily _ _ _ _ _ _ _ _ _ _ (turn .loop .inv .0) more _ read (c .before .before .before .before .before .before .before .before .before .before .before .before .heavy-step .result) _ _ told (c .before .before .before .before .before .if3 .left) in
     (rw (c .before .count-of .ensures, c .either .ensures) on, c .before .before .before .before .before .before .before .before .before .before .before .characters2 .given ∙ turn .loop .inv .1, c .before .before .before .before .before .before .before .before .before .marks2 .given ∙ turn .loop .inv .2, search needs)
 
 returns-2 : tie.Need-returns-2 Inv-loop μ-loop
@@ -257,11 +263,12 @@ run-spec =
     add-refused
     loop-less-4
     loop-again-4
+    (λ c κs. search needs)
     heavy-step-requires
-    sub-t46
-    (λ c. c .before .before .before .before .before .before .before .characters2 .given ∙ c .before .before .before .before .before .before .before .before .before .before .before .before .before .before .before .before .before .before .before .before .before .before .loop .inv .1)
-    (λ c. c .before .before .before .before .before .marks2 .given ∙ c .before .before .before .before .before .before .before .before .before .before .before .before .before .before .before .before .before .before .before .before .before .before .loop .inv .2)
-    (λ c. c .before .before .before .out .given ∙ c .before .before .before .before .before .before .before .before .before .before .before .before .before .before .before .before .before .before .before .before .before .before .loop .inv .3)
+    sub-t47
+    (λ c. c .before .before .before .before .before .before .before .characters2 .given ∙ c .before .before .before .before .before .before .before .before .before .before .before .before .before .before .before .before .before .before .before .before .before .before .before .loop .inv .1)
+    (λ c. c .before .before .before .before .before .marks2 .given ∙ c .before .before .before .before .before .before .before .before .before .before .before .before .before .before .before .before .before .before .before .before .before .before .before .loop .inv .2)
+    (λ c. c .before .before .before .out .given ∙ c .before .before .before .before .before .before .before .before .before .before .before .before .before .before .before .before .before .before .before .before .before .before .before .loop .inv .3)
     returns
     add-sent
     add-stored-2
