@@ -102,7 +102,8 @@ fn either(one: bool, other: bool) -> bool
     other
 }
 
-// The steps of host bytes, stopping where a transmission exceeds the room left.
+// The steps of host bytes, stopping where a transmission exceeds the room left: text in runs, light events in place,
+// others by a step of their own.
 fn run(
     state: State,
     characters: &mut [u8],
@@ -155,7 +156,7 @@ fn run(
                     }
                 }
             } else {
-                let next = here.with_half(after);
+                let next = here.with_half(after); // a copy, so that the loop's own state can stay in registers
                 let step = commands::heavy_step(next, before, characters, marks, out, sent, event);
                 if step.exceeds {
                     here.half = before;
