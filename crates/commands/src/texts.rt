@@ -23,7 +23,7 @@ fn ended(row: usize, column: usize, at: usize) -> TextRun
 }
 
 // The bytes from one on, as far as they are text: each takes the cursor's cell, and the cursor goes on. Row, column and
-// cell are counted along: a state handed around for each byte takes half as long again.
+// cell are counted along: with a state handed around each byte takes half as many instructions again.
 pub fn text_run(
     state: State,
     characters: &mut [u8],

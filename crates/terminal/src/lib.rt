@@ -156,7 +156,7 @@ fn run(
                     }
                 }
             } else {
-                let next = here.with_half(after); // a copy, so that the loop's own state can stay in registers
+                let next = here.with_half(after); // a copy: handing over the loop's own took longer
                 let step = commands::heavy_step(next, before, characters, marks, out, sent, event);
                 if step.exceeds {
                     here.half = before;
