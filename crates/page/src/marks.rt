@@ -7,7 +7,7 @@ ghost use Rattle.page.specs.Marks.{isProtected, isModified, isBold, isUn
 ghost use Rattle.page.specs.Marks.{isConcealed, withModified, withoutModified, unprotected};
 
 // What a cell has beside its character, a bit for each mark; bit 7 is zero.
-pub type Mark = u8;
+pub type Mark = u16;
 
 // Bit 0: protected.
 pub fn is_protected(mark: Mark) -> bool
@@ -58,8 +58,8 @@ pub fn is_concealed(mark: Mark) -> bool
     mark / 64 % 2 == 1
 }
 
-// One byte or the other, without a branch: so a loop that stores it takes many cells at a time.
-pub fn chosen(first: bool, one: u8, other: u8) -> u8
+// One mark or the other, without a branch: so a loop that stores it takes many cells at a time.
+pub fn chosen(first: bool, one: Mark, other: Mark) -> Mark
     ensures { λ r. ⌜ r ≡ (if first then one else other) ⌝ }
 {
     if first {

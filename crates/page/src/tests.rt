@@ -50,13 +50,13 @@ fn characters_are_valid(characters: &[u8]) -> bool
 fn marks_are_valid(marks: &[Mark]) -> bool
     ensures { λ r. ⌜ r ≡ every validMark (now (marks .entry)) ⌝ }
 {
-    let mut most = 0;
+    let mut all = true;
     let mut cell = 0;
     while cell < marks.len() {
-        most = larger(most, mark_at(marks, cell));
+        all = both(all, mark_at(marks, cell) < 0x80);
         cell += 1;
     }
-    most < 0x80
+    all
 }
 
 // Both tests hold. A loop that asks by it goes on to the end, as the two above do.

@@ -1,21 +1,20 @@
 use mathlib.Core.Path.{_≡_, refl, sym, _∙_}
 use Prim.Native.Nat.{_≤_, _-_}
 use borrow.Author.Needs.{needs}
-use lib.Dec.{ltb}
 use lib.ListN.{length, drop}
 use Rattle.words.specs.Choice.{_and_}
 use Rattle.words.specs.Lists.{every}
 use Rattle.page.specs.Marks.{validMark}
-use Rattle.page.proofs.Asking.{larger-below, next-asked, all-asked}
+use Rattle.page.proofs.Asking.{next-asked, all-asked}
 use Rattle.page.proofs.tests.marks_are_valid.Statement.{statement}
 use Rattle.page.proofs.tests.marks_are_valid.Tie as tie
 
--- the test of all marks is that of the largest before `cell` and that of those from there on
+-- the test of all marks is what is known of those before `cell` and the test of those from there on
 abbrev Inv-loop : tie.InvT-loop
-Inv-loop marks most₀ cell₀ most cell = (cell ≤ length marks) × (every validMark marks ≡ (ltb most 0x80 and every validMark (drop cell marks)))
+Inv-loop marks all₀ cell₀ all cell = (cell ≤ length marks) × (every validMark marks ≡ (all and every validMark (drop cell marks)))
 
 abbrev μ-loop : tie.MeasureT-loop
-μ-loop marks most₀ cell₀ most cell = length marks - cell
+μ-loop marks all₀ cell₀ all cell = length marks - cell
 
 loop-holds : tie.Need-loop-holds Inv-loop μ-loop
 unfolding _and_
@@ -25,7 +24,7 @@ loop-again : tie.Need-loop-again Inv-loop μ-loop
 loop-again c =
     let turn = c .before .before .before in (
       search needs,
-      rw (c .larger .ensures, larger-below, c .before .mark-at .ensures) (turn .loop .inv .1 ∙ next-asked _ 0 _ _ _ (c .before .before .loop-test .taken)),
+      rw (c .both .ensures, c .before .mark-at .ensures) (turn .loop .inv .1 ∙ next-asked _ 0 _ _ _ (c .before .before .loop-test .taken)),
     )
 
 returns : tie.Need-returns Inv-loop μ-loop
