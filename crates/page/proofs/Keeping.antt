@@ -4,15 +4,16 @@ use mathlib.Core.Bool.{Bool, true}
 use mathlib.Core.List.{List, [], _∷_}
 use Prim.Native.Nat.{ℕ, _-_, _<_, _≤_}
 use native.Mathlib.Omega.{arith}
-use borrow.Author.Tests.{ltb-true, lt-ltb}
 use lib.ListN.{length, take, drop, getD, replicate, length-set, length-append, length-take, length-drop, length-replicate}
+use Rattle.words.specs.Choice.{_and_}
 use Rattle.words.specs.Lists.{every}
 use Rattle.words.proofs.Choosing.{either-line, both, both-hold, range-is}
 use Rattle.words.proofs.Writing.{length-each, length-onPart}
 use Rattle.words.proofs.Passing.{passes, every-append, every-set, every-replicate, every-take, every-drop, every-each, every-onPart}
 use Rattle.page.specs.Marks.{validCharacter, validMark, withModified}
 use Rattle.page.specs.Page.{Page, pageOf, cells, validPage, textStored, typed, erased, scrolledUp, scrolledDown, tagged, blanked, closedUp, movedRight, partStored, markAfterBlock, modifiedCleared}
-use Rattle.page.proofs.Bits.{OthersStay, stays-below, set-others, cleared-others}
+use Rattle.page.proofs.Bits.{StayOutside, lower-bit, higher-bit, stays-below, set-others, cleared-others}
+use Rattle.page.proofs.Valid.{valid-from, valid-mark}
 
 -- An operation takes no cell away and adds none.
 pub record SameSize (before after : Page) : Type 0 where
@@ -51,20 +52,28 @@ module _ (page : Page) (columns : ℕ) (fits : columns ≤ length (page .charact
     marks = simp (length-append, length-take, length-replicate) (omega arith);
   }
 
--- A valid mark stays so whatever is done to a bit below 7: so do those that the keys and sending leave. And the blanks.
-pub mark-stays-valid : (n mark after : ℕ) → OthersStay n mark after → n < 7 → validMark mark ≡ true → validMark after ≡ true
-mark-stays-valid n mark after stay low p = lt-ltb after 0x80 (stays-below n mark after stay 7 low (ltb-true mark 0x80 p))
+-- A valid mark stays so whatever is done to the bits from 1 to 6: so do those that the keys and sending leave.
+pub mark-stays-valid : {n m mark after : ℕ} → StayOutside n m mark after → 0 < n → m ≤ 7 → validMark mark ≡ true → validMark after ≡ true
+mark-stays-valid {n} {m} {mark} {after} stay low high p =
+    let fits = valid-mark mark p in
+    valid-from after (stays-below stay 9 (omega arith) (fits .0))
+    (lower-bit stay 0 low) (higher-bit stay 7 high) (higher-bit stay 8 (omega arith)) (fits .1)
 
 modified-valid : (mark : ℕ) → validMark mark ≡ true → validMark (withModified mark) ≡ true
-modified-valid mark = mark-stays-valid 1 mark (withModified mark) (set-others 1 mark) (omega arith)
+modified-valid mark = mark-stays-valid (set-others 1 mark) (omega arith) (omega arith)
 
 sent-valid : (mark : ℕ) → validMark mark ≡ true → validMark (markAfterBlock mark) ≡ true
 unfolding markAfterBlock
 sent-valid mark p =
-    either-line (λ m. validMark m ≡ true) _ _ _ (λ _. p) (λ _. mark-stays-valid 1 mark _ (cleared-others 1 mark) (omega arith) p)
+    either-line (λ m. validMark m ≡ true) _ _ _ (λ _. p) (λ _. mark-stays-valid (cleared-others 1 mark) (omega arith) (omega arith) p)
 
+-- The blanks, and their marks.
 blank-valid : validCharacter 0x20 ≡ true
 blank-valid = range-is 0x20 0x20 0x7E (omega arith) (omega arith)
+
+pub no-mark-valid : validMark 0 ≡ true
+unfolding validMark _and_
+no-mark-valid = refl
 
 -- A change of a part of the characters keeps its length, if it has any, and its characters as they may be.
 pub record KeepsPart (change : List ℕ → List ℕ) : Type 0 where
@@ -124,21 +133,21 @@ module _ (page : Page) (valid : validPage page ≡ true) where
   erased-keeps-valid mode from to =
       both-hold _ _
       (every-each _ _ 0 _ (λ cell x p. either-line (λ y. validCharacter y ≡ true) _ _ _ (λ _. blank-valid) (λ _. p)) characters-valid)
-      (every-each _ _ 0 _ (λ cell x p. either-line (λ y. validMark y ≡ true) _ _ _ (λ _. refl) (λ _. p)) marks-valid)
+      (every-each _ _ 0 _ (λ cell x p. either-line (λ y. validMark y ≡ true) _ _ _ (λ _. no-mark-valid) (λ _. p)) marks-valid)
 
   pub scrolled-up-keeps-valid : (columns : ℕ) → validPage (scrolledUp columns page) ≡ true
   unfolding validPage scrolledUp
   scrolled-up-keeps-valid columns =
       both-hold _ _
       (every-append _ (drop columns (page .characters)) _ (every-drop _ columns _ characters-valid) (every-replicate _ columns 0x20 blank-valid))
-      (every-append _ (drop columns (page .marks)) _ (every-drop _ columns _ marks-valid) (every-replicate _ columns 0 refl))
+      (every-append _ (drop columns (page .marks)) _ (every-drop _ columns _ marks-valid) (every-replicate _ columns 0 no-mark-valid))
 
   pub scrolled-down-keeps-valid : (columns : ℕ) → validPage (scrolledDown columns page) ≡ true
   unfolding validPage scrolledDown
   scrolled-down-keeps-valid columns =
       both-hold _ _
       (every-append _ (replicate columns 0x20) _ (every-replicate _ columns 0x20 blank-valid) (every-take _ (cells page - columns) _ characters-valid))
-      (every-append _ (replicate columns 0) _ (every-replicate _ columns 0 refl) (every-take _ (cells page - columns) _ marks-valid))
+      (every-append _ (replicate columns 0) _ (every-replicate _ columns 0 no-mark-valid) (every-take _ (cells page - columns) _ marks-valid))
 
   pub part-keeps-valid : {change : List ℕ → List ℕ} → KeepsPart change → (from to : ℕ) → validPage (partStored change from to page) ≡ true
   unfolding validPage tagged

@@ -20,7 +20,7 @@ pageOf characters marks = record { characters = characters; marks = marks }
 abbrev pub cells : Page → ℕ
 cells page = length (page .characters)
 
--- "Numbers a call gives back", 2: every character is 20 to 7E, and bit 7 of every marks byte is zero.
+-- "Numbers a call gives back", 2: every character and every mark is as it may be.
 unfoldable pub validPage : Page → Bool
 validPage page = every validCharacter (page .characters) and every validMark (page .marks)
 

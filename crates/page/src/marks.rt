@@ -4,9 +4,10 @@ ghost use Prim.Native.Nat.{_<_};
 ghost use lib.ListN.{length, getD, set};
 ghost use Rattle.words.specs.Choice.{if_then_else_};
 ghost use Rattle.page.specs.Marks.{isProtected, isModified, isBold, isUnderlined, isBlinking, isReversed};
-ghost use Rattle.page.specs.Marks.{isConcealed, withModified, withoutModified, unprotected};
+ghost use Rattle.page.specs.Marks.{isConcealed, isNumeric, isAlphabetic, withModified, withoutModified};
+ghost use Rattle.page.specs.Marks.{validMark, numericTakes, alphabeticTakes, takes, unprotected};
 
-// What a cell has beside its character, a bit for each mark; bit 7 is zero.
+// What a cell has beside its character, a bit for each mark; bits 9 to 15 are zero.
 pub type Mark = u16;
 
 // Bit 0: protected.
@@ -56,6 +57,87 @@ pub fn is_concealed(mark: Mark) -> bool
     ensures { λ r. ⌜ r ≡ isConcealed mark ⌝ }
 {
     mark / 64 % 2 == 1
+}
+
+// Bit 7: numeric, of M-103.
+pub fn is_numeric(mark: Mark) -> bool
+    ensures { λ r. ⌜ r ≡ isNumeric mark ⌝ }
+{
+    mark / 128 % 2 == 1
+}
+
+// Bit 8: alphabetic.
+pub fn is_alphabetic(mark: Mark) -> bool
+    ensures { λ r. ⌜ r ≡ isAlphabetic mark ⌝ }
+{
+    mark / 256 % 2 == 1
+}
+
+// A protected cell has no kind, and no cell has both: so numeric with alphabetic would begin at 180 hexadecimal.
+pub fn is_valid_mark(mark: Mark) -> bool
+    ensures { λ r. ⌜ r ≡ validMark mark ⌝ }
+{
+    if is_protected(mark) {
+        return mark < 0x80;
+    }
+    mark < 0x180
+}
+
+// Whether a numeric cell takes a character other than 20.
+fn numeric_takes(character: u8) -> bool
+    ensures { λ r. ⌜ r ≡ numericTakes character ⌝ }
+{
+    if character == 0x2D {
+        return true;
+    }
+    if character == 0x2E {
+        return true;
+    }
+    if character < 0x30 {
+        return false;
+    }
+    character <= 0x39
+}
+
+// Whether an alphabetic cell does.
+fn alphabetic_takes(character: u8) -> bool
+    ensures { λ r. ⌜ r ≡ alphabeticTakes character ⌝ }
+{
+    if character == 0x20 {
+        return true;
+    }
+    if character == 0x2D {
+        return true;
+    }
+    if character == 0x2E {
+        return true;
+    }
+    if character < 0x41 {
+        return false;
+    }
+    if character <= 0x5A {
+        return true;
+    }
+    if character < 0x61 {
+        return false;
+    }
+    character <= 0x7A
+}
+
+// Whether a cell with these marks takes a character that a key brings.
+pub fn takes(mark: Mark, character: u8) -> bool
+    ensures { λ r. ⌜ r ≡ takes mark character ⌝ }
+{
+    if character == 0x20 {
+        return true;
+    }
+    if is_numeric(mark) {
+        return numeric_takes(character);
+    }
+    if is_alphabetic(mark) {
+        return alphabetic_takes(character);
+    }
+    true
 }
 
 // One mark or the other, without a branch: so a loop that stores it takes many cells at a time.

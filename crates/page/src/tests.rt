@@ -1,6 +1,7 @@
 // What a lent page may have, and no other; see specs/Page.antt, validPage.
 use crate::marks::Mark;
 use crate::marks::is_protected;
+use crate::marks::is_valid_mark;
 use crate::marks::mark_at;
 ghost use mathlib.Core.Path.{_≡_};
 ghost use lib.Dec.{ltb};
@@ -53,7 +54,7 @@ fn marks_are_valid(marks: &[Mark]) -> bool
     let mut all = true;
     let mut cell = 0;
     while cell < marks.len() {
-        all = both(all, mark_at(marks, cell) < 0x80);
+        all = both(all, is_valid_mark(mark_at(marks, cell)));
         cell += 1;
     }
     all

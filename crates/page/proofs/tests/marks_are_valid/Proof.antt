@@ -22,9 +22,10 @@ loop-holds c = (search needs, refl)
 
 loop-again : tie.Need-loop-again Inv-loop μ-loop
 loop-again c =
-    let turn = c .before .before .before in (
+    let turn = c .before .before .before .before in (
       search needs,
-      rw (c .both .ensures, c .before .mark-at .ensures) (turn .loop .inv .1 ∙ next-asked _ 0 _ _ _ (c .before .before .loop-test .taken)),
+      rw (c .both .ensures, c .before .is-valid-mark .ensures, c .before .before .mark-at .ensures)
+          (turn .loop .inv .1 ∙ next-asked _ 0 _ _ _ (c .before .before .before .loop-test .taken)),
     )
 
 returns : tie.Need-returns Inv-loop μ-loop
@@ -37,6 +38,7 @@ marks-are-valid-spec =
     Inv-loop
     μ-loop
     loop-holds
+    (λ c κs. search needs)
     (λ c κs. search needs)
     (λ c κs. search needs)
     (λ c. search needs)
