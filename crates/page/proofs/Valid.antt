@@ -13,7 +13,7 @@ use Rattle.page.specs.Marks.{isProtected, isNumeric, isAlphabetic, valid
 abbrev pub kindsFit : Bool → Bool → Bool → Bool
 kindsFit protected numeric alphabetic = not (numeric and alphabetic) and not (protected and (numeric or alphabetic))
 
-protected-alone : (protected numeric alphabetic : Bool) → protected ≡ true → kindsFit protected numeric alphabetic ≡ true → (numeric ≡ false) × (alphabetic ≡ false)
+pub protected-alone : (protected numeric alphabetic : Bool) → protected ≡ true → kindsFit protected numeric alphabetic ≡ true → (numeric ≡ false) × (alphabetic ≡ false)
 unfolding _and_ _or_
 protected-alone false n a p fit = absurd (true-is-not-false (sym p))
 protected-alone true true true p fit = absurd (true-is-not-false (sym fit))
@@ -21,25 +21,25 @@ protected-alone true true false p fit = absurd (true-is-not-false (sym fit))
 protected-alone true false true p fit = absurd (true-is-not-false (sym fit))
 protected-alone true false false p fit = (refl, refl)
 
-numeric-alone : (protected numeric alphabetic : Bool) → numeric ≡ true → kindsFit protected numeric alphabetic ≡ true → alphabetic ≡ false
+pub numeric-alone : (protected numeric alphabetic : Bool) → numeric ≡ true → kindsFit protected numeric alphabetic ≡ true → alphabetic ≡ false
 unfolding _and_ _or_
 numeric-alone protected false a n fit = absurd (true-is-not-false (sym n))
 numeric-alone protected true true n fit = absurd (true-is-not-false (sym fit))
 numeric-alone protected true false n fit = refl
 
-plain-fits : kindsFit false false false ≡ true
+pub plain-fits : kindsFit false false false ≡ true
 unfolding _and_ _or_
 plain-fits = refl
 
-protected-fits : kindsFit true false false ≡ true
+pub protected-fits : kindsFit true false false ≡ true
 unfolding _and_ _or_
 protected-fits = refl
 
-numeric-fits : kindsFit false true false ≡ true
+pub numeric-fits : kindsFit false true false ≡ true
 unfolding _and_ _or_
 numeric-fits = refl
 
-alphabetic-fits : kindsFit false false true ≡ true
+pub alphabetic-fits : kindsFit false false true ≡ true
 unfolding _and_ _or_
 alphabetic-fits = refl
 
@@ -53,20 +53,6 @@ module _ (mark : ℕ) where
   unfolding validMark
   valid-from less p n a fit = both-hold _ _ (lt-ltb mark 0x200 less) (rw (p, n, a) fit)
 
-  -- So one with no kind, or with one, is.
-  module _ (less : mark < 0x200) where
-    pub plain-valid : isProtected mark ≡ false → isNumeric mark ≡ false → isAlphabetic mark ≡ false → validMark mark ≡ true
-    plain-valid p n a = valid-from less p n a plain-fits
-
-    pub protected-valid : isProtected mark ≡ true → isNumeric mark ≡ false → isAlphabetic mark ≡ false → validMark mark ≡ true
-    protected-valid p n a = valid-from less p n a protected-fits
-
-    pub numeric-valid : isProtected mark ≡ false → isNumeric mark ≡ true → isAlphabetic mark ≡ false → validMark mark ≡ true
-    numeric-valid p n a = valid-from less p n a numeric-fits
-
-    pub alphabetic-valid : isProtected mark ≡ false → isNumeric mark ≡ false → isAlphabetic mark ≡ true → validMark mark ≡ true
-    alphabetic-valid p n a = valid-from less p n a alphabetic-fits
-
   -- The same by size: a protected mark is below 80, another one below 180.
   no-kind : mark < 0x80 → (isNumeric mark ≡ false) × (isAlphabetic mark ≡ false)
   no-kind less = (ne-eqb (mark / 2 ^ 7 % 2) 1 (omega (arith, less)), ne-eqb (mark / 2 ^ 8 % 2) 1 (omega (arith, less)))
@@ -75,7 +61,7 @@ module _ (mark : ℕ) where
   protected-limit p =
       either-way (ltb mark 0x80)
       (λ t. let less = ltb-true mark 0x80 t in
-      protected-valid (omega (arith, less)) p (no-kind less .0) (no-kind less .1) ∙ sym t)
+      valid-from (omega (arith, less)) p (no-kind less .0) (no-kind less .1) protected-fits ∙ sym t)
       (λ t. refuted (validMark mark) (λ v. too-high (ltb-false mark 0x80 t) v) ∙ sym t)
     where
       too-high : 0x80 ≤ mark → validMark mark ≡ true → ⊥
@@ -95,8 +81,11 @@ module _ (mark : ℕ) where
       below : mark < 0x180 → validMark mark ≡ true
       below less =
           either-way (isNumeric mark)
-          (λ n. numeric-valid (omega (arith, less)) p n (ne-eqb (mark / 2 ^ 8 % 2) 1 (omega (arith, less, eqb-true (mark / 2 ^ 7 % 2) 1 n))))
-          (λ n. either-way (isAlphabetic mark) (alphabetic-valid (omega (arith, less)) p n) (plain-valid (omega (arith, less)) p n))
+          (λ n. valid-from (omega (arith, less)) p n (ne-eqb (mark / 2 ^ 8 % 2) 1 (omega (arith, less, eqb-true (mark / 2 ^ 7 % 2) 1 n))) numeric-fits)
+          (λ n.
+          either-way (isAlphabetic mark)
+          (λ a. valid-from (omega (arith, less)) p n a alphabetic-fits)
+          (λ a. valid-from (omega (arith, less)) p n a plain-fits))
 
       too-high : 0x180 ≤ mark → validMark mark ≡ true → ⊥
       too-high high v =

@@ -5,7 +5,7 @@ use mathlib.Core.List.{List}
 use mathlib.Core.Logic.{_⊎_, inl, inr, ⊎-elim}
 use Prim.Native.Nat.{ℕ, zero, suc, _-_, _<_, _≤_}
 use native.Mathlib.Omega.{arith}
-use borrow.Author.Tests.{ltb-true, leb-true, eqb-true, lt-ltb, not-true}
+use borrow.Author.Tests.{ltb-true, leb-true, eqb-true, not-true}
 use lib.Dec.{eqb}
 use lib.ListN.{set, replicate}
 use lib.Seq.{drop-set-lt}
@@ -17,9 +17,10 @@ use Rattle.sequence.specs.declared.Reason.{Reason}
 use Rattle.sequence.specs.declared.Reason.the-variants.{UnknownCommand, WrongArguments, BrokenSequence, HighByte}
 use Rattle.sequence.specs.Record.{validHalfRead}
 use Rattle.sequence.proofs.Keeping.{nothing-valid}
-use Rattle.page.specs.Marks.{isModified}
-use Rattle.page.proofs.Bits.{OthersStay, other-bit, set-others, cleared-others}
-use Rattle.page.proofs.Keeping.{mark-stays-valid}
+use Rattle.page.specs.Marks.{isModified, validMark}
+use Rattle.page.proofs.Bits.{StayOutside, lower-bit, set-others}
+use Rattle.page.proofs.Valid.{kindsFit, plain-fits, protected-fits, numeric-fits, alphabetic-fits, valid-mark, valid-from}
+use Rattle.page.proofs.Keeping.{mark-stays-valid, no-mark-valid}
 use Rattle.state.specs.declared.Size.{Size}
 use Rattle.state.specs.declared.Cursor.{Cursor}
 use Rattle.state.specs.declared.Locks.{Locks}
@@ -27,10 +28,10 @@ use Rattle.state.specs.declared.State.{State}
 use Rattle.state.specs.State.{OnPage, withCursor, cursorAt, withLocks, withStops, withHalf, noLocks, freshState, messageOf, refused, inputDisabled, inputEnabled, unlocked}
 use Rattle.state.specs.Moves.{backBy, onBy, upBy, downBy, rightBy, leftBy, toMargin, toNextCell}
 use Rattle.state.specs.Tabs.{stopSet, stopCleared, stopsCleared, stopsOn, stopsBack, tabbedOn, tabbedBack}
-use Rattle.state.specs.Pen.{penProtected, penUnprotected, penPlain, penBold, penUnderlined, penBlinking, penReversed, penConcealed, validPen, withPen, withErasure}
+use Rattle.state.specs.Pen.{penUnprotected, penProtected, penNumeric, penAlphabetic, penPlain, penBold, penUnderlined, penBlinking, penReversed, penConcealed, validPen, withPen, withErasure}
 use Rattle.state.specs.Tests.{listedRows, listedColumns, listedSize, cursorFits, stopsFit, validMessage, validState}
 use Rattle.state.proofs.Laws.{OneTo, right-within, left-within}
-use Rattle.state.proofs.Pens.{clears-visual}
+use Rattle.state.proofs.Pens.{HasKind, plain-outside, unprotected-kind, protected-kind, numeric-kind, alphabetic-kind}
 
 -- A listed size, number by number, and its bounds.
 one-of : (n a b c : ℕ) → (eqb n a or eqb n b or eqb n c) ≡ true → (n ≡ a) ⊎ (n ≡ b) ⊎ (n ≡ c)
@@ -152,44 +153,60 @@ no-stops-fit (suc columns) zero = refl
 no-stops-fit (suc columns) (suc n) = no-stops-fit columns n
 
 -- A pen in range, and what each command makes of it.
-pub pen-range : (pen : ℕ) → validPen pen ≡ true → (pen < 0x80) × (isModified pen ≡ false)
+pub pen-range : (pen : ℕ) → validPen pen ≡ true → (validMark pen ≡ true) × (isModified pen ≡ false)
 unfolding validPen
-pen-range pen p = let h = both p in (ltb-true pen 0x80 (h .0), not-true _ (h .1))
+pen-range pen p = let h = both p in (h .0, not-true _ (h .1))
 
-pen-in-range : (pen : ℕ) → pen < 0x80 → isModified pen ≡ false → validPen pen ≡ true
+pen-in-range : (pen : ℕ) → validMark pen ≡ true → isModified pen ≡ false → validPen pen ≡ true
 unfolding validPen
-pen-in-range pen h k = both-hold _ _ (lt-ltb pen 0x80 h) (ap not k)
+pen-in-range pen h k = both-hold _ _ h (ap not k)
 
 module _ (pen : ℕ) (valid : validPen pen ≡ true) where
-  -- a pen may have any bit below 7 changed but modified
-  stays-in-range : (n new : ℕ) → OthersStay n pen new → n < 7 → (1 ≡ n → ⊥) → validPen new ≡ true
-  unfolding validPen
-  stays-in-range n new stay low other =
-      both-hold _ _ (mark-stays-valid n pen new stay low (both valid .0)) (ap not (other-bit n pen new stay 1 other) ∙ both valid .1)
-
-  pub protected-keeps-pen : validPen (penProtected pen) ≡ true
-  protected-keeps-pen = stays-in-range 0 _ (set-others 0 pen) (omega arith) (omega arith)
-
-  pub unprotected-keeps-pen : validPen (penUnprotected pen) ≡ true
-  unprotected-keeps-pen = stays-in-range 0 _ (cleared-others 0 pen) (omega arith) (omega arith)
+  -- a pen may have any visual mark changed
+  stays-in-range : {n m new : ℕ} → StayOutside n m pen new → 1 < n → m ≤ 7 → validPen new ≡ true
+  stays-in-range stay low high =
+      let range = pen-range pen valid in
+      pen-in-range _ (mark-stays-valid stay (omega arith) high (range .0)) (lower-bit stay 1 low ∙ range .1)
 
   pub bold-keeps-pen : validPen (penBold pen) ≡ true
-  bold-keeps-pen = stays-in-range 2 _ (set-others 2 pen) (omega arith) (omega arith)
+  bold-keeps-pen = stays-in-range (set-others 2 pen) (omega arith) (omega arith)
 
   pub underlined-keeps-pen : validPen (penUnderlined pen) ≡ true
-  underlined-keeps-pen = stays-in-range 3 _ (set-others 3 pen) (omega arith) (omega arith)
+  underlined-keeps-pen = stays-in-range (set-others 3 pen) (omega arith) (omega arith)
 
   pub blinking-keeps-pen : validPen (penBlinking pen) ≡ true
-  blinking-keeps-pen = stays-in-range 4 _ (set-others 4 pen) (omega arith) (omega arith)
+  blinking-keeps-pen = stays-in-range (set-others 4 pen) (omega arith) (omega arith)
 
   pub reversed-keeps-pen : validPen (penReversed pen) ≡ true
-  reversed-keeps-pen = stays-in-range 5 _ (set-others 5 pen) (omega arith) (omega arith)
+  reversed-keeps-pen = stays-in-range (set-others 5 pen) (omega arith) (omega arith)
 
   pub concealed-keeps-pen : validPen (penConcealed pen) ≡ true
-  concealed-keeps-pen = stays-in-range 6 _ (set-others 6 pen) (omega arith) (omega arith)
+  concealed-keeps-pen = stays-in-range (set-others 6 pen) (omega arith) (omega arith)
 
   pub plain-keeps-pen : validPen (penPlain pen) ≡ true
-  plain-keeps-pen = pen-in-range (penPlain pen) (omega arith) (clears-visual pen .1 1 (omega arith))
+  plain-keeps-pen = stays-in-range (plain-outside pen) (omega arith) (omega arith)
+
+  -- and any kind in place of its own
+  small : pen < 0x200
+  small = valid-mark pen (pen-range pen valid .0) .0
+
+  kind-keeps-pen : {protected numeric alphabetic : Bool} (new : ℕ) → HasKind protected numeric alphabetic (isModified pen) new → kindsFit protected numeric alphabetic ≡ true → validPen new ≡ true
+  kind-keeps-pen new has fit =
+      pen-in-range new
+      (valid-from new (has .less) (has .is-protected) (has .is-numeric) (has .is-alphabetic) fit)
+      (has .is-modified ∙ pen-range pen valid .1)
+
+  pub unprotected-keeps-pen : validPen (penUnprotected pen) ≡ true
+  unprotected-keeps-pen = kind-keeps-pen _ (unprotected-kind pen small) plain-fits
+
+  pub protected-keeps-pen : validPen (penProtected pen) ≡ true
+  protected-keeps-pen = kind-keeps-pen _ (protected-kind pen small) protected-fits
+
+  pub numeric-keeps-pen : validPen (penNumeric pen) ≡ true
+  numeric-keeps-pen = kind-keeps-pen _ (numeric-kind pen small) numeric-fits
+
+  pub alphabetic-keeps-pen : validPen (penAlphabetic pen) ≡ true
+  alphabetic-keeps-pen = kind-keeps-pen _ (alphabetic-kind pen small) alphabetic-fits
 
 -- A change of the state that leaves it valid, and the page's size as it was.
 pub record KeepsValid (before after : State) : Type 0 where
@@ -322,4 +339,4 @@ fresh-valid size listed =
     let bounds = size-bounds size listed in
     whole (freshState size)
     (in-range size (record { row = 1; column = 1 }) (omega arith, bounds .some-rows) (omega arith, bounds .some-columns))
-    (no-stops-fit (size .columns) 160) (pen-in-range 0 (omega arith) refl) no-message nothing-valid
+    (no-stops-fit (size .columns) 160) (pen-in-range 0 no-mark-valid refl) no-message nothing-valid

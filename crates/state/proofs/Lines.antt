@@ -11,18 +11,19 @@ use lib.ListN.{length, getD, drop}
 use lib.Seq.{getD-drop}
 use Rattle.words.specs.Choice.{_and_, _or_}
 use Rattle.words.specs.Lists.{every}
-use Rattle.words.proofs.Choosing.{true-is-not-false, both, neither, one-fails, range-holds, range-fails, refuted, either-way, then-case, else-case}
+use Rattle.words.proofs.Choosing.{true-is-not-false, both, neither, one-fails, one-holds, range-holds, range-fails, refuted, either-way, then-case, else-case}
 use Rattle.words.proofs.Passing.{passes}
 use Rattle.sequence.specs.Record.{validHalfRead}
 use Rattle.sequence.proofs.Range.{out-of-range}
-use Rattle.page.specs.Marks.{isModified, validCharacter, validMark}
+use Rattle.page.specs.Marks.{isProtected, isModified, isNumeric, isAlphabetic, validCharacter, validMark}
 use Rattle.page.specs.Page.{Page, validPage}
+use Rattle.page.proofs.Valid.{protected-alone, numeric-alone, valid-mark}
 use Rattle.state.specs.declared.Size.{Size}
 use Rattle.state.specs.declared.Locks.{Locks}
 use Rattle.state.specs.declared.State.{State}
 use Rattle.state.specs.Pen.{validPen}
 use Rattle.state.specs.Tests.{listedRows, listedColumns, listedSize, sizeFits, cursorFits, stopsFit, validMessage, validState}
-use Rattle.state.specs.Lines.{Line1, rows-not-listed, columns-not-listed, characters-not-as-long, marks-not-as-long, Line2, above-first-row, below-last-row, before-first-column, past-last-column, cell-too-low, cell-too-high, marks-bit-7, stop-past-last-column, pen-bit-7, pen-modified, message-above-4, byte-without-message, half-read-out-of-range}
+use Rattle.state.specs.Lines.{MarkOutOfRange, above-bit-8, numeric-and-alphabetic, numeric-and-protected, alphabetic-and-protected, Line1, rows-not-listed, columns-not-listed, characters-not-as-long, marks-not-as-long, Line2, above-first-row, below-last-row, before-first-column, past-last-column, cell-too-low, cell-too-high, marks-out-of-range, stop-past-last-column, pen-out-of-range, pen-modified, message-above-4, byte-without-message, half-read-out-of-range}
 use Rattle.state.proofs.Laws.{OneTo}
 use Rattle.state.proofs.Keeping.{rows-listed, columns-listed, parts, row-range, column-range, pen-range}
 
@@ -48,6 +49,25 @@ no-stop-past columns stops p k h =
     every-stop [] p k = refl
     every-stop (x ∷ rest) p zero = both p .0
     every-stop (x ∷ rest) p (suc k) = every-stop rest (both p .1) k
+
+-- A mark is out of range where its test fails.
+mark-out : (mark : ℕ) → validMark mark ≡ false → MarkOutOfRange mark
+unfolding validMark
+mark-out mark p =
+    ⊎-elim (λ q. above-bit-8 (ltb-false mark 0x200 q))
+    (λ q. ⊎-elim
+    (λ r. let together = both (not-false _ r) in numeric-and-alphabetic (together .0) (together .1))
+    (λ r.
+    let together = both (not-false _ r) in
+    ⊎-elim (λ n. numeric-and-protected n (together .0)) (λ a. alphabetic-and-protected a (together .0)) (one-holds (together .1)))
+    (one-fails q))
+    (one-fails p)
+
+mark-not-out : (mark : ℕ) → validMark mark ≡ true → MarkOutOfRange mark → ⊥
+mark-not-out mark p (above-bit-8 high) = omega (arith, high, valid-mark mark p .0)
+mark-not-out mark p (numeric-and-alphabetic n a) = true-is-not-false (sym a ∙ numeric-alone _ _ _ n (valid-mark mark p .1))
+mark-not-out mark p (numeric-and-protected n q) = true-is-not-false (sym n ∙ protected-alone _ _ _ q (valid-mark mark p .1) .0)
+mark-not-out mark p (alphabetic-and-protected a q) = true-is-not-false (sym a ∙ protected-alone _ _ _ q (valid-mark mark p .1) .1)
 
 -- Line 1.
 module _ (size : Size) (page : Page) where
@@ -100,7 +120,7 @@ module _ (s : State) (page : Page) where
 
   pen-out : validPen (s .modes .pen) ≡ false → Line2 s page
   unfolding validPen
-  pen-out p = ⊎-elim (λ q. pen-bit-7 (ltb-false _ _ q)) (λ q. pen-modified (not-false _ q)) (one-fails p)
+  pen-out p = ⊎-elim (λ q. pen-out-of-range (mark-out _ q)) (λ q. pen-modified (not-false _ q)) (one-fails p)
 
   message-out : validMessage (s .locks) ≡ false → Line2 s page
   unfolding validMessage
@@ -115,7 +135,7 @@ module _ (s : State) (page : Page) where
       ⊎-elim (cell-too-low (found .0) (found .1)) (cell-too-high (found .0) (found .1)) (range-fails _ _ _ (found .2))
 
   marks-out : every validMark (page .marks) ≡ false → Line2 s page
-  marks-out p = let found = some-fails validMark 0 (page .marks) p in marks-bit-7 (found .0) (found .1) (ltb-false _ _ (found .2))
+  marks-out p = let found = some-fails validMark 0 (page .marks) p in marks-out-of-range (found .0) (found .1) (mark-out _ (found .2))
 
   half-out : validHalfRead (s .half) ≡ false → Line2 s page
   half-out p = half-read-out-of-range (out-of-range (s .half) .0 p)
@@ -146,11 +166,11 @@ module _ (s : State) (page : Page) (valid : validState s ≡ true) (fine : valid
   unfolding validPage
   character-is cell here = range-holds _ _ _ (passes validCharacter (page .characters) (both fine .0) cell here)
 
-  mark-is : (cell : ℕ) → cell < length (page .marks) → getD (page .marks) cell 0 < 0x80
+  mark-is : (cell : ℕ) → cell < length (page .marks) → validMark (getD (page .marks) cell 0) ≡ true
   unfolding validPage
-  mark-is cell here = ltb-true _ _ (passes validMark (page .marks) (both fine .1) cell here)
+  mark-is cell here = passes validMark (page .marks) (both fine .1) cell here
 
-  pen-is : (s .modes .pen < 0x80) × (isModified (s .modes .pen) ≡ false)
+  pen-is : (validMark (s .modes .pen) ≡ true) × (isModified (s .modes .pen) ≡ false)
   pen-is = pen-range (s .modes .pen) (parts s valid .pen)
 
   message-is : (s .locks .message ≤ 4) × (s .locks .message ≡ 0 → s .locks .byte ≡ 0)
@@ -163,9 +183,9 @@ module _ (s : State) (page : Page) (valid : validState s ≡ true) (fine : valid
   not-line-2 (past-last-column off) = omega (arith, column-is .1)
   not-line-2 (cell-too-low cell here low) = omega (arith, character-is cell here .0)
   not-line-2 (cell-too-high cell here high) = omega (arith, character-is cell here .1)
-  not-line-2 (marks-bit-7 cell here high) = omega (arith, mark-is cell here)
+  not-line-2 (marks-out-of-range cell here out) = mark-not-out _ (mark-is cell here) out
   not-line-2 (stop-past-last-column column past set) = true-is-not-false (sym set ∙ no-stop-past (s .size .columns) (s .stops) (parts s valid .stops) (column - 1) (omega arith))
-  not-line-2 (pen-bit-7 high) = omega (arith, pen-is .0)
+  not-line-2 (pen-out-of-range out) = mark-not-out _ (pen-is .0) out
   not-line-2 (pen-modified set) = true-is-not-false (sym set ∙ pen-is .1)
   not-line-2 (message-above-4 high) = omega (arith, message-is .0)
   not-line-2 (byte-without-message none some) = some (message-is .1 none)

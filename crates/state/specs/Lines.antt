@@ -3,7 +3,7 @@ use mathlib.Core.Path.{_≡_}
 use mathlib.Core.Bool.{true}
 use Prim.Native.Nat.{ℕ, _*_, _<_, _≤_}
 use lib.ListN.{length, getD}
-use Rattle.page.specs.Marks.{isModified}
+use Rattle.page.specs.Marks.{isProtected, isModified, isNumeric, isAlphabetic}
 use Rattle.page.specs.Page.{Page, cells}
 use Rattle.sequence.specs.Range.{HalfReadOutOfRange}
 use Rattle.state.specs.declared.Size.{Size}
@@ -18,7 +18,14 @@ pub data Line1 (size : Size) (page : Page) : Type 0 where
   characters-not-as-long : (cells page ≡ size .rows * size .columns → ⊥) → Line1 size page
   marks-not-as-long : (length (page .marks) ≡ size .rows * size .columns → ⊥) → Line1 size page
 
--- A cell is 20 to 7E, and bit 7 of its marks is zero: a byte below 80. The pen is a marks byte without modified.
+-- M-103: marks that neither a cell nor the pen may have. One of the bits 9 to 15 is set; two kinds stand together.
+pub data MarkOutOfRange (mark : ℕ) : Type 0 where
+  above-bit-8 : 0x200 ≤ mark → MarkOutOfRange mark
+  numeric-and-alphabetic : isNumeric mark ≡ true → isAlphabetic mark ≡ true → MarkOutOfRange mark
+  numeric-and-protected : isNumeric mark ≡ true → isProtected mark ≡ true → MarkOutOfRange mark
+  alphabetic-and-protected : isAlphabetic mark ≡ true → isProtected mark ≡ true → MarkOutOfRange mark
+
+-- A cell is 20 to 7E. The pen is without modified.
 pub data Line2 (s : State) (page : Page) : Type 0 where
   -- cursor off the page
   above-first-row : s .cursor .row < 1 → Line2 s page
@@ -28,11 +35,11 @@ pub data Line2 (s : State) (page : Page) : Type 0 where
   -- what a cell has
   cell-too-low : (cell : ℕ) → cell < cells page → getD (page .characters) cell 0 < 0x20 → Line2 s page
   cell-too-high : (cell : ℕ) → cell < cells page → 0x7E < getD (page .characters) cell 0 → Line2 s page
-  marks-bit-7 : (cell : ℕ) → cell < length (page .marks) → 0x80 ≤ getD (page .marks) cell 0 → Line2 s page
+  marks-out-of-range : (cell : ℕ) → cell < length (page .marks) → MarkOutOfRange (getD (page .marks) cell 0) → Line2 s page
   -- a tab stop off the page
   stop-past-last-column : (column : ℕ) → s .size .columns < column → stopAt (s .stops) column ≡ true → Line2 s page
   -- the other ranges
-  pen-bit-7 : 0x80 ≤ s .modes .pen → Line2 s page
+  pen-out-of-range : MarkOutOfRange (s .modes .pen) → Line2 s page
   pen-modified : isModified (s .modes .pen) ≡ true → Line2 s page
   -- message and byte, as M-102 has them
   message-above-4 : 4 < s .locks .message → Line2 s page

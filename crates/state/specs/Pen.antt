@@ -1,21 +1,27 @@
--- Document 01, "Commands": the pen, a byte with the bits of a cell's marks but without modified.
+-- Document 01, "Commands", and document 02, M-103: the pen, 16 bits as a cell's marks, but without modified.
 use mathlib.Core.Bool.{Bool, not}
-use Prim.Native.Nat.{ℕ, _%_}
+use Prim.Native.Nat.{ℕ}
 use Rattle.words.specs.Choice.{_and_}
-use Rattle.page.specs.Marks.{withBit, withoutBit, isModified, validMark}
+use Rattle.page.specs.Marks.{withBit, withoutBits, withoutBit, isModified, validMark}
 use Rattle.state.specs.declared.State.{State}
 use Rattle.state.specs.State.{withModes}
 
--- ESC V and ESC W.
-abbrev pub penProtected : ℕ → ℕ
-penProtected = withBit 0
-
+-- DAQ, ESC V and ESC W: of the bits 0, 7 and 8 none is set, or one in place of the others.
 abbrev pub penUnprotected : ℕ → ℕ
-penUnprotected = withoutBit 0
+penUnprotected pen = withoutBits 7 9 (withoutBit 0 pen)
 
--- SGR: 0 no visual marks, protection stays; 1, 4, 5, 7, 8 set bits 2 to 6.
+abbrev pub penProtected : ℕ → ℕ
+penProtected pen = withBit 0 (penUnprotected pen)
+
+abbrev pub penNumeric : ℕ → ℕ
+penNumeric pen = withBit 7 (penUnprotected pen)
+
+abbrev pub penAlphabetic : ℕ → ℕ
+penAlphabetic pen = withBit 8 (penUnprotected pen)
+
+-- SGR: 0 takes off the visual marks, bits 2 to 6, and nothing else; 1, 4, 5, 7, 8 set one each.
 abbrev pub penPlain : ℕ → ℕ
-penPlain pen = pen % 2
+penPlain = withoutBits 2 7
 
 abbrev pub penBold : ℕ → ℕ
 penBold = withBit 2
@@ -32,7 +38,7 @@ penReversed = withBit 5
 abbrev pub penConcealed : ℕ → ℕ
 penConcealed = withBit 6
 
--- A pen in range: modified and bit 7 are clear.
+-- A pen in range: marks that a cell may have, without modified.
 unfoldable pub validPen : ℕ → Bool
 validPen pen = validMark pen and not (isModified pen)
 

@@ -5,9 +5,11 @@ mod tabs;
 mod tests;
 
 use page::Mark;
+pub use pen::pen_alphabetic;
 pub use pen::pen_blinking;
 pub use pen::pen_bold;
 pub use pen::pen_concealed;
+pub use pen::pen_numeric;
 pub use pen::pen_plain;
 pub use pen::pen_protected;
 pub use pen::pen_reversed;

@@ -3,28 +3,46 @@ use crate::Modes;
 use crate::State;
 use page::Mark;
 ghost use mathlib.Core.Path.{_≡_};
-ghost use Rattle.state.specs.Pen.{penProtected, penUnprotected, penPlain, penBold, penUnderlined};
-ghost use Rattle.state.specs.Pen.{penBlinking, penReversed, penConcealed, withPen, withErasure};
+ghost use Rattle.state.specs.Pen.{penUnprotected, penProtected, penNumeric, penAlphabetic, penPlain, penBold};
+ghost use Rattle.state.specs.Pen.{penUnderlined, penBlinking, penReversed, penConcealed, withPen, withErasure};
 
-// ESC V: what is written is protected.
-pub fn pen_protected(pen: Mark) -> Mark
-    ensures { λ r. ⌜ r ≡ penProtected pen ⌝ }
-{
-    pen / 2 * 2 + 1
-}
-
-// ESC W: what is written is unprotected.
+// ESC W and o 0: what is written is unprotected, of no kind.
 pub fn pen_unprotected(pen: Mark) -> Mark
     ensures { λ r. ⌜ r ≡ penUnprotected pen ⌝ }
 {
-    pen / 2 * 2
+    let open = pen / 2 * 2;
+    open / 512 * 512 + open % 128
 }
 
-// m 0: no visual marks; protection stays.
+// ESC V and o 1: what is written is protected.
+pub fn pen_protected(pen: Mark) -> Mark
+    ensures { λ r. ⌜ r ≡ penProtected pen ⌝ }
+{
+    let open = pen_unprotected(pen);
+    open / 2 * 2 + 1
+}
+
+// o 3: what is written is numeric.
+pub fn pen_numeric(pen: Mark) -> Mark
+    ensures { λ r. ⌜ r ≡ penNumeric pen ⌝ }
+{
+    let open = pen_unprotected(pen);
+    open / 256 * 256 + 128 + open % 128
+}
+
+// o 4: what is written is alphabetic.
+pub fn pen_alphabetic(pen: Mark) -> Mark
+    ensures { λ r. ⌜ r ≡ penAlphabetic pen ⌝ }
+{
+    let open = pen_unprotected(pen);
+    open / 512 * 512 + 256 + open % 256
+}
+
+// m 0: no visual marks; the kind stays.
 pub fn pen_plain(pen: Mark) -> Mark
     ensures { λ r. ⌜ r ≡ penPlain pen ⌝ }
 {
-    pen % 2
+    pen / 128 * 128 + pen % 4
 }
 
 // m 1.

@@ -63,14 +63,14 @@ fn stops_fit(columns: usize, stops: [bool; 160]) -> bool
     fit
 }
 
-// A pen in range: modified and bit 7 are clear.
+// A pen in range: marks that a cell may have, without modified.
 fn is_valid_pen(pen: Mark) -> bool
     ensures { λ r. ⌜ r ≡ validPen pen ⌝ }
 {
-    if 0x80 <= pen {
-        return false;
+    if page::is_valid_mark(pen) {
+        return !page::is_modified(pen);
     }
-    !page::is_modified(pen)
+    false
 }
 
 // A message in range, 0 to 4, and no byte where there is none.

@@ -1,6 +1,5 @@
-use mathlib.Core.Path.{sym}
+use mathlib.Core.Path.{sym, _∙_}
 use borrow.Author.Needs.{needs}
-use borrow.Author.Tests.{lt-ltb, le-ltb}
 use Rattle.words.proofs.Choosing.{first-decides, first-fails}
 use Rattle.state.specs.Pen.{validPen}
 use Rattle.state.proofs.tests.is_valid_pen.Statement.{statement}
@@ -11,6 +10,7 @@ unfolding validPen
 is-valid-pen-spec =
     tie.close
     (tie.spec
-    (λ c. sym (first-fails _ _ (le-ltb _ _ (c .if1 .taken))))
     (λ c κs. search needs)
-    (λ c. rw (c .is-modified .ensures) (sym (first-decides _ _ (lt-ltb _ _ (c .before .if1 .left))))))
+    (λ c κs. search needs)
+    (λ c. rw (c .is-modified .ensures) (sym (first-decides _ _ (sym (c .before .before .is-valid-mark .ensures) ∙ c .before .if1 .taken))))
+    (λ c. sym (first-fails _ _ (sym (c .before .is-valid-mark .ensures) ∙ c .if1 .left))))
