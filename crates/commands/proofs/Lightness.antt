@@ -6,12 +6,13 @@ use native.Mathlib.Omega.{arith}
 use borrow.Author.Tests.{ltb-true, eqb-true, eqb-false, ne-eqb, eq-eqb}
 use lib.Dec.{ltb, eqb}
 use Rattle.words.specs.Choice.{if_then_else_, _and_, _or_, _is_to_}
+use Rattle.words.specs.Lists.{allFrom}
+use Rattle.words.proofs.Ranges.{in-range}
 use Rattle.words.proofs.Choosing.{true-is-not-false, then-case, else-case, either-way, neither, refuted, second-decides}
 use Rattle.state.specs.declared.Size.{Size}
 use Rattle.state.specs.declared.Cursor.{Cursor}
 use Rattle.table.specs.Table.{allowed}
 use Rattle.table.specs.Moves.{isMove, isPlainMove}
-use Rattle.table.proofs.Ranges.{allFrom, in-range}
 use Rattle.commands.specs.Light.{isLightControl, isLightLetter, isLightFinal}
 
 -- Of the control bytes HT and LF are not light.

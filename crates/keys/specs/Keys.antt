@@ -1,12 +1,12 @@
--- Document 01, "Fields, keys and blocks": what the keys do. A key that finds no cell or field does nothing: line 7 is
--- then given.
+-- Document 01, "Fields, keys and blocks", and document 02, M-103: what the keys do. A key that finds no cell or field
+-- does nothing, nor one that brings a character where it isn't taken: line 7 or 8 is then given.
 use mathlib.Core.Bool.{Bool, true, false, not}
 use mathlib.Core.List.{List, [], _∷_}
 use Prim.Native.Nat.{ℕ, _-_}
 use lib.Dec.{eqb}
 use Rattle.words.specs.Choice.{if_then_else_, _and_, _or_, _is_to_}
 use Rattle.words.specs.Lists.{numbersFrom}
-use Rattle.page.specs.Page.{typed, blanked, closedUp, movedRight, partStored}
+use Rattle.page.specs.Page.{typed, takesFromRight, takesFromLeft, blanked, closedUp, movedRight, partStored}
 use Rattle.fields.specs.declared.Sought.{Sought}
 use Rattle.fields.specs.declared.Sought.the-variants.{At, Nowhere}
 use Rattle.fields.specs.Fields.{Field}
@@ -15,7 +15,7 @@ use Rattle.state.specs.declared.State.{State}
 use Rattle.state.specs.State.{withCursor, cursorAt, unlocked}
 use Rattle.state.specs.Moves.{upBy, downBy, rightBy, leftBy}
 use Rattle.steps.specs.Steps.{Terminal, Stepped, goesTo, stores, cursorCell}
-use Rattle.steps.specs.Seen.{unprotectedAt, placeHere, fieldsHere, startHere, endHere}
+use Rattle.steps.specs.Seen.{seen, unprotectedAt, takesAt, placeHere, fieldsHere, startHere, endHere}
 use Rattle.steps.specs.Seen.{nextFieldHere, previousFieldHere, firstUnprotectedHere, nextUnprotectedHere}
 use Rattle.sending.specs.Sending.{sendBlock}
 
@@ -49,6 +49,19 @@ unfoldable pub lacksCell : ℕ → Terminal → Bool
 lacksCell key t =
     if isTyping key or isEditing key then not (unprotectedAt t (cursorCell (t .state)))
     else if isFieldMove key then noField (fieldsHere t)
+    else false
+
+-- How many characters 264 and 265 carry into the next cell: those from the cursor's to its field's end, but one.
+abbrev pub carried : Terminal → ℕ
+carried t = endHere t - cursorCell (t .state) - 1
+
+-- Line 8: a character would come into a cell that doesn't take it. The one that 264 deletes comes into none, nor the
+-- one that 265 loses.
+unfoldable pub isNotTaken : ℕ → Terminal → Bool
+isNotTaken key t =
+    if isTyping key then not (takesAt t (cursorCell (t .state)) key)
+    else if eqb key 264 then not (takesFromRight (seen t) (cursorCell (t .state)) (carried t))
+    else if eqb key 265 then not (takesFromLeft (seen t) (cursorCell (t .state)) (carried t))
     else false
 
 -- The cursor goes to what was found, and stays where nothing was.
@@ -100,9 +113,9 @@ restShifted change t =
     (stores (cellsFrom (cursorCell (t .state)) (endHere t)) false (t .state)
     (partStored change (cursorCell (t .state)) (endHere t) (t .page)))
 
--- The step of a key. A number that is no key does nothing.
-unfoldable pub keyStep : ℕ → Terminal → Stepped
-keyStep key t =
+-- What a key does that line 8 lets pass. A number that is no key does nothing.
+unfoldable pub takenStep : ℕ → Terminal → Stepped
+takenStep key t =
     if isTyping key then typedStep key t
     else if eqb key 256 then goesTo (upBy 1 (t .state)) t
     else if eqb key 257 then goesTo (downBy 1 (t .state)) t
@@ -118,3 +131,9 @@ keyStep key t =
     else if eqb key 267 then sendBlock true t
     else if eqb key 268 then goesTo (unlocked (t .state)) t
     else goesTo (t .state) t
+
+-- The step of a key.
+unfoldable pub keyStep : ℕ → Terminal → Stepped
+keyStep key t =
+    if isNotTaken key t then goesTo (t .state) t
+    else takenStep key t

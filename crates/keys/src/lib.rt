@@ -5,14 +5,14 @@ use state::State;
 use steps::Step;
 ghost use mathlib.Core.Path.{_≡_};
 ghost use mathlib.Core.Bool.{false};
-ghost use Rattle.page.specs.Page.{pageOf, closedUp, movedRight};
+ghost use Rattle.page.specs.Page.{pageOf, takesFromRight, takesFromLeft, closedUp, movedRight};
 ghost use Rattle.steps.specs.Steps.{Valid, terminalOf, cursorCell};
 ghost use Rattle.steps.specs.Told.{told, tells, written};
-ghost use Rattle.steps.specs.Seen.{unprotectedAt, fieldsHere, endHere};
+ghost use Rattle.steps.specs.Seen.{seen, unprotectedAt, takesAt, fieldsHere, endHere};
 ghost use Rattle.keys.specs.Keys.{isTyping, isEditing, isFieldMove, isKnown, isLocked, isLockedOut};
-ghost use Rattle.keys.specs.Keys.{noField, lacksCell, goneTo, typedStep};
+ghost use Rattle.keys.specs.Keys.{noField, lacksCell, carried, isNotTaken, goneTo, typedStep};
 ghost use Rattle.keys.specs.Keys.{toNextField, toPreviousField, toFirstUnprotected};
-ghost use Rattle.keys.specs.Keys.{fieldBlanked, restShifted, keyStep};
+ghost use Rattle.keys.specs.Keys.{fieldBlanked, restShifted, takenStep, keyStep};
 
 // Cells from `from` to before `end`.
 struct Rest {
@@ -111,6 +111,57 @@ pub fn lacks_cell(key: usize, state: State, characters: &[u8], marks: &[Mark]) -
     }
     if is_field_move(key) {
         return has_no_field(state, characters, marks);
+    }
+    false
+}
+
+// Whether the cursor's cell takes a typed character.
+fn takes_here(state: State, characters: &[u8], marks: &[Mark], character: u8) -> bool
+    requires { ⌜ Valid (terminalOf state (now characters) (now marks)) ⌝ }
+    ensures { λ r. ⌜ r
+        ≡ takesAt (terminalOf state (now (characters .entry)) (now (marks .entry))) (cursorCell state) character ⌝ }
+{
+    page::takes(page::mark_at(marks, state.place().cell), character)
+}
+
+// Whether the cells that 264 closes up take what comes to them.
+fn takes_deleting(state: State, characters: &[u8], marks: &[Mark]) -> bool
+    requires { ⌜ Valid (terminalOf state (now characters) (now marks)) ⌝ }
+    requires { ⌜ unprotectedAt (terminalOf state (now characters) (now marks)) (cursorCell state) ≡ true ⌝ }
+    ensures { λ r. ⌜ r ≡ takesFromRight
+        (seen (terminalOf state (now (characters .entry)) (now (marks .entry)))) (cursorCell state)
+        (carried (terminalOf state (now (characters .entry)) (now (marks .entry)))) ⌝ }
+{
+    let rest = rest_of_field(state, characters, marks);
+    page::take_from_right(characters, marks, rest.from, rest.end)
+}
+
+// Whether the cells that 265 moves into do.
+fn takes_inserting(state: State, characters: &[u8], marks: &[Mark]) -> bool
+    requires { ⌜ Valid (terminalOf state (now characters) (now marks)) ⌝ }
+    requires { ⌜ unprotectedAt (terminalOf state (now characters) (now marks)) (cursorCell state) ≡ true ⌝ }
+    ensures { λ r. ⌜ r ≡ takesFromLeft
+        (seen (terminalOf state (now (characters .entry)) (now (marks .entry)))) (cursorCell state)
+        (carried (terminalOf state (now (characters .entry)) (now (marks .entry)))) ⌝ }
+{
+    let rest = rest_of_field(state, characters, marks);
+    page::take_from_left(characters, marks, rest.from, rest.end)
+}
+
+// Whether line 8 holds, where line 7 does not.
+pub fn is_not_taken(key: usize, state: State, characters: &[u8], marks: &[Mark]) -> bool
+    requires { ⌜ Valid (terminalOf state (now characters) (now marks)) ⌝ }
+    requires { ⌜ lacksCell key (terminalOf state (now characters) (now marks)) ≡ false ⌝ }
+    ensures { λ r. ⌜ r ≡ isNotTaken key (terminalOf state (now (characters .entry)) (now (marks .entry))) ⌝ }
+{
+    if is_typing(key) {
+        return !takes_here(state, characters, marks, key as u8);
+    }
+    if key == 264 {
+        return !takes_deleting(state, characters, marks);
+    }
+    if key == 265 {
+        return !takes_inserting(state, characters, marks);
     }
     false
 }
@@ -239,7 +290,7 @@ fn act(state: State, characters: &mut [u8], marks: &mut [Mark], key: usize) -> S
     requires { ⌜ Valid (terminalOf state (now characters) (now marks)) ⌝ }
     requires { ⌜ (isTyping key ≡ false) × (key ≡ 266 → ⊥) × (key ≡ 267 → ⊥) ⌝ }
     ensures { λ r. ⌜ told r (pageOf (now (characters .exit)) (now (marks .exit)))
-        ≡ tells (keyStep key (terminalOf state (now (characters .entry)) (now (marks .entry)))) ⌝ }
+        ≡ tells (takenStep key (terminalOf state (now (characters .entry)) (now (marks .entry)))) ⌝ }
 {
     match key {
         256 => steps::quiet(state.up_by(1)),
@@ -257,7 +308,7 @@ fn act(state: State, characters: &mut [u8], marks: &mut [Mark], key: usize) -> S
     }
 }
 
-// The step of a key. Its transmission is written into the output; where it does not fit nothing happens.
+// The step of a key that line 8 lets pass. Its transmission is written into the output; where it does not fit nothing happens.
 pub fn step(
     state: State,
     characters: &mut [u8],
@@ -266,6 +317,7 @@ pub fn step(
     key: usize,
 ) -> Step
     requires { ⌜ Valid (terminalOf state (now characters) (now marks)) ⌝ }
+    requires { ⌜ isNotTaken key (terminalOf state (now characters) (now marks)) ≡ false ⌝ }
     ensures { λ r. ⌜ record {
       told = told r (pageOf (now (characters .exit)) (now (marks .exit)));
       output = now (out .exit);

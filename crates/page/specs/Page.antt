@@ -2,11 +2,11 @@
 use mathlib.Core.Bool.{Bool}
 use mathlib.Core.List.{List, [], _∷_, _++_}
 use mathlib.Core.Path.{_≡_}
-use Prim.Native.Nat.{ℕ, _-_}
+use Prim.Native.Nat.{ℕ, _+_, _-_}
 use lib.ListN.{length, take, drop, getD, set, replicate}
 use Rattle.words.specs.Choice.{if_then_else_, _and_, _or_}
-use Rattle.words.specs.Lists.{within, every, each, numbersFrom, onPart}
-use Rattle.page.specs.Marks.{isProtected, withModified, withoutModified, validCharacter, validMark, unprotected}
+use Rattle.words.specs.Lists.{within, every, allFrom, each, numbersFrom, onPart}
+use Rattle.page.specs.Marks.{isProtected, withModified, withoutModified, validCharacter, validMark, takes, unprotected}
 
 -- The two lent slices. A cell's number is its place in them, counted from 0.
 pub record Page : Type 0 where
@@ -108,6 +108,16 @@ movedRight part = 0x20 ∷ take (length part - 1) part
 abbrev pub partStored : (List ℕ → List ℕ) → ℕ → ℕ → Page → Page
 partStored change from to page =
     record { characters = onPart from to change (page .characters); marks = tagged from to (page .marks) }
+
+-- M-103, 264: whether each of n cells, from `cell` on, takes the character on its right.
+unfoldable pub takesFromRight : Page → ℕ → ℕ → Bool
+takesFromRight page cell n =
+    allFrom (λ here. takes (getD (page .marks) here 0) (getD (page .characters) (here + 1) 0)) cell n
+
+-- 265: whether each of n characters, from that of `cell` on, is taken by the cell on its right.
+unfoldable pub takesFromLeft : Page → ℕ → ℕ → Bool
+takesFromLeft page cell n =
+    allFrom (λ here. takes (getD (page .marks) (here + 1) 0) (getD (page .characters) here 0)) cell n
 
 -- What a block that was sent leaves of the marks.
 unfoldable pub markAfterBlock : ℕ → ℕ

@@ -36,3 +36,5 @@ pub use storing::store_typed;
 pub use tests::both;
 pub use tests::is_all_protected;
 pub use tests::is_valid_page;
+pub use tests::take_from_left;
+pub use tests::take_from_right;

@@ -3,12 +3,15 @@ use crate::marks::Mark;
 use crate::marks::is_protected;
 use crate::marks::is_valid_mark;
 use crate::marks::mark_at;
+use crate::marks::takes;
 ghost use mathlib.Core.Path.{_≡_};
+ghost use Prim.Native.Nat.{_-_, _<_, _≤_};
 ghost use lib.Dec.{ltb};
+ghost use lib.ListN.{length};
 ghost use Rattle.words.specs.Choice.{if_then_else_, _and_};
 ghost use Rattle.words.specs.Lists.{every};
 ghost use Rattle.page.specs.Marks.{isProtected, validCharacter, validMark};
-ghost use Rattle.page.specs.Page.{pageOf, validPage};
+ghost use Rattle.page.specs.Page.{pageOf, validPage, takesFromRight, takesFromLeft};
 
 // The larger of two bytes, and the smaller.
 fn larger(a: u8, b: u8) -> u8
@@ -81,6 +84,38 @@ pub fn is_all_protected(marks: &[Mark]) -> bool
         cell += 1;
     }
     all
+}
+
+// Key 264: whether the cells from `from` to before `to`, but the last, take what closes up into them.
+pub fn take_from_right(characters: &[u8], marks: &[Mark], from: usize, to: usize) -> bool
+    requires { ⌜ (from < to) × (to ≤ length (now characters)) × (length (now marks) ≡ length (now characters)) ⌝ }
+    ensures { λ r. ⌜ r ≡ takesFromRight
+        (pageOf (now (characters .entry)) (now (marks .entry))) from (to - from - 1) ⌝ }
+{
+    let mut cell = from;
+    while cell < to - 1 {
+        if !takes(mark_at(marks, cell), characters[cell + 1]) {
+            return false;
+        }
+        cell += 1;
+    }
+    true
+}
+
+// Key 265: whether the cells after `from` and before `to` take what moves right into them.
+pub fn take_from_left(characters: &[u8], marks: &[Mark], from: usize, to: usize) -> bool
+    requires { ⌜ (from < to) × (to ≤ length (now characters)) × (length (now marks) ≡ length (now characters)) ⌝ }
+    ensures { λ r. ⌜ r ≡ takesFromLeft
+        (pageOf (now (characters .entry)) (now (marks .entry))) from (to - from - 1) ⌝ }
+{
+    let mut cell = from;
+    while cell < to - 1 {
+        if !takes(mark_at(marks, cell + 1), characters[cell]) {
+            return false;
+        }
+        cell += 1;
+    }
+    true
 }
 
 // Document 01's number 2 asks this of the lent page.

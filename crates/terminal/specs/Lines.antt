@@ -3,14 +3,14 @@
 use mathlib.Core.Path.{_≡_}
 use mathlib.Core.Bool.{true, false}
 use mathlib.Core.List.{List, [], _∷_, _++_}
-use Prim.Native.Nat.{ℕ, _-_, _<_, _≤_}
+use Prim.Native.Nat.{ℕ, _+_, _-_, _<_, _≤_}
 use lib.ListN.{length}
 use Rattle.page.specs.Page.{Page}
 use Rattle.state.specs.declared.Size.{Size}
 use Rattle.state.specs.declared.State.{State}
 use Rattle.state.specs.Lines.{Line1, Line2}
 use Rattle.steps.specs.Steps.{Terminal, Stepped, bytesOf, cursorCell}
-use Rattle.steps.specs.Seen.{unprotectedAt, fieldsHere}
+use Rattle.steps.specs.Seen.{characterAt, unprotectedAt, takesAt, fieldsHere, endHere}
 use Rattle.terminal.specs.Runs.{bytesSentBy}
 
 -- 3: a transmission is longer than the room that those before it left.
@@ -41,6 +41,15 @@ pub data Line7 (key : ℕ) (t : Terminal) : Type 0 where
   typed-on-protected : 32 ≤ key → key ≤ 126 → unprotectedAt t (cursorCell (t .state)) ≡ false → Line7 key t
   edited-on-protected : 263 ≤ key → key ≤ 265 → unprotectedAt t (cursorCell (t .state)) ≡ false → Line7 key t
   no-field : 260 ≤ key → key ≤ 261 → fieldsHere t ≡ [] → Line7 key t
+
+-- 8, of M-103: a character not taken. Typed; after the cursor, and the cell to its left doesn't take it (264); from the
+-- cursor on, but the field's last, and the cell to its right doesn't (265).
+pub data Line8 (key : ℕ) (t : Terminal) : Type 0 where
+  typed-not-taken : 32 ≤ key → key ≤ 126 → takesAt t (cursorCell (t .state)) key ≡ false → Line8 key t
+  not-taken-on-the-left : key ≡ 264 → (cell : ℕ) → cursorCell (t .state) < cell → cell < endHere t
+      → takesAt t (cell - 1) (characterAt t cell) ≡ false → Line8 key t
+  not-taken-on-the-right : key ≡ 265 → (cell : ℕ) → cursorCell (t .state) ≤ cell → cell + 1 < endHere t
+      → takesAt t (cell + 1) (characterAt t cell) ≡ false → Line8 key t
 
 -- A line of the table: its number, and when it holds.
 pub record TableLine : Type 1 where
@@ -76,5 +85,6 @@ keyTable t key room step =
     ∷ 4 when Line4 key
     ∷ 5 when Line5 key (t .state)
     ∷ 7 when Line7 key t
+    ∷ 8 when Line8 key t
     ∷ 3 when Line3 room (step ∷ [])
     ∷ []

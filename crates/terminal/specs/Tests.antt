@@ -11,10 +11,10 @@ use Rattle.page.specs.Page.{Page, validPage}
 use Rattle.state.specs.declared.Size.{Size}
 use Rattle.state.specs.Tests.{sizeFits, validState}
 use Rattle.steps.specs.Steps.{Terminal, Stepped, Valid}
-use Rattle.keys.specs.Keys.{isKnown, isLockedOut, lacksCell, keyStep}
+use Rattle.keys.specs.Keys.{isKnown, isLockedOut, lacksCell, isNotTaken, keyStep}
 use Rattle.terminal.specs.declared.Answer.{Answer}
 use Rattle.terminal.specs.declared.Answer.the-variants.{Done, WrongSize, WrongState, NoRoom}
-use Rattle.terminal.specs.declared.Answer.the-variants.{UnknownKey, Locked, TooLong, NoCell}
+use Rattle.terminal.specs.declared.Answer.the-variants.{UnknownKey, Locked, TooLong, NoCell, NotTaken}
 use Rattle.terminal.specs.Runs.{stepsOf, fitting}
 
 -- A line's test, and the answer that it gives.
@@ -59,6 +59,7 @@ keyRefusals t key =
     ∷ not (isKnown key) answers UnknownKey
     ∷ isLockedOut key (t .state) answers Locked
     ∷ lacksCell key t answers NoCell
+    ∷ isNotTaken key t answers NotTaken
     ∷ []
 
 -- What lets a key pass them.
@@ -67,6 +68,7 @@ pub record Passes (t : Terminal) (key : ℕ) : Type 0 where
   pub known : isKnown key ≡ true
   pub not-locked-out : isLockedOut key (t .state) ≡ false
   pub has-cell : lacksCell key t ≡ false
+  pub taken : isNotTaken key t ≡ false
 
 -- Line 3 is the last.
 unfoldable pub hostLines : Terminal → List ℕ → List ℕ → List LineTest

@@ -26,6 +26,7 @@ pub enum Answer {
     Locked,
     TooLong,
     NoCell,
+    NotTaken,
 }
 
 pub struct Reply {
@@ -53,6 +54,7 @@ pub fn number_of(answer: Answer) -> u8
         Answer::Locked => 5,
         Answer::TooLong => 6,
         Answer::NoCell => 7,
+        Answer::NotTaken => 8,
     }
 }
 
@@ -190,7 +192,7 @@ fn run(
     }
 }
 
-// The step of a key that lines 1, 2, 4, 5 and 7 let pass.
+// The step of a key that lines 1, 2, 4, 5, 7 and 8 let pass.
 fn press(
     state: State,
     characters: &mut [u8],
@@ -292,6 +294,9 @@ pub fn key(
     }
     if keys::lacks_cell(key, state, characters, marks) {
         return refuse_call(Answer::NoCell, state);
+    }
+    if keys::is_not_taken(key, state, characters, marks) {
+        return refuse_call(Answer::NotTaken, state);
     }
     press(state, characters, marks, key, out)
 }

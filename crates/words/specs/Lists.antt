@@ -15,6 +15,11 @@ unfoldable pub every : {A : Type 0} → (A → Bool) → List A → Bool
 every test [] = true
 every test (x ∷ rest) = test x and every test rest
 
+-- Each of the n places from i on passes the test.
+unfoldable pub allFrom : (ℕ → Bool) → ℕ → ℕ → Bool
+allFrom test i zero = true
+allFrom test i (suc n) = test i and allFrom test (i + 1) n
+
 -- Each element x, at its place k, becomes f k x; the first one's place is i.
 unfoldable pub eachFrom : (ℕ → ℕ → ℕ) → ℕ → List ℕ → List ℕ
 eachFrom f i [] = []

@@ -10,7 +10,8 @@ use Rattle.words.proofs.Choosing.{second-decides}
 use Rattle.state.specs.Moves.{upBy, downBy, rightBy, leftBy, toMargin}
 use Rattle.steps.specs.Light.{lightStep}
 use Rattle.table.specs.Moves.{isPlainMove, moveStep}
-use Rattle.table.proofs.Ranges.{allFrom, in-range}
+use Rattle.words.specs.Lists.{allFrom}
+use Rattle.words.proofs.Ranges.{in-range}
 use Rattle.table.proofs.moves.move_command.Statement.{statement}
 use Rattle.table.proofs.moves.move_command.Tie as tie
 

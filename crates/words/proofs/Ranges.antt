@@ -1,0 +1,44 @@
+-- A rule that holds for each of so many numbers: antt computes the test of all, and the law says it of one.
+use mathlib.Core.Path.{_≡_, sym, ap, _∙_}
+use mathlib.Core.Bool.{Bool, true, false}
+use mathlib.Core.Logic.{⊎-elim}
+use Prim.Native.Nat.{ℕ, zero, suc, _+_, _-_, _<_, _≤_}
+use native.Mathlib.Nat.{add-zero}
+use native.Mathlib.Omega.{arith}
+use Rattle.words.specs.Lists.{allFrom}
+use Rattle.words.proofs.Choosing.{true-is-not-false, both, one-fails, first-decides, first-fails}
+
+module _ (test : ℕ → Bool) where
+  at-place : (least size place : ℕ) → allFrom test least size ≡ true → place < size → test (least + place) ≡ true
+  unfolding allFrom
+  at-place least zero place all h = absurd (omega arith)
+  at-place least (suc more) zero all h = ap test (add-zero least) ∙ both all .0
+  at-place least (suc more) (suc place) all h =
+      let same : least + 1 + place ≡ least + suc place = omega arith in
+      sym (ap test same) ∙ at-place (least + 1) more place (both all .1) (omega arith)
+
+  pub in-range : (least size n : ℕ) → allFrom test least size ≡ true → least ≤ n → n < least + size → test n ≡ true
+  in-range least size n all low high =
+      let same : least + (n - least) ≡ n = omega arith in
+      sym (ap test same) ∙ at-place least size (n - least) all (omega arith)
+
+  -- Where the test of all fails, that of one of them does.
+  pub some-place-fails : (i n : ℕ) → allFrom test i n ≡ false → (k : ℕ) × (i ≤ k) × (k < i + n) × (test k ≡ false)
+  unfolding allFrom
+  some-place-fails i zero p = absurd (true-is-not-false p)
+  some-place-fails i (suc n) p =
+      ⊎-elim
+      (λ q. (i, omega arith, omega arith, q))
+      (λ q. let later = some-place-fails (i + 1) n q in (later .0, omega arith, omega arith, later .3))
+      (one-fails p)
+
+  -- A loop that has come to i and found no place that fails.
+  pub next-place : (i n : ℕ) → test i ≡ true → 0 < n → allFrom test i n ≡ allFrom test (i + 1) (n - 1)
+  unfolding allFrom
+  next-place i zero p some = absurd (omega arith)
+  next-place i (suc n) p some = let same : n ≡ suc n - 1 = omega arith in first-decides _ _ p ∙ ap (allFrom test (i + 1)) same
+
+  pub place-fails : (i n : ℕ) → test i ≡ false → 0 < n → allFrom test i n ≡ false
+  unfolding allFrom
+  place-fails i zero p some = absurd (omega arith)
+  place-fails i (suc n) p some = first-fails _ _ p
