@@ -11,11 +11,10 @@ use Rattle.sequence.specs.declared.Reason.the-variants.{UnknownCommand, WrongAr
 use Rattle.page.specs.Page.{pageOf, cells, erased, cellsErased}
 use Rattle.state.specs.State.{freshState, inputDisabled, inputEnabled}
 use Rattle.state.specs.Tabs.{stopSet}
-use Rattle.state.specs.Pen.{penProtected, penUnprotected, withPen}
 use Rattle.steps.specs.Steps.{Terminal, Stepped, goesTo, stores, refusing, cursorCell, rowStart, allCells}
 use Rattle.table.specs.Table.{allowed, valueOf}
 use Rattle.table.specs.Moves.{isMove, moveStep}
-use Rattle.table.specs.Settings.{tabControl, rendition, setMode}
+use Rattle.table.specs.Settings.{tabControl, areaSet, areaQualified, rendition, setMode}
 use Rattle.sending.specs.Sending.{sendBlock, statusReport}
 use Rattle.commands.specs.Text.{lineDown, nextLine, lineUp}
 
@@ -32,8 +31,8 @@ escStep byte t =
     else if eqb byte (code "E") then nextLine t  -- NEL
     else if eqb byte (code "M") then lineUp t  -- RI
     else if eqb byte (code "H") then goesTo (stopSet (t .state)) t  -- HTS
-    else if eqb byte (code "V") then goesTo (withPen (t .state) (penProtected (t .state .modes .pen))) t  -- SPA
-    else if eqb byte (code "W") then goesTo (withPen (t .state) (penUnprotected (t .state .modes .pen))) t  -- EPA
+    else if eqb byte (code "V") then areaSet 1 t  -- SPA
+    else if eqb byte (code "W") then areaSet 0 t  -- EPA
     else if eqb byte (code "S") then sendBlock true t  -- STS
     else if eqb byte (code "c") then freshStep t  -- RIS
     else if eqb byte (code "`") then goesTo (inputDisabled (t .state)) t  -- DMI
@@ -65,6 +64,7 @@ listedStep final arguments count t =
     else if eqb final (code "J") then erasePart final first 0 (cells (t .page)) t  -- ED
     else if eqb final (code "K") then
     erasePart final first (rowStart (t .state)) (rowStart (t .state) + t .state .size .columns) t  -- EL
+    else if eqb final (code "o") then areaQualified final first t  -- DAQ
     else if eqb final (code "m") then rendition final (take count arguments) t  -- SGR
     else if eqb final (code "h") then setMode final true (take count arguments) t  -- SM
     else if eqb final (code "l") then setMode final false (take count arguments) t  -- RM

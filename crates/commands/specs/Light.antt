@@ -22,9 +22,14 @@ isLightControl size cursor byte =
 unfoldable pub isLightLetter : ℕ → Bool
 isLightLetter byte = eqb byte (code "V") or eqb byte (code "W")
 
--- The moves but for tabs, SGR, SM and RM.
+-- The moves but for tabs, DAQ, SGR, SM and RM.
 unfoldable pub isLightFinal : ℕ → Bool
-isLightFinal final = isPlainMove final or eqb final (code "m") or eqb final (code "h") or eqb final (code "l")
+isLightFinal final =
+    isPlainMove final
+    or eqb final (code "o")
+    or eqb final (code "m")
+    or eqb final (code "h")
+    or eqb final (code "l")
 
 unfoldable pub isLight : Size → Cursor → Event → Bool
 isLight size cursor Nothing = true

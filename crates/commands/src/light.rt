@@ -51,6 +51,7 @@ fn is_light_final(letter: u8) -> bool
     match letter {
         b'd' => true,
         b'f' => true,
+        b'o' => true,
         b'm' => true,
         b'h' => true,
         b'l' => true,
@@ -97,9 +98,9 @@ fn light_letter(state: State, letter: u8) -> Light
         ≡ escStep letter (record { state = state; page = page })) ⌝ }
 {
     if letter == b'V' {
-        return steps::sets(state.with_pen(state::pen_protected(state.modes.pen)));
+        return table::settings::set_area(state, 1);
     }
-    steps::sets(state.with_pen(state::pen_unprotected(state.modes.pen)))
+    table::settings::set_area(state, 0)
 }
 
 // After ESC [; the table is consulted before anything else, and lists each of these.
@@ -116,6 +117,7 @@ fn light_final(state: State, half: HalfRead, letter: u8) -> Light
         return Light::Refused(Reason::WrongArguments, letter);
     }
     match letter {
+        b'o' => table::settings::qualify_area(state, letter, table::value(letter, arguments, 0)), // DAQ
         b'm' => table::settings::rendition(state, letter, arguments, count as usize), // SGR
         b'h' => table::settings::set_mode(state, letter, true, arguments, count as usize), // SM
         b'l' => table::settings::set_mode(state, letter, false, arguments, count as usize), // RM

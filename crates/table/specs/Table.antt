@@ -29,6 +29,7 @@ allowed final =
     else if eqb final (code "m") then takes 8 0  -- SGR
     else if eqb final (code "h") or eqb final (code "l") then takes 8 0  -- SM, RM
     else if eqb final (code "n") then takes 1 0  -- DSR
+    else if eqb final (code "o") then takes 1 0  -- DAQ (M-103)
     else takes 0 0
 
 -- The value of argument i, counted from 0.

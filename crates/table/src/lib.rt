@@ -10,7 +10,7 @@ pub mod settings;
 // A digit for each final byte, 40 to 7E (`letter` in the code, as `final` is a word of the language).
 // How many arguments a command may have at most; 0 is for one that isn't listed.
 //                        @ABCDEFGHIJKLMNOPQRSTUVWXYZ[\]^_`abcdefghijklmnopqrstuvwxyz{|}~
-const MOST: [u8; 63] = *b"011111112111000000000001001000000000102080008810000000000000000";
+const MOST: [u8; 63] = *b"011111112111000000000001001000000000102080008811000000000000000";
 
 // What an argument of 0 stands for.
 //                           @ABCDEFGHIJKLMNOPQRSTUVWXYZ[\]^_`abcdefghijklmnopqrstuvwxyz{|}~

@@ -14,6 +14,7 @@ ghost use Rattle.state.specs.State.{OnPage};
 ghost use Rattle.steps.specs.Told.{told, tells};
 ghost use Rattle.steps.specs.Light.{lightStep};
 ghost use Rattle.table.specs.Settings.{tabControl, isVisual, penAfter, penAfterAll, rendition, setMode};
+ghost use Rattle.table.specs.Settings.{isArea, penOfArea, areaSet, areaQualified};
 
 // CTC: 0 sets a tab stop, 2 clears it, 5 clears all.
 pub fn tab_control(state: State, letter: u8, what: usize) -> Step
@@ -112,6 +113,51 @@ pub fn rendition(state: State, letter: u8, values: [u16; 8], count: usize) -> Li
     if all_visual(values, count) {
         let pen = pen_after_all(values, count, state.modes.pen);
         return steps::sets(state.with_pen(pen));
+    }
+    Light::Refused(Reason::WrongArguments, letter)
+}
+
+// Whether DAQ lists a value.
+fn is_area(value: usize) -> bool
+    ensures { λ r. ⌜ r ≡ isArea value ⌝ }
+{
+    match value {
+        0 => true,
+        1 => true,
+        3 => true,
+        4 => true,
+        _ => false,
+    }
+}
+
+// The pen that one of them leaves.
+fn pen_of_area(value: usize, pen: Mark) -> Mark
+    ensures { λ r. ⌜ r ≡ penOfArea value pen ⌝ }
+{
+    match value {
+        0 => state::pen_unprotected(pen),
+        1 => state::pen_protected(pen),
+        3 => state::pen_numeric(pen),
+        _ => state::pen_alphabetic(pen),
+    }
+}
+
+// ESC V and ESC W, and DAQ with a value that it lists.
+pub fn set_area(state: State, value: usize) -> Light
+    ensures { λ r. ⌜ ((page : Page) →
+        lightStep r (record { state = state; page = page }) ≡ areaSet value (record { state = state; page = page })) ⌝ }
+{
+    steps::sets(state.with_pen(pen_of_area(value, state.modes.pen)))
+}
+
+// DAQ: what is written from here on is unprotected, protected, numeric or alphabetic.
+pub fn qualify_area(state: State, letter: u8, value: usize) -> Light
+    ensures { λ r. ⌜ ((page : Page) →
+        lightStep r (record { state = state; page = page })
+        ≡ areaQualified letter value (record { state = state; page = page })) ⌝ }
+{
+    if is_area(value) {
+        return set_area(state, value);
     }
     Light::Refused(Reason::WrongArguments, letter)
 }
