@@ -17,7 +17,7 @@ use Rattle.state.specs.Tabs.{tabbedOn, tabbedBack}
 use Rattle.state.proofs.Arrays.{fresh-arrays, half-keeps-arrays, stop-set-keeps-arrays, stop-cleared-keeps-arrays, stops-cleared-keep-arrays}
 use Rattle.steps.specs.Steps.{Terminal, Stepped}
 use Rattle.table.specs.Moves.{toColumn, toRow, toPlace, moveStep}
-use Rattle.table.specs.Settings.{tabControl, rendition, setMode}
+use Rattle.table.specs.Settings.{tabControl, areaSet, areaQualified, rendition, setMode}
 use Rattle.sending.specs.Sending.{sendBlock, readyReport, cursorReport, statusReport}
 use Rattle.commands.specs.Text.{textStep, lineDown, lineUp, nextLine, controlStep}
 use Rattle.commands.specs.Commands.{freshStep, escStep, erasing, erasePart, listedStep, bracketStep}
@@ -55,7 +55,7 @@ module _ (t : Terminal) (has : Arrays (t .state)) where
   control-keeps byte = line _ _ _ (same refl refl) (line _ _ _ (same refl refl) (line _ _ _ line-down-keeps (same refl refl)))
 
   esc-keeps : (byte : ℕ) → Keeps (escStep byte t)
-  unfolding escStep sendBlock freshStep inputDisabled inputEnabled refused
+  unfolding escStep areaSet sendBlock freshStep inputDisabled inputEnabled refused
   esc-keeps byte =
       line _ _ _ line-down-keeps
       (line _ _ _ next-line-keeps
@@ -99,16 +99,17 @@ module _ (t : Terminal) (has : Arrays (t .state)) where
   mode-keeps final on values = line _ _ _ (same refl refl) (same refl refl)
 
   listed-keeps : (final : ℕ) (arguments : List ℕ) (count : ℕ) → Keeps (listedStep final arguments count t)
-  unfolding listedStep rendition statusReport readyReport cursorReport refused
+  unfolding listedStep areaQualified areaSet rendition statusReport readyReport cursorReport refused
   listed-keeps final arguments count =
       line _ _ _ (move-keeps final arguments)
       (line _ _ _ (tab-control-keeps _ _)
       (line _ _ _ (erase-keeps _ _ _ _)
       (line _ _ _ (erase-keeps _ _ _ _)
       (line _ _ _ (line _ _ _ (same refl refl) (same refl refl))
+      (line _ _ _ (line _ _ _ (same refl refl) (same refl refl))
       (line _ _ _ (mode-keeps _ _ _)
       (line _ _ _ (mode-keeps _ _ _)
-      (line _ _ _ has (line _ _ _ has (same refl refl)))))))))
+      (line _ _ _ has (line _ _ _ has (same refl refl))))))))))
 
   event-keeps : (half : HalfRead) (event : Event) → Keeps (eventStep half event t)
   unfolding eventStep bracketStep refused

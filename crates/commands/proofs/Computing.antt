@@ -18,7 +18,7 @@ use Rattle.commands.specs.Text.{textStep, lineDown, lineUp, nextLine, co
 use Rattle.commands.specs.Commands.{freshStep, escStep, erasing, erasePart, listedStep, bracketStep}
 use Rattle.sending.specs.Sending.{sendBlock, readyReport, cursorReport, statusReport}
 use Rattle.table.specs.Moves.{toColumn, toRow, toPlace, keptColumn, isMove, moveStep}
-use Rattle.table.specs.Settings.{tabControl, isVisual, penAfter, penAfterAll, rendition, setMode}
+use Rattle.table.specs.Settings.{tabControl, isArea, penOfArea, areaSet, areaQualified, isVisual, penAfter, penAfterAll, rendition, setMode}
 use Rattle.commands.specs.Host.{eventStep, hostStep}
 
 -- Tests and lists.
@@ -33,7 +33,7 @@ readings = tt
 
 -- What becomes of the state.
 unfoldable states : Unit {0}
-unfolding tests messageOf refused inputDisabled inputEnabled backBy onBy upBy downBy rightBy leftBy toMargin toNextCell stopSet stopCleared stopsCleared stopRight stopLeft stopsOn stopsBack tabbedOn tabbedBack isVisual penAfter penAfterAll
+unfolding tests messageOf refused inputDisabled inputEnabled backBy onBy upBy downBy rightBy leftBy toMargin toNextCell stopSet stopCleared stopsCleared stopRight stopLeft stopsOn stopsBack tabbedOn tabbedBack isArea penOfArea isVisual penAfter penAfterAll
 states = tt
 
 -- What becomes of the page.
@@ -48,5 +48,5 @@ transmissions = tt
 
 -- The step of a host byte.
 unfoldable pub hostSteps : Unit {0}
-unfolding readings states pages transmissions textStep lineDown lineUp nextLine controlStep freshStep sendBlock escStep allowed valueOf toColumn toRow toPlace keptColumn isMove moveStep tabControl erasing erasePart rendition setMode readyReport cursorReport statusReport listedStep bracketStep eventStep hostStep
+unfolding readings states pages transmissions textStep lineDown lineUp nextLine controlStep freshStep sendBlock escStep allowed valueOf toColumn toRow toPlace keptColumn isMove moveStep tabControl areaSet areaQualified erasing erasePart rendition setMode readyReport cursorReport statusReport listedStep bracketStep eventStep hostStep
 hostSteps = tt

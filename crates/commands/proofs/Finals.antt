@@ -15,7 +15,7 @@ use Rattle.state.specs.Tabs.{tabbedOn, tabbedBack}
 use Rattle.steps.specs.Steps.{Terminal, goesTo, refusing, rowStart}
 use Rattle.table.specs.Table.{allowed, valueOf}
 use Rattle.table.specs.Moves.{isMove, moveStep}
-use Rattle.table.specs.Settings.{tabControl, rendition, setMode}
+use Rattle.table.specs.Settings.{tabControl, areaQualified, rendition, setMode}
 use Rattle.commands.specs.Commands.{erasePart, listedStep, bracketStep}
 use Rattle.sending.specs.Sending.{statusReport}
 
@@ -59,14 +59,19 @@ module _ (final what : ℕ) (arguments : List ℕ) (count : ℕ) (t : Terminal) 
   unfolding listedStep isMove if_then_else_ _and_ _or_ _is_to_
   final-K e = rw (given, e)
 
+  pub final-o : final ≡ 0x6F → listedStep final arguments count t ≡ areaQualified final what t
+  unfolding listedStep isMove if_then_else_ _and_ _or_ _is_to_
+  final-o e = rw (given, e)
+
   -- No other line is left for a final byte that is none of the listed ones but n.
-  pub final-n : isMove final ≡ false → (final ≡ 0x57 → ⊥) → (final ≡ 0x4A → ⊥) → (final ≡ 0x4B → ⊥) → (final ≡ 0x6D → ⊥) → (final ≡ 0x68 → ⊥) → (final ≡ 0x6C → ⊥) → listedStep final arguments count t ≡ statusReport final what t
+  pub final-n : isMove final ≡ false → (final ≡ 0x57 → ⊥) → (final ≡ 0x4A → ⊥) → (final ≡ 0x4B → ⊥) → (final ≡ 0x6F → ⊥) → (final ≡ 0x6D → ⊥) → (final ≡ 0x68 → ⊥) → (final ≡ 0x6C → ⊥) → listedStep final arguments count t ≡ statusReport final what t
   unfolding listedStep
-  final-n other w j k m h l =
+  final-n other w j k o m h l =
       else-case _ _ _ other
       ∙ else-case _ _ _ (ne-eqb _ _ w)
       ∙ else-case _ _ _ (ne-eqb _ _ j)
       ∙ else-case _ _ _ (ne-eqb _ _ k)
+      ∙ else-case _ _ _ (ne-eqb _ _ o)
       ∙ else-case _ _ _ (ne-eqb _ _ m)
       ∙ else-case _ _ _ (ne-eqb _ _ h)
       ∙ else-case _ _ _ (ne-eqb _ _ l)

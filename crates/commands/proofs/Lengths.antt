@@ -24,7 +24,7 @@ use Rattle.commands.specs.Commands.{escStep, listedStep, bracketStep}
 use Rattle.sending.specs.Sending.{sendBlock, readyReport, cursorReport, statusReport}
 use Rattle.commands.specs.Host.{eventStep, hostStep}
 use Rattle.steps.proofs.Soundness.{sized}
-use Rattle.commands.proofs.Silent.{text-silent, control-silent, esc-silent, move-silent, tab-silent, erase-silent, rendition-silent, mode-silent}
+use Rattle.commands.proofs.Silent.{text-silent, control-silent, esc-silent, move-silent, tab-silent, erase-silent, area-silent, rendition-silent, mode-silent}
 
 -- A transmission of no more bytes than the longest block has.
 abbrev Short : Stepped → Type 0
@@ -65,10 +65,11 @@ listed-short final arguments count t =
     (λ _. either-line Short _ _ _ (λ _. quiet (tab-silent _ _ t))
     (λ _. either-line Short _ _ _ (λ _. quiet (erase-silent _ _ _ _ t))
     (λ _. either-line Short _ _ _ (λ _. quiet (erase-silent _ _ _ _ t))
+    (λ _. either-line Short _ _ _ (λ _. quiet (area-silent _ _ t))
     (λ _. either-line Short _ _ _ (λ _. quiet (rendition-silent _ _ t))
     (λ _. either-line Short _ _ _ (λ _. quiet (mode-silent _ _ _ t))
     (λ _. either-line Short _ _ _ (λ _. quiet (mode-silent _ _ _ t))
-    (λ _. status-short _ _ t)))))))
+    (λ _. status-short _ _ t))))))))
 
 event-short : (half : HalfRead) (event : Event) (t : Terminal) → sizeFits (t .state .size) (t .page) ≡ true → Short (eventStep half event t)
 unfolding eventStep bracketStep bytesOf

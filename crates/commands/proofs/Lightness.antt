@@ -39,7 +39,7 @@ unfolding isLightLetter
 light-letter-left letter light other = eqb-true letter 0x57 (sym (second-decides _ _ (ne-eqb letter 0x56 other)) ∙ light)
 
 module _ (final : ℕ) where
-  -- A final byte that is light is listed, and but for m, h and l it is a move.
+  -- A final byte that is light is listed, and but for o, m, h and l it is a move.
   module _ (low : 0x40 ≤ final) (high : final ≤ 0x7E) where
     abbrev isListedIfLight : ℕ → Bool
     isListedIfLight n = not (isLightFinal n) or ltb 0 (allowed n .most)
@@ -79,15 +79,16 @@ module _ (final : ℕ) where
         let left : isTabElsePlain final ≡ not (isMove final) = second-decides _ _ (ne-eqb final 0x49 i) ∙ second-decides _ _ (ne-eqb final 0x5A z) ∙ second-decides _ _ (neither heavy .0) in
         refuted (isMove final) (λ move. true-is-not-false (sym (sym left ∙ in-range isTabElsePlain 0x40 63 final all-tabs low (omega arith)) ∙ ap not move))
 
-  pub plain-left : isLightFinal final ≡ true → (final ≡ 0x6D → ⊥) → (final ≡ 0x68 → ⊥) → (final ≡ 0x6C → ⊥) → isPlainMove final ≡ true
+  pub plain-left : isLightFinal final ≡ true → (final ≡ 0x6F → ⊥) → (final ≡ 0x6D → ⊥) → (final ≡ 0x68 → ⊥) → (final ≡ 0x6C → ⊥) → isPlainMove final ≡ true
   unfolding isLightFinal
-  plain-left light m h l =
+  plain-left light o m h l =
       either-way (isPlainMove final) (λ yes. yes)
-      (λ none. absurd (true-is-not-false (sym light ∙ second-decides _ _ none ∙ second-decides _ _ (ne-eqb final 0x6D m) ∙ second-decides _ _ (ne-eqb final 0x68 h) ∙ ne-eqb final 0x6C l)))
+      (λ none. absurd (true-is-not-false (sym light ∙ second-decides _ _ none ∙ second-decides _ _ (ne-eqb final 0x6F o) ∙ second-decides _ _ (ne-eqb final 0x6D m) ∙ second-decides _ _ (ne-eqb final 0x68 h) ∙ ne-eqb final 0x6C l)))
 
-  pub no-setting-left : isLightFinal final ≡ false → (final ≡ 0x6D → ⊥) × (final ≡ 0x68 → ⊥) × (final ≡ 0x6C → ⊥)
+  pub no-setting-left : isLightFinal final ≡ false → (final ≡ 0x6F → ⊥) × (final ≡ 0x6D → ⊥) × (final ≡ 0x68 → ⊥) × (final ≡ 0x6C → ⊥)
   unfolding isLightFinal
   no-setting-left heavy =
-      let m = neither (neither heavy .1) in
+      let o = neither (neither heavy .1) in
+      let m = neither (o .1) in
       let h = neither (m .1) in
-      (eqb-false final 0x6D (m .0), eqb-false final 0x68 (h .0), eqb-false final 0x6C (h .1))
+      (eqb-false final 0x6F (o .0), eqb-false final 0x6D (m .0), eqb-false final 0x68 (h .0), eqb-false final 0x6C (h .1))

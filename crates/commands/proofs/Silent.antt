@@ -10,7 +10,7 @@ use Rattle.steps.specs.Steps.{Terminal, bytesOf}
 use Rattle.commands.specs.Text.{textStep, lineDown, lineUp, nextLine, controlStep}
 use Rattle.commands.specs.Commands.{freshStep, escStep, erasing, erasePart}
 use Rattle.table.specs.Moves.{toColumn, toRow, toPlace, moveStep}
-use Rattle.table.specs.Settings.{tabControl, rendition, setMode}
+use Rattle.table.specs.Settings.{tabControl, areaSet, areaQualified, rendition, setMode}
 
 pub text-silent : (character : ℕ) (t : Terminal) → Silent (textStep character t)
 unfolding textStep bytesOf
@@ -36,7 +36,7 @@ control-silent byte t =
     (λ _. either-line Silent _ _ _ (λ _. line-down-silent t) (λ _. refl)))
 
 pub esc-silent : (byte : ℕ) (t : Terminal) → eqb byte 0x53 ≡ false → Silent (escStep byte t)
-unfolding escStep freshStep bytesOf
+unfolding escStep areaSet freshStep bytesOf
 esc-silent byte t other =
     either-line Silent _ _ _ (λ _. line-down-silent t)
     (λ _. either-line Silent _ _ _ (λ _. next-line-silent t)
@@ -62,6 +62,10 @@ erase-silent final what first end t =
     either-line Silent _ _ _ (λ _. refl)
     (λ _. either-line Silent _ _ _ (λ _. refl)
     (λ _. either-line Silent _ _ _ (λ _. refl) (λ _. refl)))
+
+pub area-silent : (final value : ℕ) (t : Terminal) → Silent (areaQualified final value t)
+unfolding areaQualified areaSet bytesOf
+area-silent final value t = either-line Silent _ _ _ (λ _. refl) (λ _. refl)
 
 pub rendition-silent : (final : ℕ) (values : List ℕ) (t : Terminal) → Silent (rendition final values t)
 unfolding rendition bytesOf

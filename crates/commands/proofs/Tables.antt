@@ -26,7 +26,7 @@ use Rattle.state.specs.declared.State.{State}
 use Rattle.state.specs.State.{OnPage, withHalf, refused}
 use Rattle.state.specs.Moves.{downBy, toMargin}
 use Rattle.state.specs.Pen.{validPen}
-use Rattle.state.proofs.Keeping.{KeepsValid, size-bounds, on-page, parts, up-keeps-valid, down-keeps-valid, right-keeps-valid, left-keeps-valid, margin-keeps-valid, next-cell-keeps-valid, cursor-keeps-valid, tab-on-keeps-valid, tab-back-keeps-valid, stop-set-keeps-valid, stop-cleared-keeps-valid, stops-cleared-keeps-valid, pen-keeps-valid, protected-keeps-pen, unprotected-keeps-pen, erasure-keeps-valid, disabled-keeps-valid, enabled-keeps-valid, half-keeps-valid, fresh-valid}
+use Rattle.state.proofs.Keeping.{KeepsValid, size-bounds, on-page, parts, up-keeps-valid, down-keeps-valid, right-keeps-valid, left-keeps-valid, margin-keeps-valid, next-cell-keeps-valid, cursor-keeps-valid, tab-on-keeps-valid, tab-back-keeps-valid, stop-set-keeps-valid, stop-cleared-keeps-valid, stops-cleared-keeps-valid, pen-keeps-valid, erasure-keeps-valid, disabled-keeps-valid, enabled-keeps-valid, half-keeps-valid, fresh-valid}
 use Rattle.steps.specs.Steps.{Terminal, silent, report, fullBlock, blockTransmission, Stepped, withState, goesTo, stores, sends, refusing, cursorCell, Valid, rowStart}
 use Rattle.steps.specs.Claims.{markLeft, Refusal}
 use Rattle.steps.proofs.Storing.{Stored, text-stored, blank-stored, up-stored, down-stored, erasing-stored}
@@ -37,10 +37,10 @@ use Rattle.commands.specs.Text.{textStep, lineDown, lineUp, nextLine, co
 use Rattle.commands.specs.Commands.{freshStep, escStep, erasing, erasePart, listedStep, bracketStep}
 use Rattle.sending.specs.Sending.{sendBlock, readyReport, cursorReport, statusReport}
 use Rattle.table.specs.Moves.{toColumn, toRow, toPlace, moveStep}
-use Rattle.table.specs.Settings.{tabControl, rendition, setMode}
+use Rattle.table.specs.Settings.{tabControl, areaSet, areaQualified, rendition, setMode}
 use Rattle.commands.specs.Host.{eventStep, hostStep}
 use Rattle.commands.proofs.Claims.{EndsEscS, Stores, no-cell, text-cell, erased-cells, all-cells, HostSound, EventSound}
-use Rattle.commands.proofs.Values.{some-value, zero-is-one, some-column, pen-after-all-keeps-pen}
+use Rattle.commands.proofs.Values.{some-value, zero-is-one, some-column, area-keeps-pen, pen-after-all-keeps-pen}
 use Rattle.sequence.proofs.Events.{Tells, event-tells}
 
 then-keeps : {before between after : State} → KeepsValid before between → KeepsValid between after → KeepsValid before after
@@ -152,18 +152,22 @@ module _ (Asked : Type 0) (byte : ℕ) (t : Terminal) (valid : Valid t) where
       puts all-cells (record { size = refl; valid = fresh-valid (t .state .size) (page-size .listed) })
       (blank-stored (t .page) (valid .page) same-lengths)
 
+  area-set-holds : (value : ℕ) → Holds (areaSet value t)
+  unfolding areaSet
+  area-set-holds value =
+      goes _ (pen-keeps-valid (t .state) (valid .state) _ (area-keeps-pen value (t .state .modes .pen) (parts (t .state) (valid .state) .pen)))
+
   esc-holds : (command : ℕ) → byte ≡ command → (command ≡ 0x53 → Asked) → Holds (escStep command t)
   unfolding escStep nextLine
   esc-holds command here asked =
       let s = t .state in
       let ok = valid .state in
-      let pen = parts s ok .pen in
       line (λ _. line-down-holds s stays)
       (line (λ _. line-down-holds (toMargin s) (margin-keeps-valid s ok))
       (line (λ _. line-up-holds)
       (line (λ _. goes _ (stop-set-keeps-valid s ok))
-      (line (λ _. goes _ (pen-keeps-valid s ok _ (protected-keeps-pen (s .modes .pen) pen)))
-      (line (λ _. goes _ (pen-keeps-valid s ok _ (unprotected-keeps-pen (s .modes .pen) pen)))
+      (line (λ _. area-set-holds 1)
+      (line (λ _. area-set-holds 0)
       (line (λ e. full-block-holds (asked (eqb-true command 0x53 e)))
       (line (λ _. fresh-holds)
       (line (λ _. goes _ (disabled-keeps-valid s ok))
@@ -215,6 +219,10 @@ module _ (Asked : Type 0) (byte : ℕ) (t : Terminal) (valid : Valid t) where
       let row = row-on-page t valid in
       erase-part-holds final ends what (rowStart (t .state)) (rowStart (t .state) + t .state .size .columns) (omega arith) (omega arith) (omega arith)
 
+  area-holds : (final : ℕ) → byte ≡ final → (value : ℕ) → Holds (areaQualified final value t)
+  unfolding areaQualified
+  area-holds final ends value = line (λ _. area-set-holds value) (refuses WrongArguments ends)
+
   rendition-holds : (final : ℕ) → byte ≡ final → (values : List ℕ) → Holds (rendition final values t)
   unfolding rendition
   rendition-holds final ends values =
@@ -260,9 +268,10 @@ module _ (Asked : Type 0) (byte : ℕ) (t : Terminal) (valid : Valid t) where
       (line (λ _. tab-control-holds final ends n)
       (line (λ _. erase-part-holds final ends n 0 (cells (t .page)) (omega arith) (rw (← same-lengths) (cursor-on-page t valid)) (rw same-lengths (omega arith)))
       (line (λ _. row-erased-holds final ends n)
+      (line (λ _. area-holds final ends n)
       (line (λ _. rendition-holds final ends (take count arguments))
       (line (λ _. mode-holds final ends true (take count arguments))
-      (line (λ _. mode-holds final ends false (take count arguments)) (status-holds final ends n)))))))
+      (line (λ _. mode-holds final ends false (take count arguments)) (status-holds final ends n))))))))
 
   bracket-holds : (final : ℕ) → byte ≡ final → (half : HalfRead) → Holds (bracketStep final half t)
   unfolding bracketStep

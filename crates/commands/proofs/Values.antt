@@ -10,10 +10,10 @@ use lib.ListN.{getD}
 use Rattle.words.specs.Choice.{if_then_else_, _and_, _or_, _is_to_}
 use Rattle.words.proofs.Choosing.{either-line}
 use Rattle.state.specs.Pen.{validPen}
-use Rattle.state.proofs.Keeping.{plain-keeps-pen, bold-keeps-pen, underlined-keeps-pen, blinking-keeps-pen, reversed-keeps-pen, concealed-keeps-pen}
+use Rattle.state.proofs.Keeping.{unprotected-keeps-pen, protected-keeps-pen, numeric-keeps-pen, alphabetic-keeps-pen, plain-keeps-pen, bold-keeps-pen, underlined-keeps-pen, blinking-keeps-pen, reversed-keeps-pen, concealed-keeps-pen}
 use Rattle.table.specs.Table.{allowed, valueOf}
 use Rattle.table.specs.Moves.{keptColumn}
-use Rattle.table.specs.Settings.{penAfter, penAfterAll}
+use Rattle.table.specs.Settings.{penOfArea, penAfter, penAfterAll}
 
 -- Where 0 stands for 1, a value is 1 at least: so for G, d, H and f.
 pub some-value : (final command : ℕ) (arguments : List ℕ) (i : ℕ) → eqb final command ≡ true → allowed command .zeroIs ≡ 1 → 1 ≤ valueOf final arguments i
@@ -29,6 +29,15 @@ zero-is-one = (refl, refl, refl, refl)
 pub some-column : (row given column present : ℕ) → 1 ≤ column → 1 ≤ present → 1 ≤ keptColumn row given column present
 unfolding keptColumn
 some-column row given column present h k = either-line (λ (n : ℕ). 1 ≤ n) _ _ _ (λ _. k) (λ _. h)
+
+-- The pen after DAQ.
+pub area-keeps-pen : (value pen : ℕ) → validPen pen ≡ true → validPen (penOfArea value pen) ≡ true
+unfolding penOfArea
+area-keeps-pen value pen p =
+    let ok : ℕ → Type 0 = λ n. validPen n ≡ true in
+    either-line ok _ _ _ (λ _. unprotected-keeps-pen pen p)
+    (λ _. either-line ok _ _ _ (λ _. protected-keeps-pen pen p)
+    (λ _. either-line ok _ _ _ (λ _. numeric-keeps-pen pen p) (λ _. alphabetic-keeps-pen pen p)))
 
 -- The pen after SGR.
 pen-after-keeps-pen : (value pen : ℕ) → validPen pen ≡ true → validPen (penAfter value pen) ≡ true

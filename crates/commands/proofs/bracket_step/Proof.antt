@@ -92,7 +92,7 @@ returns-8 c =
     let move = no-move-left (start .args .letter) (asked .1) (asked .2) (asked .4) (rest .0 .0 .0 .0 .1) (rest .0 .0 .0 .1) in
     let setting = no-setting-left (start .args .letter) (asked .4) in
     rw
-    (passed ∙ final-n _ _ _ _ t (c .before .before .before .before .before .value .ensures) move (rest .0 .0 .1) (rest .0 .1) (rest .1) (setting .0) (setting .1) (setting .2))
+    (passed ∙ final-n _ _ _ _ t (c .before .before .before .before .before .value .ensures) move (rest .0 .0 .1) (rest .0 .1) (rest .1) (setting .0) (setting .1) (setting .2) (setting .3))
     (c .before .before .status-report .ensures (t .page))
 
 pub bracket-step-spec : {M : Type 1} → statement M

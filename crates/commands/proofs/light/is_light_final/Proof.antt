@@ -15,6 +15,7 @@ returns c =
     let low = c .if1 .taken in
     sym
     (second-decides _ _ (second-decides _ _ (first-fails _ _ (lt-leb _ _ low)) ∙ second-decides _ _ (ne-eqb final 0x64 (λ e. omega arith)) ∙ ne-eqb final 0x66 (λ e. omega arith))
+    ∙ second-decides _ _ (ne-eqb final 0x6F (λ e. omega arith))
     ∙ second-decides _ _ (ne-eqb final 0x6D (λ e. omega arith))
     ∙ second-decides _ _ (ne-eqb final 0x68 (λ e. omega arith))
     ∙ ne-eqb final 0x6C (λ e. omega arith))
@@ -23,12 +24,13 @@ returns-2 : tie.Need-returns-2
 unfolding isLightFinal isPlainMove _is_to_
 returns-2 c = sym (first-holds _ _ (first-holds _ _ (both-hold _ _ (le-leb _ _ (c .before .if1 .left)) (le-leb _ _ (c .if2 .taken)))))
 
-returns-8 : tie.Need-returns-8
+returns-9 : tie.Need-returns-9
 unfolding isLightFinal isPlainMove _is_to_
-returns-8 c =
+returns-9 c =
     let other = c .match .rest in
     sym
-    (second-decides _ _ (second-decides _ _ (second-fails _ _ (lt-leb _ _ (c .before .if2 .left))) ∙ second-decides _ _ (ne-eqb _ _ (other .0 .0 .0 .0 .1)) ∙ ne-eqb _ _ (other .0 .0 .0 .1))
+    (second-decides _ _ (second-decides _ _ (second-fails _ _ (lt-leb _ _ (c .before .if2 .left))) ∙ second-decides _ _ (ne-eqb _ _ (other .0 .0 .0 .0 .0 .1)) ∙ ne-eqb _ _ (other .0 .0 .0 .0 .1))
+    ∙ second-decides _ _ (ne-eqb _ _ (other .0 .0 .0 .1))
     ∙ second-decides _ _ (ne-eqb _ _ (other .0 .0 .1))
     ∙ second-decides _ _ (ne-eqb _ _ (other .0 .1))
     ∙ ne-eqb _ _ (other .1))
@@ -45,4 +47,5 @@ is-light-final-spec =
     (λ c. rw (c .match .keys3))
     (λ c. rw (c .match .keys4))
     (λ c. rw (c .match .keys5))
-    returns-8)
+    (λ c. rw (c .match .keys6))
+    returns-9)
