@@ -5,15 +5,14 @@ use std::time::Instant;
 
 const ROOM: usize = 65_536;
 
-/// The state in bytes, as docs/PANEL.md lays out a record.
-fn record(state: &State) -> Vec<u8> {
+/// The state in 194 bytes, as docs/PANEL.md lays out a record.
+pub fn record(state: &State) -> Vec<u8> {
     let flags = [state.erasure, state.manual, state.soft].map(u8::from);
     let half = &state.half;
     let mut bytes = Vec::new();
-    for number in [state.rows, state.columns, state.row, state.column] {
+    for number in [state.rows, state.columns, state.row, state.column, state.pen] {
         bytes.extend(number.to_le_bytes());
     }
-    bytes.push(state.pen);
     bytes.extend(flags);
     bytes.extend([state.message, state.refused_at, half.kind, u8::from(half.spoilt), half.count]);
     for argument in half.arguments {
@@ -34,7 +33,7 @@ fn digest(bytes: impl Iterator<Item = u8>) -> u64 {
 fn feed(
     state: &mut State,
     characters: &mut [u8],
-    marks: &mut [u8],
+    marks: &mut [u16],
     stream: &[u8],
     call: usize,
 ) -> Result<(u64, u64), String> {
@@ -73,6 +72,7 @@ pub fn stream(
     let before = Instant::now();
     let (sent, stored) = feed(&mut state, &mut characters, &mut marks, stream, call)?;
     let seconds = before.elapsed().as_secs_f64();
+    let marks = marks.into_iter().flat_map(u16::to_le_bytes);
     let left = record(&state).into_iter().chain(characters).chain(marks);
     Ok(format!(
         "digest {:016x} cursor {};{} message {} byte {:02X} sent {sent} stored {stored}\nMB/s {:.3}\n",

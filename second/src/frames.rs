@@ -4,7 +4,7 @@ use crate::terminal::{self, Answer, State};
 use crate::wrong;
 
 pub const ROOM: usize = 65_536;
-/// Bytes of characters, and of marks, that `calls` keeps.
+/// Characters, and marks, that `calls` keeps.
 pub const KEPT: usize = 8_192;
 /// Frame 28's number for the byte at which a command was refused; 20 up to it are the tab stops.
 pub const REFUSED_AT: usize = 180;
@@ -97,6 +97,14 @@ fn put_line(out: &mut Vec<u8>, bytes: &[u8]) {
     out.push(b'\n');
 }
 
+/// The marks of cells, four digits each.
+fn put_marks_line(out: &mut Vec<u8>, marks: &[u16]) {
+    for value in marks {
+        put_hex(out, &value.to_be_bytes());
+    }
+    out.push(b'\n');
+}
+
 fn two(bytes: &[u8]) -> u16 {
     u16::from_be_bytes([bytes[0], bytes[1]])
 }
@@ -110,7 +118,7 @@ pub struct Session {
     pub going: bool,
     pub state: State,
     pub characters: Vec<u8>,
-    pub marks: Vec<u8>,
+    pub marks: Vec<u16>,
     output: Vec<u8>,
 }
 
@@ -194,7 +202,7 @@ impl Dump {
         let mut say = |text: String| out.extend_from_slice(text.as_bytes());
         say(format!("size {:05} {:05}\n", state.rows, state.columns));
         say(format!("cursor {:05} {:05}\n", state.row, state.column));
-        say(format!("pen {:02X} erasure {}\n", state.pen, flag(state.erasure)));
+        say(format!("pen {:04X} erasure {}\n", state.pen, flag(state.erasure)));
         let (manual, soft) = (flag(state.manual), flag(state.soft));
         say(format!("manual {manual} soft {soft} message {:05} ", state.message));
         say(format!("byte {:02X}\n", state.refused_at));
@@ -210,7 +218,7 @@ impl Dump {
         }
         for row in self.0.marks.chunks(usize::from(state.columns)) {
             out.push(b':');
-            put_line(out, row);
+            put_marks_line(out, row);
         }
     }
 }
@@ -219,7 +227,7 @@ impl Dump {
 pub struct Calls {
     pub state: State,
     pub characters: Vec<u8>,
-    pub marks: Vec<u8>,
+    pub marks: Vec<u16>,
     pub lent: (usize, usize),
     pub room: usize,
     output: Vec<u8>,
@@ -288,7 +296,7 @@ impl Calls {
                 self.room = room;
             }
             (0x26, 3) => *self.characters.get_mut(usize::from(two(rest)))? = rest[2],
-            (0x27, 3) => *self.marks.get_mut(usize::from(two(rest)))? = rest[2],
+            (0x27, 4) => *self.marks.get_mut(usize::from(two(rest)))? = two(&rest[2..]),
             (0x28, 4) => set_field(&mut self.state, two(rest), two(&rest[2..]))?,
             _ => return None,
         }
@@ -319,7 +327,7 @@ impl Calls {
         }
         out.push(b'\n');
         put_line(out, &self.characters[..self.lent.0]);
-        put_line(out, &self.marks[..self.lent.1]);
+        put_marks_line(out, &self.marks[..self.lent.1]);
     }
 }
 
@@ -335,7 +343,7 @@ impl Program for Calls {
 /// All fields of the state, in the order of frame 28.
 pub fn fields(state: &State) -> Vec<u16> {
     let half = &state.half;
-    let mut list = vec![state.rows, state.columns, state.row, state.column, state.pen.into()];
+    let mut list = vec![state.rows, state.columns, state.row, state.column, state.pen];
     list.extend([state.erasure, state.manual, state.soft].map(u16::from));
     list.extend([state.message, half.kind, half.spoilt.into(), half.count].map(u16::from));
     list.extend(half.arguments);
@@ -354,7 +362,7 @@ fn set_field(state: &mut State, field: u16, value: u16) -> Option<()> {
         1 => state.columns = value,
         2 => state.row = value,
         3 => state.column = value,
-        4 => state.pen = byte?,
+        4 => state.pen = value,
         5 => state.erasure = flag,
         6 => state.manual = flag,
         7 => state.soft = flag,

@@ -159,10 +159,16 @@ impl Generator {
             return self.press();
         }
         (self.keys_wait, self.few_at_once) = (false, false);
-        match self.random.below(124) {
+        match self.random.below(144) {
+            130.. => {
+                self.host = self.stream().mixed_field().into();
+                self.keys = self.stream().kind_keys().into();
+                self.keys_wait = true;
+            }
             108.. => {
                 self.host = self.stream().refusals().into();
-                self.keys = self.random.pick(&[&[268][..], &[65, 268], &[]]).to_vec().into();
+                self.keys =
+                    self.random.pick(&[&[268][..], &[65, 268], &[255, 268], &[]]).to_vec().into();
                 self.few_at_once = self.random.chance(50);
             }
             100.. => {

@@ -3,7 +3,7 @@
 use crate::frames::{fields, put_hex, Calls, Program, FIELDS, KEPT, REFUSED_AT, ROOM};
 use crate::random::Random;
 use crate::streams::{any_size, Stream, BEGUN};
-use crate::terminal::{self, COLUMNS, ROWS};
+use crate::terminal::{self, ALPHABETIC, COLUMNS, MODIFIED, NUMERIC, PROTECTED, ROWS};
 use std::collections::VecDeque;
 use std::ops::Range;
 
@@ -44,9 +44,10 @@ pub fn calls(seed: u64, frames: usize) -> Vec<u8> {
 
 /// Damage everywhere, in order: every cell's character and mark, every part of the state, every kind of half-read record,
 /// every byte beside every message; then every byte outside a sequence and after each beginning of one;
-/// on the other sizes the cells and parts that depend on the size.
+/// on two other sizes the cells and parts that depend on the size; last every character at every kind of cell,
+/// and on all sizes every two kinds at once and every bit without a name.
 pub fn sweep() -> Vec<u8> {
-    let mut sweep = Sweep { text: Vec::new() };
+    let mut sweep = Sweep { text: Vec::new(), cells: 0 };
     sweep.cells(24, 80, 1);
     sweep.parts(24, 80, 0..FIELDS);
     sweep.half_read();
@@ -57,11 +58,44 @@ pub fn sweep() -> Vec<u8> {
         sweep.parts(rows, columns, 0..4);
         sweep.parts(rows, columns, 19 + usize::from(columns)..REFUSED_AT);
     }
+    sweep.characters_at_kinds();
+    for rows in ROWS {
+        for columns in COLUMNS {
+            sweep.start(rows, columns);
+            sweep.marks_and_pen(&kinds_and_nameless());
+        }
+    }
+    sweep.start(24, 80);
+    sweep.marks_and_pen(&nameless_pairs());
     sweep.text
+}
+
+const KIND_BITS: [u16; 3] = [PROTECTED, NUMERIC, ALPHABETIC];
+const TWO_KINDS: [u16; 3] = [PROTECTED | NUMERIC, PROTECTED | ALPHABETIC, NUMERIC | ALPHABETIC];
+
+/// Bits 9 to 15.
+const NAMELESS: [u16; 7] = [0x0200, 0x0400, 0x0800, 0x1000, 0x2000, 0x4000, 0x8000];
+
+/// Each kind alone, which is in range; two kinds at once and each bit without a name, which aren't.
+fn kinds_and_nameless() -> Vec<u16> {
+    [&KIND_BITS[..], &TWO_KINDS, &NAMELESS].concat()
+}
+
+/// A bit without a name beside each kind, and beside each other one.
+fn nameless_pairs() -> Vec<u16> {
+    let others = |bit| KIND_BITS.into_iter().chain(NAMELESS).filter(move |&other| other < bit);
+    NAMELESS.into_iter().flat_map(|bit| others(bit).map(move |other| bit | other)).collect()
+}
+
+/// Marks out of range, whatever bits 1 to 6 are beside.
+fn wrong_marks() -> Vec<u16> {
+    [&TWO_KINDS[..], &NAMELESS, &[PROTECTED | NUMERIC | ALPHABETIC, 0xFF80, 0xFE00]].concat()
 }
 
 struct Sweep {
     text: Vec<u8>,
+    /// Of the page now lent.
+    cells: usize,
 }
 
 impl Sweep {
@@ -76,19 +110,65 @@ impl Sweep {
         self.emit(&frame);
     }
 
-    /// Of so many cells, one: its character and then its mark out of range, and put back. The last cell is tried too.
-    fn cells(&mut self, rows: u16, columns: u16, every: usize) {
+    /// A fresh page of that size, lent whole.
+    fn start(&mut self, rows: u16, columns: u16) {
         let (rows, columns) = (usize::from(rows), usize::from(columns));
-        let cells = rows * columns;
-        self.emit(&pair(0x24, cells, cells));
+        self.cells = rows * columns;
+        self.emit(&pair(0x24, self.cells, self.cells));
         self.emit(&pair(0x20, rows, columns));
+    }
+
+    /// Of so many cells, one: its character and then its marks out of range, and put back. The last cell is tried too.
+    fn cells(&mut self, rows: u16, columns: u16, every: usize) {
+        self.start(rows, columns);
+        let cells = self.cells;
         let wrong: Vec<u8> = (0..=255).filter(|&byte| !terminal::good_character(byte)).collect();
+        let wrong_marks = wrong_marks();
         for (count, place) in (0..cells).step_by(every).chain([cells - 1]).enumerate() {
-            let (character, mark) = (wrong[count % wrong.len()], 0x80 + (count % 0x80) as u8);
-            for (frame, value, fresh) in [(0x26, character, 0x20), (0x27, mark, 0)] {
-                self.emit(&cell(frame, place, value));
-                self.probe((place + usize::from(frame)) % 2 == 0);
-                self.emit(&cell(frame, place, fresh));
+            self.emit(&character(place, wrong[count % wrong.len()]));
+            self.probe(place % 2 == 0);
+            self.emit(&character(place, 0x20));
+            self.emit(&marks(place, wrong_marks[count % wrong_marks.len()] | count as u16 % 0x80));
+            self.probe(place % 2 != 0);
+            self.emit(&marks(place, 0));
+        }
+    }
+
+    /// Values for the first cell's marks, the last's, one's between them, and for the pen, each put back after two calls.
+    fn marks_and_pen(&mut self, values: &[u16]) {
+        let cells = self.cells;
+        for &value in values {
+            for place in [0, cells / 2, cells - 1] {
+                self.emit(&marks(place, value));
+                self.probe(false);
+                self.probe(true);
+                self.emit(&marks(place, 0));
+            }
+            self.emit(&field(4, value));
+            self.probe(false);
+            self.probe(true);
+            self.emit(&field(4, 0));
+        }
+    }
+
+    /// Every character typed into a cell of each kind that isn't protected, and moved into one by 264 and by 265.
+    fn characters_at_kinds(&mut self) {
+        self.start(24, 80);
+        self.emit(&marks(2, PROTECTED));
+        for kind in [0, NUMERIC, ALPHABETIC] {
+            self.emit(&marks(0, kind));
+            self.emit(&marks(1, 0));
+            for code in 0x20..=0x7E {
+                self.emit(&long(0x23, usize::from(code)));
+                self.emit(&field(3, 1));
+                self.emit(&character(1, code));
+                self.emit(&long(0x23, 264));
+            }
+            self.emit(&marks(0, 0));
+            self.emit(&marks(1, kind));
+            for code in 0x20..=0x7E {
+                self.emit(&character(0, code));
+                self.emit(&long(0x23, 265));
             }
         }
     }
@@ -99,7 +179,8 @@ impl Sweep {
         for number in numbers {
             let values = match number {
                 0..=3 => vec![0, 1, rows, rows + 1, columns, columns + 1, 48, 160, 65_535],
-                4 | 8 | 9 | 11 => vec![1, 2, 3, 4, 5, 32, 127, 128, 255],
+                4 => vec![1, 2, 3, 4, 32, 124, 127, 128, 130, 252, 255, 256, 380, 511, 65_535],
+                8 | 9 | 11 => vec![1, 2, 3, 4, 5, 32, 127, 128, 255],
                 REFUSED_AT => vec![1, 127, 128, 255, 256],
                 12..=19 => vec![1, 9_999, 10_000, 65_535],
                 _ => vec![1, 65_535],
@@ -174,8 +255,12 @@ fn long(first: u8, number: usize) -> Vec<u8> {
     [&[first][..], &(number as u32).to_be_bytes()].concat()
 }
 
-fn cell(first: u8, place: usize, value: u8) -> Vec<u8> {
-    [&[first][..], &(place as u16).to_be_bytes(), &[value]].concat()
+fn character(place: usize, value: u8) -> Vec<u8> {
+    [&[0x26][..], &(place as u16).to_be_bytes(), &[value]].concat()
+}
+
+fn marks(place: usize, value: u16) -> Vec<u8> {
+    pair(0x27, place, usize::from(value))
 }
 
 fn field(number: usize, value: u16) -> Vec<u8> {
@@ -212,7 +297,11 @@ impl Generator {
         if !self.plan.is_empty() {
             return;
         }
-        match self.random.below(126) {
+        match self.random.below(150) {
+            146.. => self.plan_long(),
+            138.. => self.plan_damage(),
+            131.. => self.plan_mixed_field(),
+            126.. => self.plan_kinds(),
             0..=1 => self.plan_start(),
             2..=3 => self.plan_refused_start(),
             4..=5 => self.plan_lengths(),
@@ -245,7 +334,8 @@ impl Generator {
                 self.push(field(number, limit));
             }
         }
-        self.push_if(state.pen & 0x82 != 0, field(4, u16::from(state.pen & 0x7D)));
+        let sound_pen = state.pen & MODIFIED == 0 && terminal::good_marks(state.pen);
+        self.push_if(!sound_pen, field(4, state.pen & 0x7D));
         self.push_if(state.message > 4, field(8, 4));
         self.push_if(state.message == 0 && state.refused_at != 0, field(REFUSED_AT, 0));
         let mut mended = state.clone();
@@ -261,9 +351,9 @@ impl Generator {
             self.push_if(state.stops[number], field(20 + number, 0));
         }
         for place in 0..cells {
-            let (character, marks) = (self.calls.characters[place], self.calls.marks[place]);
-            self.push_if(!terminal::good_character(character), cell(0x26, place, 0x41));
-            self.push_if(!terminal::good_marks(marks), cell(0x27, place, marks & 0x7F));
+            let (code, value) = (self.calls.characters[place], self.calls.marks[place]);
+            self.push_if(!terminal::good_character(code), character(place, 0x41));
+            self.push_if(!terminal::good_marks(value), marks(place, value & 0x7F));
         }
         if self.plan.len() > 30 {
             self.plan.clear();
@@ -341,19 +431,23 @@ impl Generator {
     fn plan_damage(&mut self) {
         let cells = self.cells();
         for _ in 0..1 + usize::from(self.random.chance(15)) {
-            let frame = match self.random.below(12) {
+            let frame = match self.random.below(18) {
                 0 => {
                     let value = self.random.pick(&[0x00, 0x1F, 0x20, 0x7E, 0x7F, 0x80, 0xA0, 0xFF]);
-                    cell(0x26, self.any_place(), value)
+                    character(self.any_place(), value)
                 }
-                1 => {
-                    let value = self.random.pick(&[0x03, 0x7F, 0x80, 0x81, 0xFF]);
-                    cell(0x27, self.any_place(), value)
+                1 | 12 | 13 => {
+                    let value = self.odd_marks();
+                    marks(self.any_place(), value)
                 }
                 2 => {
                     let past = self.random.between(cells, KEPT - 1);
-                    cell(self.random.pick(&[0x26, 0x27]), past, 0xFF)
+                    match self.random.below(2) {
+                        0 => character(past, 0xFF),
+                        _ => marks(past, 0xFFFF),
+                    }
                 }
+                14..=17 => field(4, self.odd_marks()),
                 3 => {
                     let number = self.random.between(20, REFUSED_AT - 1);
                     field(number, 1)
@@ -384,6 +478,26 @@ impl Generator {
         }
     }
 
+    /// Marks or a pen, most often out of range by two kinds at once or by a bit without a name.
+    fn odd_marks(&mut self) -> u16 {
+        let others = self.random.below(0x80) as u16 & !PROTECTED;
+        match self.random.below(12) {
+            0..=2 => self.random.pick(&TWO_KINDS) | others,
+            3 => self.random.pick(&TWO_KINDS),
+            4..=7 => self.random.pick(&NAMELESS) | others,
+            8 => self.random.pick(&KIND_BITS) | others,
+            9 => self.random.pick(&[0x0003, 0x007F, 0x0082, 0x0102, 0x01FF, 0xFFFF]),
+            10 => self.random.below(0x200) as u16,
+            _ => self.random.below(0x1_0000) as u16,
+        }
+    }
+
+    /// Marks in range, half of them protected.
+    fn good_marks(&mut self) -> u16 {
+        let kind = self.random.pick(&[PROTECTED, PROTECTED, PROTECTED, 0, NUMERIC, ALPHABETIC]);
+        self.random.below(0x80) as u16 & !PROTECTED | kind
+    }
+
     fn odd_value(&mut self, number: usize) -> u16 {
         let (rows, columns) = self.size;
         match number {
@@ -391,7 +505,8 @@ impl Generator {
             1 => self.random.pick(&[0, 80, 132, 160, 81, 65_535]),
             2 => self.random.pick(&[0, 1, rows, rows + 1, 65_535]),
             3 => self.random.pick(&[0, 1, columns, columns + 1, 65_535]),
-            4 | REFUSED_AT => self.random.below(256) as u16,
+            4 => self.odd_marks(),
+            REFUSED_AT => self.random.below(256) as u16,
             8 => self.random.pick(&[0, 1, 2, 3, 4, 5, 6, 128, 255]),
             _ => self.random.pick(&[0, 1, 2, 256, 65_535]),
         }
@@ -482,7 +597,7 @@ impl Generator {
                     self.push(field(3, column));
                 }
                 2 => {
-                    let pen = self.random.below(128) as u16 & 0x7D;
+                    let pen = self.good_marks() & !MODIFIED;
                     self.push(field(4, pen));
                 }
                 3 => {
@@ -491,13 +606,13 @@ impl Generator {
                 }
                 4 => {
                     let place = self.any_place();
-                    let value = self.random.below(128) as u8;
-                    self.push(cell(0x27, place, value));
+                    let value = self.good_marks();
+                    self.push(marks(place, value));
                 }
                 5 => {
                     let place = self.any_place();
                     let value = self.random.between(0x20, 0x7E) as u8;
-                    self.push(cell(0x26, place, value));
+                    self.push(character(place, value));
                 }
                 6 => {
                     let number = self.random.between(20, 19 + usize::from(self.size.1));
@@ -598,6 +713,39 @@ impl Generator {
         }
     }
 
+    fn plan_mixed_field(&mut self) {
+        for part in self.stream().mixed_field().chunks(255) {
+            self.push([&[0x21][..], part].concat());
+        }
+        for key in self.stream().kind_keys() {
+            self.push(long(0x23, key as usize));
+        }
+    }
+
+    /// Kinds and characters put by hand into a few cells, a bad one among them now and then; the
+    /// cursor goes to one of them, and keys follow.
+    fn plan_kinds(&mut self) {
+        let length = self.random.between(2, 6);
+        let start = self.random.between(0, self.cells() - length);
+        for place in start..start + length {
+            let others = self.random.pick(&[0, 0, MODIFIED, 0x7E]);
+            let kind = self.random.pick(&[NUMERIC, ALPHABETIC, NUMERIC, ALPHABETIC, 0, PROTECTED]);
+            let value = if self.random.chance(3) { self.odd_marks() } else { kind | others };
+            let code = self.random.pick(b"   -.-.0909OlAz,+/:");
+            self.push(marks(place, value));
+            self.push(character(place, code));
+        }
+        let place = start + self.random.below(length);
+        let width = usize::from(self.size.1);
+        self.push(field(2, (place / width) as u16 + 1));
+        self.push(field(3, (place % width) as u16 + 1));
+        let locked = self.random.chance(10);
+        self.push(field(7, u16::from(locked)));
+        for key in self.stream().kind_keys() {
+            self.push(long(0x23, key as usize));
+        }
+    }
+
     fn plan_keys(&mut self) {
         let state = &self.calls.state;
         let locked = state.manual || state.soft;
@@ -635,7 +783,8 @@ impl Generator {
     }
 
     fn plan_bad_line(&mut self) {
-        let line: Vec<u8> = match self.random.below(17) {
+        let line: Vec<u8> = match self.random.below(18) {
+            17 => self.random.pick(&["27000041", "2700004100FF", "270000", "28000401"]).into(),
             16 => self.random.pick(&["2800B40100", "2800B4FFFF", "2800B400"]).into(),
             0 => b"".to_vec(),
             1 => b"2141\r".to_vec(),
@@ -647,11 +796,11 @@ impl Generator {
             7 => self.random.pick(&["20", "2018", "20001800", "200018005000", "2200000001"]).into(),
             8 => self.random.pick(&["23", "230041", "2300000000041", "24", "2400000000FF"]).into(),
             9 => self.random.pick(&["2420010000", "2400002001", "2500010001", "25FFFFFFFF"]).into(),
-            10 => self.random.pick(&["26200041", "27200041", "26FFFF20", "27FFFF00"]).into(),
+            10 => self.random.pick(&["26200041", "2720000041", "26FFFF20", "27FFFF0000"]).into(),
             11 => {
                 self.random.pick(&["2800B50001", "28FFFF0001", "2801000000", "28000B0100"]).into()
             }
-            12 => self.random.pick(&["2800040100", "2800080101", "280009FFFF", "28000B01"]).into(),
+            12 => self.random.pick(&["2800080100", "2800080101", "280009FFFF", "28000B01"]).into(),
             13 => self.random.pick(&["220001000241", "22FFFFFFFF41", "2200"]).into(),
             14 => b"21".iter().chain(b"41".repeat(256).iter()).copied().collect(),
             _ => b"2200000003".iter().chain(b"41".repeat(251).iter()).copied().collect(),

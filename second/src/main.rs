@@ -1,4 +1,4 @@
-//! A second terminal after document 01, M-101 and M-102, to be compared byte for byte with another.
+//! A second terminal after document 01, M-101, M-102 and M-103, to be compared byte for byte with another.
 
 mod compare;
 mod feed;

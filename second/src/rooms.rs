@@ -173,7 +173,7 @@ const ENOUGH: usize = 65_536;
 fn back(before: &Told, after: &Told) -> Vec<String> {
     let parts = [
         ("26", &before.characters, &after.characters, 2),
-        ("27", &before.marks, &after.marks, 2),
+        ("27", &before.marks, &after.marks, 4),
         ("28", &before.state, &after.state, 4),
     ];
     let mut frames = Vec::new();

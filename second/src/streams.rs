@@ -1,17 +1,35 @@
 //! Plausible and implausible host streams and key bursts, aimed at the page they will meet.
 
 use crate::random::Random;
-use crate::terminal::{State, COLUMNS, PROTECTED, ROWS};
+use crate::terminal::{State, COLUMNS, KINDS, PROTECTED, ROWS};
 
-const FINALS: &[u8] = b"ABCDEFGdHfIZWJKmhlnHfmJKG";
+const FINALS: &[u8] = b"ABCDEFGdHfIZWJKmhlnoHfmJKGo";
 /// Final bytes after ESC [, and second bytes after ESC, that no command has.
-const UNLISTED: &[u8] = b"@LMNOPQRSTUVXY[\\]^_`abcegijkopqrstuvwxyz{|}~";
+const UNLISTED: &[u8] = b"@LMNOPQRSTUVXY[\\]^_`abcegijkpqrstuvwxyz{|}~";
 const UNLISTED_AFTER_ESCAPE: &[u8] =
     b"0123456789:;<=>?@ABCFGIJKLNOPQRTUXYZ\\]^_adefghijklmnopqrstuvwxyz{|}~";
 const UNKNOWN_KEYS: &[u32] = &[0, 1, 13, 27, 31, 127, 128, 200, 255, 269, 270, 288, 512, 65_535];
 const NOISE: &[u8] = &[
     0x00, 0x07, 0x08, 0x09, 0x0A, 0x0B, 0x0D, 0x0E, 0x17, 0x18, 0x19, 0x1A, 0x1B, 0x1C, 0x1F, 0x7F,
     0x80, 0x84, 0x85, 0x8D, 0x9A, 0x9B, 0xA0, 0xFF,
+];
+
+/// What a cell of every kind takes, with 20 the likeliest.
+const TAKEN_EVERYWHERE: &[u8] = b"    -.";
+const DIGITS: &[u8] = b"0123456789";
+const LETTERS: &[u8] = b"AZazMmOolISBQDef";
+/// What looks like a digit or a letter, and what stands beside them or their marks in the code table.
+const NEARLY_TAKEN: &[u8] = b",,+'/:;@[`{Ol0A9z-. _*";
+/// The pen for each kind of unprotected cell, with characters that such a cell takes.
+const UNPROTECTED_KINDS: &[(&str, &[u8])] = &[
+    ("\x1BW", NEARLY_TAKEN),
+    ("\x1B[0o", NEARLY_TAKEN),
+    ("\x1B[o", LETTERS),
+    ("\x1B[3o", DIGITS),
+    ("\x1B[3o", DIGITS),
+    ("\x1B[03o", DIGITS),
+    ("\x1B[4o", LETTERS),
+    ("\x1B[4o", LETTERS),
 ];
 
 /// Beginnings of a sequence of each kind, spoilt or not, with enough arguments and with too many.
@@ -29,6 +47,18 @@ pub const BEGUN: &[&str] = &[
     "\x1B[;;;;;;;;1",
 ];
 
+/// A key to type: any, or one that some kind of cell takes or nearly does.
+fn typed(random: &mut Random) -> u32 {
+    let character = match random.below(10) {
+        0..=2 => random.between(0x20, 0x7E) as u8,
+        3..=5 => random.pick(NEARLY_TAKEN),
+        6 => random.pick(TAKEN_EVERYWHERE),
+        7 => random.pick(DIGITS),
+        _ => random.pick(LETTERS),
+    };
+    character.into()
+}
+
 pub fn any_size(random: &mut Random) -> (u16, u16) {
     (random.pick(&ROWS), random.pick(&COLUMNS))
 }
@@ -38,13 +68,13 @@ pub struct Stream<'a> {
     pub random: &'a mut Random,
     rows: u16,
     columns: u16,
-    marks: &'a [u8],
+    marks: &'a [u16],
     bytes: Vec<u8>,
 }
 
 impl<'a> Stream<'a> {
     /// A state or page that isn't usable is taken for a plain one of 24 by 80.
-    pub fn new(random: &'a mut Random, state: &State, marks: &'a [u8]) -> Stream<'a> {
+    pub fn new(random: &'a mut Random, state: &State, marks: &'a [u16]) -> Stream<'a> {
         let cells = usize::from(state.rows) * usize::from(state.columns);
         let usable = cells == marks.len() && cells > 0;
         let (rows, columns) = if usable { (state.rows, state.columns) } else { (24, 80) };
@@ -62,6 +92,12 @@ impl<'a> Stream<'a> {
 
     fn protected(&self, place: usize) -> bool {
         self.marks.get(place).map_or(false, |marks| marks & PROTECTED != 0)
+    }
+
+    /// Both protected, or both numeric, and so on.
+    fn same_kind(&self, one: usize, other: usize) -> bool {
+        let kind = |place: usize| self.marks.get(place).map_or(0, |marks| marks & KINDS);
+        kind(one) == kind(other)
     }
 
     fn cell(&self, place: usize) -> (u16, u16) {
@@ -84,7 +120,7 @@ impl<'a> Stream<'a> {
         }
     }
 
-    /// A cell worth visiting: most often at a border of protection, else a corner or an edge.
+    /// A cell worth visiting: most often at a border of protection or kind, else a corner or an edge.
     pub fn target(&mut self) -> (u16, u16) {
         let row = self.random.between(1, self.rows.into()) as u16;
         let column = self.random.between(1, self.columns.into()) as u16;
@@ -100,8 +136,8 @@ impl<'a> Stream<'a> {
             _ => {
                 let width = usize::from(self.columns);
                 let from = usize::from(row - 1) * width + usize::from(column - 1);
-                let border = (from..self.marks.len().saturating_sub(1))
-                    .find(|&p| self.protected(p) != self.protected(p + 1));
+                let border =
+                    (from..self.marks.len().saturating_sub(1)).find(|&p| !self.same_kind(p, p + 1));
                 let place = border.map_or(from, |p| p + self.random.below(2));
                 self.cell(place)
             }
@@ -146,6 +182,19 @@ impl<'a> Stream<'a> {
         self.put(format!("\x1B[{list}m").as_bytes());
     }
 
+    /// The pen protected, by either command.
+    fn protect(&mut self) {
+        let command = self.random.pick(&["\x1BV", "\x1BV", "\x1BV", "\x1BV", "\x1B[1o"]);
+        self.put(command.as_bytes());
+    }
+
+    /// The pen unprotected: plain in most cases, else of any kind that is.
+    fn unprotect(&mut self) {
+        let (command, _) = self.random.pick(UNPROTECTED_KINDS);
+        let plain = self.random.chance(60);
+        self.put(if plain { b"\x1BW" } else { command.as_bytes() });
+    }
+
     /// Labels in protected cells with fields between and behind them.
     fn form(&mut self) {
         if self.random.chance(20) {
@@ -156,12 +205,12 @@ impl<'a> Stream<'a> {
             if self.random.chance(25) {
                 self.pen();
             }
-            self.escape(b'V');
+            self.protect();
             if self.random.chance(8) {
                 self.pen();
             }
             self.text(10);
-            self.escape(b'W');
+            self.unprotect();
             match self.random.below(3) {
                 0 => self.text(12),
                 1 => {
@@ -186,7 +235,8 @@ impl<'a> Stream<'a> {
         let rows_more = self.random.pick(&[0, 0, 0, 0, 1, 2]);
         let after = self.random.between(1, 6) + rows_more * width;
         self.goto(self.cell(end - before - 1));
-        self.put(b"\x1BV|\x1BW");
+        self.put(b"\x1BV|");
+        self.unprotect();
         self.letters(before + after);
         self.put(b"\x1BV|\x1BW");
         let place = match self.random.below(2) {
@@ -194,6 +244,64 @@ impl<'a> Stream<'a> {
             _ => end + self.random.below(after.min(3)),
         };
         self.goto(self.cell(place % cells));
+    }
+
+    /// Host text for cells of one kind: most is taken there, some anywhere, some not by key.
+    fn letters_for(&mut self, taken: &[u8], count: usize) {
+        for _ in 0..count {
+            let letter = match self.random.below(20) {
+                0..=7 => self.random.pick(TAKEN_EVERYWHERE),
+                8..=15 => self.random.pick(taken),
+                16..=18 => self.random.pick(NEARLY_TAKEN),
+                _ => self.random.between(0x20, 0x7E) as u8,
+            };
+            self.bytes.push(letter);
+        }
+    }
+
+    /// Where a field of this length begins: often so that it runs over a row's end, or the page's.
+    fn start_of_field(&mut self, length: usize) -> usize {
+        let width = usize::from(self.columns);
+        let rows = usize::from(self.rows);
+        let before = self.random.between(1, length - 1);
+        match self.random.below(10) {
+            0..=4 => self.random.between(1, rows - 1) * width - before,
+            5 => rows * width - before,
+            _ => self.random.between(1, rows * width - length - 1),
+        }
+    }
+
+    /// One field with cells of several kinds, between protected ones. The cursor ends in it, most
+    /// often near its end, or on the protected cell before it. Locks are lifted for the keys.
+    pub fn mixed_field(mut self) -> Vec<u8> {
+        self.escape(b'b');
+        let cells = usize::from(self.rows) * usize::from(self.columns);
+        let length = self.random.between(2, 12);
+        let start = self.start_of_field(length);
+        self.goto(self.cell(start - 1));
+        self.protect();
+        self.put(b"|");
+        let mut left = length;
+        while left > 0 {
+            let count = self.random.between(1, left.min(5));
+            let (command, taken) = self.random.pick(UNPROTECTED_KINDS);
+            self.put(command.as_bytes());
+            if self.random.chance(20) {
+                self.pen();
+            }
+            self.letters_for(taken, count);
+            left -= count;
+        }
+        self.protect();
+        self.put(b"|");
+        self.unprotect();
+        let place = match self.random.below(20) {
+            0..=2 => start - 1,
+            3..=9 => start + length - self.random.between(1, length.min(3)),
+            _ => start + self.random.below(length),
+        };
+        self.goto(self.cell(place % cells));
+        self.bytes
     }
 
     /// A page with no protected cell or just one; the cursor ends at a row's end.
@@ -289,17 +397,18 @@ impl<'a> Stream<'a> {
 
     /// A page in a few bytes that repeat: the period need not divide a row.
     pub fn pattern(mut self) -> Vec<u8> {
-        match self.random.below(10) {
+        match self.random.below(12) {
             0..=2 => return b"\x1BV#\x1BW.".to_vec(),
             3 => return b"\x1BV###########".to_vec(),
+            4 => return b"\x1B[3o1\x1B[4oA\x1B[0o+\x1B[3o .-".to_vec(),
             _ => {}
         }
-        self.escape(b'V');
+        self.protect();
         self.text(5);
         if self.random.chance(20) {
             self.pen();
         }
-        self.escape(b'W');
+        self.unprotect();
         self.text(9);
         self.bytes
     }
@@ -359,6 +468,7 @@ impl<'a> Stream<'a> {
             b'm' => &[0, 1, 4, 5, 7, 8],
             b'h' | b'l' => &[6],
             b'n' => &[5, 6],
+            b'o' => &[0, 1, 3, 4, 0, 1, 3, 4, 3, 4, 2, 5, 20],
             _ => &[0, 1, 2, 5, 6],
         };
         let number = match last {
@@ -469,7 +579,12 @@ impl<'a> Stream<'a> {
     pub fn probe(mut self) -> Vec<u8> {
         self.escape(b'b');
         self.aim();
-        self.sequence(45);
+        match self.random.below(20) {
+            // Without a row the column isn't kept.
+            0 => self.put(b"\x1B[f"),
+            1 => self.put(b"\x1B[;f"),
+            _ => self.sequence(45),
+        }
         self.bytes
     }
 
@@ -520,7 +635,7 @@ impl<'a> Stream<'a> {
 
     /// Up to eight arguments, which is too many for most commands and spoils none.
     fn too_many(&mut self) {
-        let last = self.random.pick(b"ABCDEFGdHfIZWJKn");
+        let last = self.random.pick(b"ABCDEFGdHfIZWJKno");
         let listed = if matches!(last, b'H' | b'f') { 2 } else { 1 };
         let most = self.random.pick(&[3, 3, 8]);
         let count = self.random.between(listed + 1, most);
@@ -529,7 +644,7 @@ impl<'a> Stream<'a> {
 
     /// A listed command with one value that it doesn't take.
     fn value_not_allowed(&mut self) {
-        let last = self.random.pick(b"dHfWJKmhln");
+        let last = self.random.pick(b"dHfWJKmhlno");
         let beyond = self.random.pick(&[1, 2, 100, 9_000]);
         let (row, column) = (self.rows + beyond, self.columns + beyond);
         let list = match last {
@@ -544,6 +659,7 @@ impl<'a> Stream<'a> {
             b'h' | b'l' => self.list_with_one(&["6"], &["0", "", "5", "7", "66", "9999"]),
             b'n' => self.random.pick(&["", "0", "1", "4", "7", "56", "9999"]).into(),
             b'W' => self.random.pick(&["1", "3", "4", "6", "25", "9999"]).into(),
+            b'o' => self.random.pick(&["2", "5", "6", "20", "02", "34", "259", "9999"]).into(),
             _ => self.random.pick(&["3", "4", "12", "9999"]).into(),
         };
         self.put(format!("\x1B[{list}").as_bytes());
@@ -577,12 +693,14 @@ impl<'a> Stream<'a> {
         self.put(begun.as_bytes());
     }
 
-    /// Any control byte, NUL and 7F above all; 18, 1A and 1B give no message here.
+    /// Any control byte, above all NUL, 7F and those that act outside a sequence; 18, 1A and 1B give
+    /// no message here.
     fn broken_off(&mut self) {
         self.begun();
-        let byte = match self.random.below(4) {
+        let byte = match self.random.below(6) {
             0 => 0x00,
             1 => 0x7F,
+            2 => self.random.pick(&[0x08, 0x09, 0x0A, 0x0D]),
             _ => self.random.between(0x01, 0x1F) as u8,
         };
         self.put(&[byte]);
@@ -775,7 +893,7 @@ impl<'a> Stream<'a> {
         let mut keys = Vec::new();
         for _ in 0..random.between(1, 3) {
             if random.chance(30) {
-                keys.push(random.between(32, 126) as u32);
+                keys.push(typed(random));
             }
             if random.chance(20) {
                 keys.push(random.pick(&[258, 259]));
@@ -783,6 +901,27 @@ impl<'a> Stream<'a> {
             keys.push(random.between(260, 265) as u32);
         }
         keys.push(random.pick(&[266, 266, 267]));
+        keys
+    }
+
+    /// Keys that cells of several kinds take or refuse, typed or moving what stands in the field.
+    pub fn kind_keys(self) -> Vec<u32> {
+        let random = self.random;
+        let mut keys = Vec::new();
+        for _ in 0..random.between(2, 6) {
+            match random.below(20) {
+                0..=6 => keys.push(typed(random)),
+                7..=13 => keys.push(random.pick(&[264, 265])),
+                14..=16 => keys.extend([typed(random), 258, random.pick(&[264, 265])]),
+                _ => keys.push(random.pick(&[258, 259, 258, 259, 260, 261])),
+            }
+        }
+        if random.chance(15) {
+            keys.extend([263, typed(random)]);
+        }
+        if random.chance(40) {
+            keys.push(random.pick(&[266, 266, 267]));
+        }
         keys
     }
 
@@ -794,7 +933,6 @@ impl<'a> Stream<'a> {
             keys.push(u32::from(under));
             keys.push(266);
         }
-        let typed = |random: &mut Random| random.between(32, 126) as u32;
         for _ in 0..random.between(1, 3) {
             match random.below(20) {
                 0..=4 => (0..random.between(1, 6)).for_each(|_| keys.push(typed(random))),

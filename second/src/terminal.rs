@@ -1,11 +1,15 @@
-//! The terminal of document 01 with request M-101's fields and M-102's messages: page, state, host
-//! bytes, commands, keys, blocks and numbers.
+//! The terminal of document 01 with request M-101's fields, M-102's messages and M-103's numeric
+//! and alphabetic cells: page, state, host bytes, commands, keys, blocks and numbers.
 
 use crate::wrong;
 
-pub const PROTECTED: u8 = 0x01;
-pub const MODIFIED: u8 = 0x02;
-pub const VISUAL: u8 = 0x7C;
+pub const PROTECTED: u16 = 0x0001;
+pub const MODIFIED: u16 = 0x0002;
+pub const VISUAL: u16 = 0x007C;
+pub const NUMERIC: u16 = 0x0080;
+pub const ALPHABETIC: u16 = 0x0100;
+/// What DAQ sets: a cell or pen has one of these at most, and is plain and unprotected without.
+pub const KINDS: u16 = PROTECTED | NUMERIC | ALPHABETIC;
 
 pub const ROWS: [u16; 3] = [24, 27, 48];
 pub const COLUMNS: [u16; 3] = [80, 132, 160];
@@ -40,7 +44,7 @@ pub struct State {
     pub columns: u16,
     pub row: u16,
     pub column: u16,
-    pub pen: u8,
+    pub pen: u16,
     pub erasure: bool,
     pub manual: bool,
     pub soft: bool,
@@ -155,7 +159,8 @@ impl State {
     pub fn sound(&self) -> bool {
         (1..=self.rows).contains(&self.row)
             && (1..=self.columns).contains(&self.column)
-            && self.pen & !(PROTECTED | VISUAL) == 0
+            && self.pen & MODIFIED == 0
+            && good_marks(self.pen)
             && self.message <= HIGH
             && (self.message != NO_MESSAGE || self.refused_at == 0)
             && self.half.sound()
@@ -194,7 +199,7 @@ impl State {
 }
 
 /// Number 1: the size is listed and both lent parts have its length.
-pub fn fits(rows: u16, columns: u16, characters: &[u8], marks: &[u8]) -> bool {
+pub fn fits(rows: u16, columns: u16, characters: &[u8], marks: &[u16]) -> bool {
     let cells = usize::from(rows) * usize::from(columns);
     ROWS.contains(&rows)
         && COLUMNS.contains(&columns)
@@ -206,17 +211,32 @@ pub fn good_character(byte: u8) -> bool {
     (0x20..=0x7E).contains(&byte)
 }
 
-pub fn good_marks(byte: u8) -> bool {
-    byte < 0x80
+/// No bit but those named, and not two kinds at once.
+pub fn good_marks(marks: u16) -> bool {
+    marks & !(KINDS | MODIFIED | VISUAL) == 0 && (marks & KINDS).count_ones() <= 1
+}
+
+/// Whether a key may put a character into a cell with these marks: where it is numeric or
+/// alphabetic, what document 003 lists for such fields, and 20 everywhere.
+fn takes(marks: u16, character: u8) -> bool {
+    let (numeric, alphabetic) = (marks & NUMERIC != 0, marks & ALPHABETIC != 0);
+    match character {
+        b' ' => !(numeric && wrong::is(50)),
+        b'-' | b'.' => true,
+        b'0'..=b'9' => !alphabetic || wrong::is(49),
+        b'A'..=b'Z' | b'a'..=b'z' => !numeric,
+        b',' if wrong::is(48) => !alphabetic,
+        _ => !numeric && !alphabetic,
+    }
 }
 
 /// Numbers 1 and 2, which every host and key call begins with.
-fn check(state: &State, characters: &[u8], marks: &[u8]) -> u8 {
+fn check(state: &State, characters: &[u8], marks: &[u16]) -> u8 {
     if !fits(state.rows, state.columns, characters, marks) {
         return 1;
     }
     let page = characters.iter().all(|&byte| good_character(byte))
-        && marks.iter().all(|&byte| good_marks(byte));
+        && marks.iter().all(|&marks| good_marks(marks));
     if state.sound() && page {
         0
     } else {
@@ -225,7 +245,7 @@ fn check(state: &State, characters: &[u8], marks: &[u8]) -> u8 {
 }
 
 /// A fresh page; a refused start hands back a state of zeros and leaves the lent parts.
-pub fn start(rows: u16, columns: u16, characters: &mut [u8], marks: &mut [u8]) -> (State, Answer) {
+pub fn start(rows: u16, columns: u16, characters: &mut [u8], marks: &mut [u16]) -> (State, Answer) {
     if !fits(rows, columns, characters, marks) {
         return (State::ZERO, Answer::nothing(1));
     }
@@ -239,7 +259,7 @@ pub fn start(rows: u16, columns: u16, characters: &mut [u8], marks: &mut [u8]) -
 pub fn host(
     state: &mut State,
     characters: &mut [u8],
-    marks: &mut [u8],
+    marks: &mut [u16],
     bytes: &[u8],
     output: &mut [u8],
 ) -> Answer {
@@ -268,7 +288,7 @@ pub fn host(
 pub fn key(
     state: &mut State,
     characters: &mut [u8],
-    marks: &mut [u8],
+    marks: &mut [u16],
     key: u32,
     output: &mut [u8],
 ) -> Answer {
@@ -285,7 +305,9 @@ pub fn key(
         (true, _, _) => 4,
         (_, true, true) if wrong::is(18) => 7,
         (_, true, _) => 5,
+        (_, _, true) if wrong::is(54) && screen.key_meets_untaking_cell(key) => 8,
         (_, _, true) => 7,
+        _ if screen.key_meets_untaking_cell(key) => 8,
         _ => 0,
     };
     if number != 0 {
@@ -301,7 +323,7 @@ pub fn key(
 struct Screen<'a> {
     state: &'a mut State,
     characters: &'a mut [u8],
-    marks: &'a mut [u8],
+    marks: &'a mut [u16],
     output: &'a mut [u8],
     sent: usize,
     stored: u32,
@@ -566,8 +588,9 @@ impl Screen<'_> {
             }
             b'M' => self.line_up(),
             b'H' => self.state.set_stop(true),
-            b'V' => self.state.pen |= PROTECTED,
-            b'W' => self.state.pen &= !PROTECTED,
+            b'V' => self.set_pen_kind(PROTECTED),
+            b'W' if wrong::is(53) => self.set_pen_kind(self.state.pen & NUMERIC),
+            b'W' => self.set_pen_kind(0),
             b'S' => self.send_block(false)?,
             b'c' => self.as_fresh(),
             b'`' => self.state.manual = true,
@@ -643,7 +666,7 @@ impl Screen<'_> {
     /// How many arguments a final byte allows; unlisted ones allow none.
     fn allowed(last: u8) -> u8 {
         match last {
-            b'A'..=b'G' | b'I' | b'J' | b'K' | b'W' | b'Z' | b'd' | b'n' => 1,
+            b'A'..=b'G' | b'I' | b'J' | b'K' | b'W' | b'Z' | b'd' | b'n' | b'o' => 1,
             b'H' | b'f' => 2,
             b'h' | b'l' | b'm' => 8,
             _ => 0,
@@ -711,9 +734,21 @@ impl Screen<'_> {
                 }
                 _ => return Ok(false),
             },
+            b'o' => match number {
+                0 => self.set_pen_kind(0),
+                1 => self.set_pen_kind(PROTECTED),
+                3 => self.set_pen_kind(NUMERIC),
+                4 => self.set_pen_kind(ALPHABETIC),
+                _ => return Ok(false),
+            },
             _ => return Ok(false),
         }
         Ok(true)
+    }
+
+    /// One kind takes the place of another, 0 being plain and unprotected; visual marks stay.
+    fn set_pen_kind(&mut self, kind: u16) {
+        self.state.pen = self.state.pen & !KINDS | kind;
     }
 
     /// Row and column, each within the page or refused.
@@ -745,12 +780,13 @@ impl Screen<'_> {
         true
     }
 
-    /// The whole list is looked at before the pen changes; protection stays.
+    /// The whole list is looked at before the pen changes; its kind stays.
     fn visual_marks(&mut self, arguments: &[u16]) -> bool {
         let mut pen = self.state.pen;
         for argument in arguments {
             match argument {
-                0 if wrong::is(26) => pen = 0,
+                0 if wrong::is(26) => pen &= !(VISUAL | PROTECTED),
+                0 if wrong::is(55) => pen &= !(VISUAL | NUMERIC | ALPHABETIC),
                 0 => pen &= !VISUAL,
                 1 => pen |= 0x04,
                 4 => pen |= 0x08,
@@ -775,6 +811,25 @@ impl Screen<'_> {
         match key {
             32..=126 | 263..=265 => self.protected(self.here()),
             260 | 261 => (0..self.cells()).all(|place| self.protected(place)),
+            _ => false,
+        }
+    }
+
+    /// Number 8: the character typed, or one that a field key moves, isn't taken by its new cell.
+    fn key_meets_untaking_cell(&self, key: u32) -> bool {
+        let here = self.here();
+        let lands_badly = |from: usize, to: usize| !takes(self.marks[to], self.characters[from]);
+        match key {
+            32..=126 => !takes(self.marks[here], key as u8),
+            264 if wrong::is(51) => {
+                (here + 1..self.field_end(here)).any(|place| lands_badly(place, place))
+            }
+            264 => (here + 1..self.field_end(here)).any(|place| lands_badly(place, place - 1)),
+            265 => {
+                let last = self.field_end(here) - 1;
+                (here..last).any(|place| lands_badly(place, place + 1))
+                    || wrong::is(52) && lands_badly(last, last)
+            }
             _ => false,
         }
     }
@@ -842,7 +897,8 @@ impl Screen<'_> {
         Ok(())
     }
 
-    /// Keeps visual marks, sets modified, and goes on to the next unprotected cell, round the page.
+    /// Keeps visual marks and kind, sets modified, and goes on to the next unprotected cell, round
+    /// the page.
     fn typed(&mut self, character: u8) {
         let (here, cells) = (self.here(), self.cells());
         let same = self.characters[here] == character;
@@ -851,7 +907,7 @@ impl Screen<'_> {
             self.marks[here] |= MODIFIED;
         }
         if wrong::is(28) {
-            self.marks[here] = MODIFIED | self.state.pen & VISUAL;
+            self.marks[here] = self.marks[here] & !VISUAL | MODIFIED | self.state.pen & VISUAL;
         }
         self.stored += 1;
         let mut onward = (here + 1..cells).chain(0..here);

@@ -1,16 +1,18 @@
-//! Document 01's examples, request M-101's fields and M-102's messages.
+//! Document 01's examples, request M-101's fields, M-102's messages and M-103's kinds of cell.
 
-use crate::frames::{lines, Mode};
+use crate::feed::record;
+use crate::frames::{lines, Mode, Program, Session};
 use crate::generate::transcript;
-use crate::generate_calls::sweep;
-use crate::terminal::{host, key, start, Answer, State, COLUMNS, MODIFIED, PROTECTED, ROWS};
+use crate::generate_calls::{calls, sweep};
+use crate::terminal::{good_marks, host, key, start, Answer, State};
+use crate::terminal::{ALPHABETIC, COLUMNS, MODIFIED, NUMERIC, PROTECTED, ROWS, VISUAL};
 use std::collections::BTreeSet;
 
 /// A page of the size asked for, fresh, with its output.
 struct Page {
     state: State,
     characters: Vec<u8>,
-    marks: Vec<u8>,
+    marks: Vec<u16>,
     output: Vec<u8>,
 }
 
@@ -50,6 +52,12 @@ impl Page {
 
     fn refused(&self) -> bool {
         self.state.soft && self.state.message != 0
+    }
+
+    /// All that a call given 8 leaves as it was.
+    fn all(&self) -> (State, Vec<u8>, Vec<u16>, Vec<u8>) {
+        let Page { state, characters, marks, output } = self;
+        (state.clone(), characters.clone(), marks.clone(), output.clone())
     }
 
     /// The message and the byte beside it.
@@ -238,7 +246,7 @@ fn fresh_page_is_one_field() {
 fn over_a_row_end() -> Page {
     let mut page = Page::fresh();
     page.host(b"\x1B[3;78H\x1BV|\x1BW\x1B[4mabcd\x1BV|\x1BW");
-    assert_eq!((page.marks[237], page.marks[242]), (0x01, 0x09));
+    assert_eq!((page.marks[237], page.marks[242]), (0x0001, 0x0009));
     page
 }
 
@@ -249,7 +257,7 @@ fn delete_and_insert_over_a_row_end() {
     page.host(b"\x1B[3;80H");
     assert_eq!(page.key(264), stored(3));
     assert_eq!((&page.characters[237..243], page.cursor()), (&b"|acd |"[..], (3, 80)));
-    assert_eq!(page.marks[237..243], [0x01, 0x08, 0x0A, 0x0A, 0x0A, 0x09]);
+    assert_eq!(page.marks[237..243], [0x0001, 0x0008, 0x000A, 0x000A, 0x000A, 0x0009]);
     assert_eq!(page.key(265), stored(3));
     assert_eq!((&page.characters[237..243], page.cursor()), (&b"|a cd|"[..], (3, 80)));
     page.host(b"\x1B[4;2H");
@@ -349,29 +357,84 @@ fn longest_blocks() {
 fn calls_frames() {
     let output = Mode::Calls.run(b"2400030002\n2100\n21");
     let zeros = "0".repeat(724);
-    let call = format!("01{}\n00000 {zeros}\n000000\n0000\n", "0".repeat(24));
+    let call = format!("01{}\n00000 {zeros}\n000000\n00000000\n", "0".repeat(24));
     assert_eq!(String::from_utf8_lossy(&output), format!("00\n{call}{call}"));
 }
 
-/// 1,920 cells in turn, then 62 past them: each one's character and mark.
-#[test]
-fn sweep_refuses_damaged_cells() {
-    let input = sweep();
-    let output = Mode::Calls.run(&input);
+/// A frame that sets a character or marks, and the number of the call right behind it.
+type SetAndTold = (String, u8);
+
+/// Each such pair in an input for `calls`, in order.
+fn set_and_told(input: &[u8]) -> Vec<SetAndTold> {
+    let output = Mode::Calls.run(input);
     let mut told = lines(&output);
-    let (mut before, mut cells) = (&b""[..], BTreeSet::new());
-    for frame in lines(&input) {
-        let number = told.next().map(|line| &line[..2]);
-        if matches!(&frame[..2], b"20" | b"21" | b"23") {
+    let (mut before, mut all) = (String::new(), Vec::new());
+    for line in lines(input) {
+        let frame = String::from_utf8_lossy(line).into_owned();
+        let first = String::from_utf8_lossy(told.next().expect("a line a frame")).into_owned();
+        let call =
+            ["20", "21", "22", "23"].contains(&frame.get(..2).unwrap_or("")) && first != "FF";
+        if call {
             assert!(told.nth(2).is_some());
-            if matches!(&before[..2], b"26" | b"27") {
-                assert_eq!(number, Some(&b"02"[..]));
-                cells.insert(&before[..6]);
+            if matches!(before.get(..2), Some("26" | "27")) || before.starts_with("280004") {
+                all.push((before, u8::from_str_radix(&first[..2], 16).expect("a number")));
             }
         }
         before = frame;
     }
-    assert_eq!((cells.len(), told.next()), (2 * 1_982, None));
+    assert_eq!(told.next(), None);
+    all
+}
+
+/// The value that a frame sets, of so many digits.
+fn value(frame: &str, digits: usize) -> u16 {
+    u16::from_str_radix(&frame[frame.len() - digits..], 16).expect("digits")
+}
+
+/// 1,920 cells in turn, then 62 past them: each one's character and marks; and the marks of nine more
+/// cells, which are last or between first and last on other sizes.
+#[test]
+fn sweep_refuses_damaged_cells() {
+    let mut cells = BTreeSet::new();
+    for (frame, number) in set_and_told(&sweep()) {
+        let damaged = match &frame[..2] {
+            "26" => !(0x20..=0x7E).contains(&value(&frame, 2)),
+            _ => !marks_in_range(value(&frame, 4)),
+        };
+        assert!((number == 2) == (damaged || frame.starts_with("28") && value(&frame, 4) & 2 != 0));
+        if damaged && !frame.starts_with("28") {
+            cells.insert(frame[..6].to_string());
+        }
+    }
+    assert_eq!(cells.len(), 2 * 1_982 + 9);
+}
+
+/// On each size, at three cells and in the pen: set, a host call and a key call, and put back.
+#[test]
+fn sweep_sets_kinds_on_every_size() {
+    let input = sweep();
+    let frames: Vec<_> = lines(&input).map(String::from_utf8_lossy).collect();
+    let (mut size, mut met) = ("".into(), BTreeSet::new());
+    for part in frames.windows(4) {
+        if part[0].starts_with("20") {
+            size = part[0].clone();
+        }
+        let sets = part[0].starts_with("27") || part[0].starts_with("280004");
+        let calls = part[1] == "21" && part[2].starts_with("23");
+        if sets && calls && part[3] == format!("{}0000", &part[0][..6]) {
+            met.insert((size.clone(), &part[0][..6], value(&part[0], 4)));
+        }
+    }
+    let (kinds, nameless) = ([0x0001, 0x0080, 0x0100], (9..16).map(|bit| 1 << bit));
+    let bits: Vec<u16> = kinds.into_iter().chain(nameless).collect();
+    let times = |value: u16| met.iter().filter(|met| met.2 == value).count();
+    for (place, &bit) in bits.iter().enumerate() {
+        assert_eq!(times(bit), 9 * 4, "{bit:04X}");
+        for (other_place, &other) in bits[..place].iter().enumerate() {
+            let everywhere = place < 3 && other_place < 3;
+            assert_eq!(times(bit | other), if everywhere { 9 * 4 } else { 4 });
+        }
+    }
 }
 
 /// Message and byte that host bytes leave on a fresh page, read as one call and byte by byte.
@@ -423,7 +486,7 @@ fn order_of_reasons() {
     }
 }
 
-const LISTED: &[u8] = b"ABCDEFGHIJKWZdfhlmn";
+const LISTED: &[u8] = b"ABCDEFGHIJKWZdfhlmno";
 
 /// The message that document 01 and M-102 give a byte after this beginning; 0 if it isn't refused.
 fn message_of(begun: &[u8], byte: u8) -> u8 {
@@ -474,6 +537,7 @@ fn values_not_allowed() {
         (b'h', &[6]),
         (b'l', &[6]),
         (b'n', &[5, 6]),
+        (b'o', &[0, 1, 3, 4]),
     ] {
         for value in (0..200).chain([9_998, 9_999]) {
             let good = allowed.contains(&value);
@@ -608,7 +672,7 @@ fn generated_refusals() {
         let bytes: Vec<u8> = of_message.map(|told| told.1).collect();
         (bytes.len(), bytes.into_iter().collect::<BTreeSet<u8>>())
     };
-    for (message, often, different) in [(1, 400, 70), (2, 400, 19), (3, 600, 80), (4, 150, 64)] {
+    for (message, often, different) in [(1, 400, 70), (2, 400, 20), (3, 600, 80), (4, 150, 64)] {
         let (times, bytes) = told(message);
         assert!(times > often && bytes.len() >= different, "{message}: {times}, {bytes:?}");
     }
@@ -616,4 +680,380 @@ fn generated_refusals() {
     assert!(told(3).1.contains(&0x00) && told(3).1.contains(&0x7F));
     let over = |pair: &&[(u8, u8)]| pair[0].0 != 0 && pair[1].0 != 0;
     assert!(all.iter().flat_map(|told| told.windows(2)).filter(over).count() > 300);
+}
+
+#[test]
+fn example_of_kinds() {
+    let input = b"001850
+011B5B336F31321B5B306F41421B562E1B571B5B48
+02004F
+020020
+020108
+020109
+020033
+";
+    let output = b"00010100000780
+00010100000005
+08010100000000
+00010200000001
+08010200000000
+00010200000003
+00010300000001
+";
+    assert_eq!(Mode::Transcript.run(input), output);
+}
+
+/// The kinds, with what document 003 lists for numeric and alphabetic fields, and 20.
+const TABLE: [(u16, &str); 3] = [
+    (NUMERIC, " -.0123456789"),
+    (ALPHABETIC, " -.ABCDEFGHIJKLMNOPQRSTUVWXYZabcdefghijklmnopqrstuvwxyz"),
+    (
+        0,
+        concat!(
+            " !\"#$%&'()*+,-./0123456789:;<=>?@ABCDEFGHIJKLMNOPQRSTUVWXYZ",
+            "[\\]^_`abcdefghijklmnopqrstuvwxyz{|}~"
+        ),
+    ),
+];
+
+/// Two cells with these marks and characters at 1;1, a protected one behind them.
+fn pair(marks: [u16; 2], characters: [u8; 2]) -> Page {
+    let mut page = Page::fresh();
+    page.marks[..3].copy_from_slice(&[marks[0], marks[1], PROTECTED]);
+    page.characters[..2].copy_from_slice(&characters);
+    page
+}
+
+/// A key is given 0 or, with nothing changed at all, 8.
+fn taken(page: &mut Page, number: u32) -> bool {
+    let before = page.all();
+    let answer = page.key(number);
+    if answer.number == 8 {
+        assert_eq!(answer, Answer { number: 8, taken: 0, sent: 0, stored: 0 });
+        assert!(page.all() == before);
+    } else {
+        assert_eq!(answer.number, 0);
+    }
+    answer.number == 0
+}
+
+#[test]
+fn every_character_in_every_kind() {
+    assert_eq!(TABLE.map(|(_, list)| list.len()), [13, 55, 95]);
+    for (kind, list) in TABLE {
+        for others in [0, MODIFIED, VISUAL] {
+            for character in 0x20..=0x7E {
+                let listed = list.as_bytes().contains(&character);
+                let mut page = pair([kind | others, 0], *b"xy");
+                assert_eq!(taken(&mut page, character.into()), listed, "{kind} {character}");
+                let after = if listed { (character, MODIFIED) } else { (b'x', 0) };
+                assert_eq!((page.characters[0], page.marks[0]), (after.0, kind | others | after.1));
+                assert_eq!(page.cursor(), (1, if listed { 2 } else { 1 }));
+                let mut page = pair([kind, others], [b'%', character]);
+                assert_eq!(taken(&mut page, 264), listed);
+                let mut page = pair([others, kind], [character, b'%']);
+                assert_eq!(taken(&mut page, 265), listed);
+            }
+        }
+    }
+}
+
+/// Marks are in range with at most one of bits 0, 7 and 8, and none of 9 to 15.
+fn marks_in_range(marks: u16) -> bool {
+    let kinds = [0, 7, 8].into_iter().filter(|bit| marks >> bit & 1 == 1).count();
+    kinds < 2 && marks >> 9 == 0
+}
+
+#[test]
+fn all_marks_in_cell_and_pen() {
+    let mut state = Page::fresh().state;
+    let mut right = 0;
+    for marks in 0..=u16::MAX {
+        assert_eq!(good_marks(marks), marks_in_range(marks));
+        state.pen = marks;
+        assert_eq!(state.sound(), marks_in_range(marks) && marks & MODIFIED == 0);
+        right += usize::from(state.sound());
+    }
+    assert_eq!(right, 4 * 32);
+}
+
+#[test]
+fn two_kinds_or_a_nameless_bit_give_2() {
+    let calls: [fn(&mut Page) -> Answer; 3] =
+        [|page| page.host(b"\x1Bc"), |page| page.key(999), |page| page.key(268)];
+    for value in [0x0081, 0x0101, 0x0180, 0x0181, 0x0200, 0x1000, 0x8000, 0x8080, 0xFFFF] {
+        for place in [0, 1_000, 1_919, usize::MAX] {
+            for call in calls {
+                let mut page = Page::fresh();
+                page.state.soft = true;
+                match page.marks.get_mut(place) {
+                    Some(marks) => *marks = value,
+                    None => page.state.pen = value,
+                }
+                let before = page.all();
+                assert_eq!(call(&mut page), Answer { number: 2, taken: 0, sent: 0, stored: 0 });
+                assert!(page.all() == before);
+            }
+        }
+    }
+}
+
+/// Each of 0, 1, 3 and 4 puts its kind over any other and leaves the visual marks.
+#[test]
+fn pen_kinds() {
+    let kinds = [
+        (&b"\x1B[0o"[..], 0),
+        (b"\x1B[o", 0),
+        (b"\x1B[00o", 0),
+        (b"\x1BW", 0),
+        (b"\x1B[1o", PROTECTED),
+        (b"\x1BV", PROTECTED),
+        (b"\x1B[3o", NUMERIC),
+        (b"\x1B[0004o", ALPHABETIC),
+    ];
+    for (first, _) in kinds {
+        for (then, kind) in kinds {
+            let mut page = Page::fresh();
+            page.host(&[b"\x1B[1;7m", first, then, b"#"].concat());
+            assert_eq!((page.state.pen, page.marks[0]), (kind | 0x24, kind | 0x24));
+            assert!(!page.refused());
+        }
+    }
+}
+
+#[test]
+fn refused_kinds_leave_the_pen() {
+    for bytes in [&b"\x1B[2o"[..], b"\x1B[5o", b"\x1B[20o", b"\x1B[9999o", b"\x1B[3;o", b"\x1B[;4o"]
+    {
+        assert_eq!(told(bytes), (2, b'o'));
+        let mut page = Page::fresh();
+        page.host(b"\x1B[4m\x1B[4o");
+        page.host(bytes);
+        assert_eq!((page.state.pen, page.refused()), (ALPHABETIC | 0x08, true));
+    }
+    assert_eq!(told(b"\x1B[10000o"), (3, b'o'));
+    assert_eq!(told(b"\x1B[?3o"), (3, b'o'));
+    assert_eq!(told(b"\x1Bo"), (1, b'o'));
+}
+
+#[test]
+fn plain_marks_keep_the_kind() {
+    for (command, kind) in
+        [(b"\x1B[1o", PROTECTED), (b"\x1B[3o", NUMERIC), (b"\x1B[4o", ALPHABETIC)]
+    {
+        for (list, visual) in [("0", 0), ("", 0), ("1;0", 0), ("0;1", 0x04), ("8;0;5", 0x10)] {
+            let mut page = Page::fresh();
+            page.host(command);
+            page.host(format!("\x1B[4m\x1B[{list}m").as_bytes());
+            assert_eq!(page.state.pen, kind | visual);
+        }
+    }
+}
+
+/// A character that isn't taken is stored by the host all the same, and stays there.
+#[test]
+fn host_text_is_not_checked() {
+    let mut page = Page::fresh();
+    assert_eq!(
+        page.host(b"\x1B[3oO,\x1B[4o09"),
+        Answer { number: 0, taken: 12, sent: 0, stored: 4 }
+    );
+    assert_eq!((&page.characters[..4], page.refused()), (&b"O,09"[..], false));
+    assert_eq!(page.marks[..5], [NUMERIC, NUMERIC, ALPHABETIC, ALPHABETIC, 0]);
+}
+
+/// Erasing and the row that a scroll brings in are plain; a scroll moves kinds with the characters.
+#[test]
+fn erased_and_scrolled_kinds() {
+    let mut page = Page::fresh();
+    page.host(b"\x1B[3o12\x1B[4oab\x1BM");
+    assert_eq!(page.marks[80..85], [NUMERIC, NUMERIC, ALPHABETIC, ALPHABETIC, 0]);
+    assert!(page.marks[..80].iter().all(|&marks| marks == 0));
+    assert_eq!(page.host(b"\x1B[2;2H\x1B[K").stored, 79);
+    assert_eq!((page.marks[80..83].to_vec(), page.state.pen), (vec![NUMERIC, 0, 0], ALPHABETIC));
+    page.host(b"\x1Bc");
+    assert_eq!((page.marks[80], page.state.pen), (0, 0));
+}
+
+/// 3;79 to 4;2: two numeric cells, then two alphabetic ones in the next row.
+fn two_kinds_over_a_row_end() -> Page {
+    let mut page = Page::fresh();
+    page.host(b"\x1B[3;78H\x1BV|\x1B[3o12\x1B[4oab\x1B[1o|\x1BW\x1B[3;79H");
+    page
+}
+
+#[test]
+fn kinds_do_not_split_a_field() {
+    let mut page = two_kinds_over_a_row_end();
+    let sent = page.key(267).sent;
+    assert!(page.output[..sent].windows(12).any(|part| part == b"\x1B[3;79f12ab\x1B"));
+    page.host(b"\x1B[4;1H");
+    assert_eq!((page.key(261).number, page.cursor()), (0, (3, 79)));
+    assert_eq!((page.key(260).number, page.cursor()), (0, (4, 4)));
+    page.host(b"\x1B[4;2H");
+    assert_eq!((page.key(263).stored, page.cursor()), (4, (3, 79)));
+    let kinds = [NUMERIC, NUMERIC, ALPHABETIC, ALPHABETIC].map(|kind| kind | MODIFIED);
+    assert_eq!((&page.characters[238..242], &page.marks[238..242]), (&b"    "[..], &kinds[..]));
+}
+
+/// From the letters' cells on both keys go; from the digits' a character would cross over.
+#[test]
+fn moved_characters() {
+    for (cursor, text, field_key, left) in [
+        (b"3;79", b"12ab", 264, None),
+        (b"3;80", b"12ab", 264, None),
+        (b"4;01", b"12ab", 264, Some(b"12b ")),
+        (b"3;79", b"12ab", 265, None),
+        (b"3;80", b"12ab", 265, None),
+        (b"4;01", b"12ab", 265, Some(b"12 a")),
+        // 20, hyphen and period are taken on both sides.
+        (b"3;79", b"12 b", 264, Some(b"2 b ")),
+        (b"3;79", b"12-b", 264, Some(b"2-b ")),
+        (b"3;79", b"1 ab", 265, Some(b" 1 a")),
+        (b"3;79", b"1.ab", 265, Some(b" 1.a")),
+        // The character deleted and the one lost are in nobody's way.
+        (b"3;79", b"O1.b", 264, Some(b"1.b ")),
+        (b"3;79", b"1.b7", 265, Some(b" 1.b")),
+        (b"4;02", b"1.b7", 265, Some(b"1.b ")),
+        (b"4;02", b"1.b7", 264, Some(b"1.b ")),
+        // What the host put there must be taken too, in a cell of its own kind and over its like.
+        (b"3;79", b"1O b", 264, None),
+        (b"3;79", b"OO b", 264, None),
+        (b"3;79", b"O  b", 265, None),
+        (b"4;01", b"1277", 264, None),
+        (b"4;01", b"1277", 265, None),
+    ] {
+        let mut page = two_kinds_over_a_row_end();
+        page.host(&[b"\x1B[3o", &text[..2], b"\x1B[4o", &text[2..], b"\x1B["].concat());
+        page.host(&[&cursor[..], b"H"].concat());
+        assert_eq!(taken(&mut page, field_key), left.is_some(), "{cursor:?} {text:?} {field_key}");
+        assert_eq!(&page.characters[238..242], left.unwrap_or(text));
+        assert_eq!([237, 242].map(|place| page.characters[place]), *b"||");
+    }
+}
+
+/// Marks stay where they are, but for modified on what was stored.
+#[test]
+fn moving_leaves_the_kinds() {
+    let mut page = two_kinds_over_a_row_end();
+    page.host(b"\x1B[3o1\x1B[3o \x1B[4o \x1B[4ob\x1B[3;80H");
+    assert_eq!(page.key(265), Answer { number: 0, taken: 0, sent: 0, stored: 3 });
+    let [numeric, alphabetic] = [NUMERIC, ALPHABETIC].map(|kind| kind | MODIFIED);
+    assert_eq!(page.marks[238..242], [NUMERIC, numeric, alphabetic, alphabetic]);
+}
+
+/// 8 comes after 4, 5 and 7; a protected cell before cells that would refuse gives 7.
+#[test]
+fn order_of_8() {
+    let mut page = two_kinds_over_a_row_end();
+    assert_eq!(page.key(u32::from(b'O')).number, 8);
+    assert_eq!((page.key(31).number, page.key(127).number), (4, 4));
+    page.host(b"\x1B`");
+    assert_eq!([79, 264, 265].map(|number| page.key(number).number), [5, 5, 5]);
+    page.host(b"\x1Bb\x1B[3;78H");
+    assert_eq!([79, 264, 265].map(|number| page.key(number).number), [7, 7, 7]);
+    page.host(b"\x1B[3;79H");
+    let mut page = page.room(0);
+    assert_eq!([79, 264, 265].map(|number| page.key(number).number), [8, 8, 8]);
+    assert_eq!(page.key(267).number, 3);
+}
+
+/// A dump has four digits for the pen and for each cell.
+#[test]
+fn dump_shows_kinds() {
+    let output = Mode::Dump.run(b"001850\n011B5B346F411B5B336F1B5B316D31\n");
+    let shown: Vec<_> = lines(&output).filter(|line| line.starts_with(b"pen")).collect();
+    assert_eq!(shown, [b"pen 0000 erasure 0", b"pen 0084 erasure 0"]);
+    let marks: Vec<_> = lines(&output).filter(|line| line.starts_with(b":")).collect();
+    assert_eq!((marks.len(), marks[24].len()), (48, 1 + 4 * 80));
+    assert!(marks[24].starts_with(b":010000840000"));
+}
+
+/// Frame 27 has a value of two bytes, the pen takes any, and marks are printed in four digits.
+#[test]
+fn calls_show_kinds() {
+    let frames = "2000180050\n270000FFFF\n27000001\n27077F0102\n2800048001\n21\n";
+    let more = "2700000080\n2800040100\n230000004F";
+    let output = Mode::Calls.run(format!("{frames}{more}").as_bytes());
+    let all: Vec<_> = lines(&output).collect();
+    let answers: Vec<_> = [0, 4, 5, 6, 7, 8, 12, 13, 14].map(|line| &all[line][..2]).to_vec();
+    let want = ["00", "00", "FF", "00", "00", "02", "00", "00", "08"];
+    assert_eq!(answers, want.map(str::as_bytes));
+    for (line, pen, first) in [(8, "8001", "FFFF"), (14, "0100", "0080")] {
+        assert_eq!(&all[line + 1][6 + 4 * 4..6 + 5 * 4], pen.as_bytes());
+        assert_eq!(all[line + 3].len(), 4 * 1_920);
+        assert!(all[line + 3].starts_with(first.as_bytes()) && all[line + 3].ends_with(b"0102"));
+    }
+}
+
+/// The record that the stream's digest is over.
+#[test]
+fn record_has_a_pen_of_two_bytes() {
+    let mut page = Page::sized(48, 160);
+    page.host(b"\x1B[4o\x1B[1m\x1B[2;3H\x1BH\x1B[6h\x1By\x1B[258;7");
+    let bytes = record(&page.state);
+    assert_eq!(bytes.len(), 194);
+    assert_eq!(bytes[..18], [48, 0, 160, 0, 2, 0, 3, 0, 4, 1, 1, 0, 1, 1, 0x79, 3, 0, 2]);
+    assert_eq!(bytes[18..24], [2, 1, 7, 0, 0, 0]);
+    assert_eq!(bytes[34..38], [0, 0, 1, 0]);
+}
+
+/// Each key frame of a generated transcript with the number it was given.
+fn keys_told(seed: u64) -> Vec<(u16, u8)> {
+    let mut session = Session::new();
+    let mut all = Vec::new();
+    for line in lines(&transcript(seed, 300)) {
+        let mut out = Vec::new();
+        session.line(line, &mut out);
+        if line.len() == 6 && line.starts_with(b"02") && !out.starts_with(b"FF") {
+            let number = |digits: &[u8]| {
+                u16::from_str_radix(&String::from_utf8_lossy(digits), 16).unwrap_or(u16::MAX)
+            };
+            all.push((number(&line[2..]), number(&out[..2]) as u8));
+        }
+    }
+    all
+}
+
+/// Typing, 264 and 265 are done often and given 8 often; 263 never is.
+#[test]
+fn generated_kinds() {
+    let all: Vec<_> = (1..=60).flat_map(keys_told).collect();
+    let times = |keys: std::ops::RangeInclusive<u16>, number| {
+        all.iter().filter(|told| keys.contains(&told.0) && told.1 == number).count()
+    };
+    for keys in [32..=126, 264..=264, 265..=265] {
+        for (number, often) in [(0, 300), (8, 60), (7, 30), (5, 2)] {
+            let met = times(keys.clone(), number);
+            assert!(met > often, "{keys:?} given {number}: {met}");
+        }
+    }
+    assert!(times(263..=263, 0) > 50);
+    let given_8: BTreeSet<_> = all.iter().filter(|told| told.1 == 8).map(|told| told.0).collect();
+    assert!(b",+'Ol/:;@[`{09".iter().all(|&character| given_8.contains(&character.into())));
+    assert!(given_8.iter().all(|key| matches!(key, 33..=44 | 47..=126 | 264 | 265)));
+}
+
+/// In `calls` every two kinds and every nameless bit are met in cells and in the pen, and right ones.
+#[test]
+fn generated_marks() {
+    let (mut damaged, mut right) = (BTreeSet::new(), BTreeSet::new());
+    for (frame, number) in (1..=60).flat_map(|seed| set_and_told(&calls(seed, 300))) {
+        let place = &frame[..2];
+        if place == "26" || frame.len() < 10 {
+            continue;
+        }
+        let marks = value(&frame, 4);
+        let alone = |bit: u16| marks & 0xFF81 == bit;
+        if number == 2 {
+            let bits = [0x0081, 0x0101, 0x0180].into_iter().chain((9..16).map(|bit| 1 << bit));
+            damaged.extend(bits.filter(|&bits| alone(bits)).map(|bits| (place.to_string(), bits)));
+        } else if number != 1 {
+            let kinds = [0, PROTECTED, NUMERIC, ALPHABETIC];
+            right.extend(
+                kinds.into_iter().filter(|&kind| alone(kind)).map(|k| (place.to_string(), k)),
+            );
+        }
+    }
+    assert_eq!((damaged.len(), right.len()), (2 * 10, 2 * 4), "{damaged:?} {right:?}");
 }
