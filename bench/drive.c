@@ -3,6 +3,8 @@
    drive PROGRAM stream FILE ROWS COLUMNS CALL BYTES    the first bytes of the file in calls of this many
    drive PROGRAM keys WHAT PAGE ROWS COLUMNS COUNT      WHAT: typed, next, previous, changed, full, none
                                                         PAGE: form (60 fields), densest (every second cell is one)
+   drive PROGRAM any ROWS COLUMNS COUNT                 keys drawn at random, on a page with cells of every area; not
+                                                        timed: it says how many were given 8
 
    What is left, the digest, is the same for every program that follows the papers, to the last bit of the half-read
    sequence. `keys none` does all but press a key: what it costs is taken off by whoever measures keys. */
@@ -36,6 +38,8 @@ static double seconds(void)
 }
 
 /* FNV-1a */
+#define NO_DIGEST 0xCBF29CE484222325u
+
 static uint64_t digested(uint64_t digest, const uint8_t *bytes, size_t length)
 {
     for (size_t i = 0; i < length; i++)
@@ -43,17 +47,16 @@ static uint64_t digested(uint64_t digest, const uint8_t *bytes, size_t length)
     return digest;
 }
 
+/* what is left after the calls, on top of the digest of what they gave */
 static void print_left(const struct program *program, size_t rows, size_t columns, const struct told *told,
-                       const uint8_t *sent, size_t sent_length)
+                       uint64_t digest)
 {
     static struct snapshot left;
     const uint8_t *record = left.record;
-    uint64_t digest = 0xCBF29CE484222325u;
     program->get(&left);
     digest = digested(digest, record, sizeof left.record);
     digest = digested(digest, left.characters, rows * columns);
-    digest = digested(digest, left.marks, rows * columns);
-    digest = digested(digest, sent, sent_length);
+    digest = digested(digest, left.marks, 2 * rows * columns);
     printf("digest %016llx cursor %u;%u message %u byte %02X sent %llu stored %llu\n", (unsigned long long)digest,
            (unsigned)panel_two_bytes(record + PANEL_RECORD_ROW),
            (unsigned)panel_two_bytes(record + PANEL_RECORD_COLUMN),
@@ -93,7 +96,7 @@ static void run_stream(const struct program *program, char **words)
     double before = seconds();
     program->host(bytes, length, call, &told);
     double after = seconds();
-    print_left(program, rows, columns, &told, NULL, 0);
+    print_left(program, rows, columns, &told, NO_DIGEST);
     printf("MB/s %.3f\n", (double)length / 1e6 / (after - before));
     free(bytes);
 }
@@ -125,7 +128,7 @@ static void make_page(struct snapshot *page, const char *kind, size_t cells)
     for (size_t cell = 0; cell < cells; cell++) {
         int open = densest ? cell == 0 || cell % 2 == 1 : cell % apart >= 5 && cell % apart < 15;
         page->characters[cell] = (uint8_t)('a' + cell % 26);
-        page->marks[cell] = open ? PANEL_MARK_MODIFIED : PANEL_MARK_PROTECTED;
+        put_two_bytes(page->marks + 2 * cell, open ? PANEL_MARK_MODIFIED : PANEL_MARK_PROTECTED);
     }
 }
 
@@ -162,8 +165,75 @@ static void run_keys(const struct program *program, char **words)
     if (told.number != PANEL_DONE)
         fail("the key was refused");
     /* every block was the same */
-    print_left(program, rows, columns, &told, output, (size_t)(told.sent / count));
+    print_left(program, rows, columns, &told, digested(NO_DIGEST, output, (size_t)(told.sent / count)));
     printf("us %.4f\n", took * 1e6 / (double)count);
+}
+
+/* -- any keys, where some characters are not taken */
+
+static unsigned below(unsigned limit)
+{
+    static uint32_t seed = 1;
+    seed = seed * 1664525u + 1013904223u;
+    return (seed >> 8) % limit;
+}
+
+/* Areas of one to four cells, three of four unprotected, so that a field has cells of several areas; and characters
+   that one area takes, or another, or none. */
+static void make_areas(struct snapshot *page, size_t cells)
+{
+    static const uint16_t areas[] = {0, PANEL_MARK_PROTECTED, PANEL_MARK_NUMERIC, PANEL_MARK_ALPHABETIC};
+    static const char characters[] = "          ---...0579AZaz/";
+    for (size_t cell = 0, left = 0, area = 0; cell < cells; cell++, left--) {
+        if (left == 0) {
+            left = 1 + below(4);
+            area = areas[below(4)];
+        }
+        page->characters[cell] = (uint8_t)characters[below(sizeof characters - 1)];
+        put_two_bytes(page->marks + 2 * cell, area);
+    }
+}
+
+static size_t any_key(void)
+{
+    static const char typed[] = "0123456789-. OAZaz+";
+    static const size_t often[] = {PANEL_KEY_DELETE, PANEL_KEY_INSERT, PANEL_KEY_NEXT_FIELD, PANEL_KEY_RIGHT};
+    switch (below(4)) {
+    case 0:
+        return (size_t)typed[below(sizeof typed - 1)];
+    case 1:
+        return PANEL_KEY_UP + below(PANEL_KEY_UNLOCK - PANEL_KEY_UP + 1);
+    default:
+        return often[below(4)];
+    }
+}
+
+static void run_any(const struct program *program, char **words)
+{
+    static struct snapshot page;
+    size_t rows = number(words[0]), columns = number(words[1]), count = number(words[2]), not_taken = 0;
+    struct told all = {0, 0, 0, 0};
+    uint64_t digest = NO_DIGEST;
+    program->start(rows, columns, &all);
+    if (all.number != PANEL_DONE)
+        fail("no such size");
+    all.stored = 0;
+    program->get(&page);
+    make_areas(&page, rows * columns);
+    program->put(&page);
+    for (size_t i = 0; i < count; i++) {
+        struct told one = {0, 0, 0, 0};
+        program->key(any_key(), &one);
+        digest = digested(digest, &one.number, 1);
+        digest = digested(digest, output, (size_t)one.sent);
+        not_taken += one.number == PANEL_NOT_TAKEN;
+        all.sent += one.sent;
+        all.stored += one.stored;
+    }
+    if (not_taken == 0)
+        fail("no key was given 8");
+    print_left(program, rows, columns, &all, digest);
+    printf("given 8: %lu\n", (unsigned long)not_taken);
 }
 
 int main(int count, char **words)
@@ -173,8 +243,11 @@ int main(int count, char **words)
         run_stream(program, words + 3);
     else if (program && count == 8 && strcmp(words[2], "keys") == 0)
         run_keys(program, words + 3);
+    else if (program && count == 6 && strcmp(words[2], "any") == 0)
+        run_any(program, words + 3);
     else
         fail("usage: drive ours|plain stream FILE ROWS COLUMNS CALL BYTES\n"
-             "       drive ours|plain keys WHAT form|densest ROWS COLUMNS COUNT");
+             "       drive ours|plain keys WHAT form|densest ROWS COLUMNS COUNT\n"
+             "       drive ours|plain any ROWS COLUMNS COUNT");
     return 0;
 }

@@ -2,9 +2,10 @@
 
 #include <string.h>
 
-enum { DONE, WRONG_SIZE, WRONG_STATE, NO_ROOM, UNKNOWN_KEY, LOCKED, TOO_LONG, NO_CELL };
+enum { DONE, WRONG_SIZE, WRONG_STATE, NO_ROOM, UNKNOWN_KEY, LOCKED, TOO_LONG, NO_CELL, NOT_TAKEN };
 enum { NO_MESSAGE, UNKNOWN_COMMAND, WRONG_ARGUMENTS, BROKEN_SEQUENCE, HIGH_BYTE };
-enum { PROTECTED = 1, MODIFIED = 2, VISUAL = 0x7C };
+enum { PROTECTED = 1, MODIFIED = 2, VISUAL = 0x7C, NUMERIC = 0x80, ALPHABETIC = 0x100 };
+enum { AREA = PROTECTED | NUMERIC | ALPHABETIC };
 enum { BS = 0x08, TAB = 0x09, LF = 0x0A, CR = 0x0D, CAN = 0x18, SUB = 0x1A, ESC = 0x1B, DEL = 0x7F, ETX = 0x03 };
 enum {
     UP = 256,
@@ -55,7 +56,7 @@ static bool is_protected(const struct plain *t, unsigned cell)
 static void blank(struct plain *t, unsigned from, unsigned length)
 {
     memset(t->characters + from, ' ', length);
-    memset(t->marks + from, 0, length);
+    memset(t->marks + from, 0, length * sizeof *t->marks);
 }
 
 static void fresh(struct call *c)
@@ -74,7 +75,7 @@ static void scroll_up(struct call *c)
     struct plain *t = c->t;
     unsigned moved = cells(t) - t->columns;
     memmove(t->characters, t->characters + t->columns, moved);
-    memmove(t->marks, t->marks + t->columns, moved);
+    memmove(t->marks, t->marks + t->columns, moved * sizeof *t->marks);
     blank(t, moved, t->columns);
     c->stored += cells(t);
 }
@@ -84,7 +85,7 @@ static void scroll_down(struct call *c)
     struct plain *t = c->t;
     unsigned moved = cells(t) - t->columns;
     memmove(t->characters + t->columns, t->characters, moved);
-    memmove(t->marks + t->columns, t->marks, moved);
+    memmove(t->marks + t->columns, t->marks, moved * sizeof *t->marks);
     blank(t, 0, t->columns);
     c->stored += cells(t);
 }
@@ -301,7 +302,7 @@ static bool send_block(struct call *c, bool changed_only)
     c->sent += length;
     for (unsigned cell = 0, all = cells(t); cell < all; cell++)
         if (!is_protected(t, cell))
-            t->marks[cell] &= (uint8_t)~MODIFIED;
+            t->marks[cell] &= (uint16_t)~MODIFIED;
     return true;
 }
 
@@ -338,6 +339,12 @@ static void unlock(struct plain *t)
     t->refused_at = 0;
 }
 
+/* The areas: unprotected (0), PROTECTED, NUMERIC and ALPHABETIC; each takes the place of the one before. */
+static void set_area(struct plain *t, unsigned area)
+{
+    t->pen = (uint16_t)((t->pen & ~(unsigned)AREA) | area);
+}
+
 static bool escape_command(struct call *c, uint8_t byte)
 {
     struct plain *t = c->t;
@@ -356,10 +363,10 @@ static bool escape_command(struct call *c, uint8_t byte)
         t->stops[t->column] = true;
         break;
     case 'V':
-        t->pen |= PROTECTED;
+        set_area(t, PROTECTED);
         break;
     case 'W':
-        t->pen &= (uint8_t)~PROTECTED;
+        set_area(t, 0);
         break;
     case 'S':
         return send_block(c, false);
@@ -384,7 +391,7 @@ static unsigned most_arguments(uint8_t final)
 {
     switch (final) {
     case 'A': case 'B': case 'C': case 'D': case 'E': case 'F': case 'G': case 'd':
-    case 'I': case 'Z': case 'W': case 'J': case 'K': case 'n':
+    case 'I': case 'Z': case 'W': case 'J': case 'K': case 'n': case 'o':
         return 1;
     case 'H': case 'f':
         return 2;
@@ -461,11 +468,11 @@ static bool change_stops(struct plain *t, unsigned which)
 /* The values act only after all of them were found good. */
 static bool change_pen(struct plain *t)
 {
-    uint8_t pen = t->pen;
+    uint16_t pen = t->pen;
     for (unsigned i = 0; i < t->count; i++) {
         switch (t->arguments[i]) {
         case 0:
-            pen &= (uint8_t)~VISUAL;
+            pen &= (uint16_t)~VISUAL;
             break;
         case 1:
             pen |= 1 << 2;
@@ -488,6 +495,26 @@ static bool change_pen(struct plain *t)
     }
     t->pen = pen;
     return true;
+}
+
+static bool change_area(struct plain *t, unsigned which)
+{
+    switch (which) {
+    case 0:
+        set_area(t, 0);
+        return true;
+    case 1:
+        set_area(t, PROTECTED);
+        return true;
+    case 3:
+        set_area(t, NUMERIC);
+        return true;
+    case 4:
+        set_area(t, ALPHABETIC);
+        return true;
+    default:
+        return false;
+    }
 }
 
 static bool change_mode(struct plain *t, bool set)
@@ -550,6 +577,8 @@ static bool do_command(struct call *c, uint8_t final)
         return erase_row(c, first);
     case 'm':
         return change_pen(t);
+    case 'o':
+        return change_area(t, first);
     default:
         return change_mode(t, final == 'h');
     }
@@ -715,7 +744,53 @@ static bool host_byte(struct call *c, uint8_t byte)
     }
 }
 
-/* -- keys; each is called only where it has a cell */
+/* -- what a cell takes from a key; the host's text isn't asked */
+
+static bool is_numeric(uint8_t character)
+{
+    return (character >= '0' && character <= '9') || character == '-' || character == '.';
+}
+
+static bool is_alphabetic(uint8_t character)
+{
+    return (character >= 'A' && character <= 'Z') || (character >= 'a' && character <= 'z') || character == '-' ||
+           character == '.';
+}
+
+/* a blank is taken everywhere */
+static bool takes(const struct plain *t, unsigned cell, uint8_t character)
+{
+    if (character == ' ')
+        return true;
+    if (t->marks[cell] & NUMERIC)
+        return is_numeric(character);
+    return !(t->marks[cell] & ALPHABETIC) || is_alphabetic(character);
+}
+
+/* whether the cells from this one on take these characters, each its own */
+static bool take_all(const struct plain *t, unsigned from, unsigned length, const uint8_t *characters)
+{
+    for (unsigned i = 0; i < length; i++)
+        if (!takes(t, from + i, characters[i]))
+            return false;
+    return true;
+}
+
+/* the cursor's character goes, and a blank comes in at the field's end: neither is asked for */
+static bool can_delete(const struct plain *t)
+{
+    unsigned here = cursor(t), moved = field_end(t, here) - here - 1;
+    return take_all(t, here, moved, t->characters + here + 1);
+}
+
+/* the field's last character goes, and a blank comes in at the cursor */
+static bool can_insert(const struct plain *t)
+{
+    unsigned here = cursor(t), moved = field_end(t, here) - here - 1;
+    return take_all(t, here + 1, moved, t->characters + here);
+}
+
+/* -- keys; each is called only where it has a cell, and its cells take what it brings */
 
 static void type(struct call *c, uint8_t character)
 {
@@ -808,6 +883,18 @@ static bool is_character(size_t key)
     return key >= ' ' && key < DEL;
 }
 
+static bool is_taken(const struct plain *t, size_t key)
+{
+    switch (key) {
+    case DELETE:
+        return can_delete(t);
+    case INSERT:
+        return can_insert(t);
+    default:
+        return !is_character(key) || takes(t, cursor(t), (uint8_t)key);
+    }
+}
+
 static uint32_t do_key(struct call *c, size_t key)
 {
     struct plain *t = c->t;
@@ -817,6 +904,8 @@ static uint32_t do_key(struct call *c, size_t key)
         return LOCKED;
     if ((is_character(key) || (key >= BLANK_FIELD && key <= INSERT)) && is_protected(t, cursor(t)))
         return NO_CELL;
+    if (!is_taken(t, key))
+        return NOT_TAKEN;
     switch (key) {
     case UP:
         go_up(t, 1);

@@ -1,5 +1,5 @@
-/* The terminal of documents 01 and 02 (M-101, M-102, M-105) as a programmer writes it by hand: something to measure the
-   proved one by. It was written from the papers, without sight of the proved one's code. */
+/* The terminal of documents 01 and 02 (M-101, M-102, M-103, M-105) as a programmer writes it by hand: something to
+   measure the proved one by. It was written from the papers, without sight of the proved one's code. */
 #ifndef PLAIN_H
 #define PLAIN_H
 
@@ -17,7 +17,7 @@ enum plain_kind { PLAIN_OUTSIDE, PLAIN_AFTER_ESC, PLAIN_AFTER_INTERMEDIATE, PLAI
 struct plain {
     uint16_t rows, columns;
     uint16_t row, column; /* of the cursor, from 0 on */
-    uint8_t pen;          /* marks for text */
+    uint16_t pen;         /* marks for text */
     bool erasure, manual, soft;
     uint8_t message, refused_at;
     uint8_t kind; /* of the half-read sequence */
@@ -25,7 +25,8 @@ struct plain {
     uint8_t count; /* arguments reached */
     uint16_t arguments[PLAIN_MOST_ARGUMENTS];
     bool stops[PLAIN_MOST_COLUMNS];
-    uint8_t characters[PLAIN_MOST_CELLS], marks[PLAIN_MOST_CELLS];
+    uint8_t characters[PLAIN_MOST_CELLS];
+    uint16_t marks[PLAIN_MOST_CELLS];
 };
 
 /* The number that a call gives back, and its counts. */

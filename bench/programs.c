@@ -7,6 +7,12 @@
 
 uint8_t output[65536];
 
+void put_two_bytes(uint8_t *at, size_t number)
+{
+    at[0] = (uint8_t)number;
+    at[1] = (uint8_t)(number >> 8);
+}
+
 /* -- ours */
 
 static struct snapshot our;
@@ -36,7 +42,7 @@ static void our_result(struct told *told)
 static void start_ours(size_t rows, size_t columns, struct told *told)
 {
     our_cells = rows * columns;
-    panel_start(rows, columns, our.record, sizeof our.record, our.characters, our_cells, our.marks, our_cells,
+    panel_start(rows, columns, our.record, sizeof our.record, our.characters, our_cells, our.marks, 2 * our_cells,
                 result, sizeof result);
     our_result(told);
 }
@@ -45,7 +51,7 @@ static void host_ours(const uint8_t *bytes, size_t length, size_t call, struct t
 {
     while (length > 0) {
         size_t now = call < length ? call : length;
-        uint8_t number = panel_host(our.record, sizeof our.record, our.characters, our_cells, our.marks, our_cells,
+        uint8_t number = panel_host(our.record, sizeof our.record, our.characters, our_cells, our.marks, 2 * our_cells,
                                     bytes, now, output, sizeof output, result, sizeof result);
         if (number != PANEL_DONE && number != PANEL_NO_ROOM)
             abort();
@@ -58,7 +64,7 @@ static void host_ours(const uint8_t *bytes, size_t length, size_t call, struct t
 
 static void key_ours(size_t key, struct told *told)
 {
-    panel_key(our.record, sizeof our.record, our.characters, our_cells, our.marks, our_cells,
+    panel_key(our.record, sizeof our.record, our.characters, our_cells, our.marks, 2 * our_cells,
               key, output, sizeof output, result, sizeof result);
     our_result(told);
 }
@@ -69,12 +75,6 @@ const struct program ours = {"ours", put_ours, get_ours, start_ours, host_ours, 
 
 static struct plain by_hand;
 
-static void put_two_bytes(uint8_t *at, unsigned number)
-{
-    at[0] = (uint8_t)number;
-    at[1] = (uint8_t)(number >> 8);
-}
-
 static void put_plain(const struct snapshot *from)
 {
     const uint8_t *record = from->record;
@@ -82,7 +82,7 @@ static void put_plain(const struct snapshot *from)
     by_hand.columns = panel_two_bytes(record + PANEL_RECORD_COLUMNS);
     by_hand.row = (uint16_t)(panel_two_bytes(record + PANEL_RECORD_ROW) - 1);
     by_hand.column = (uint16_t)(panel_two_bytes(record + PANEL_RECORD_COLUMN) - 1);
-    by_hand.pen = record[PANEL_RECORD_PEN];
+    by_hand.pen = panel_two_bytes(record + PANEL_RECORD_PEN);
     by_hand.erasure = record[PANEL_RECORD_ERASURE];
     by_hand.manual = record[PANEL_RECORD_MANUAL];
     by_hand.soft = record[PANEL_RECORD_SOFT];
@@ -96,7 +96,8 @@ static void put_plain(const struct snapshot *from)
     for (int i = 0; i < PLAIN_MOST_COLUMNS; i++)
         by_hand.stops[i] = record[PANEL_RECORD_STOPS + i];
     memcpy(by_hand.characters, from->characters, sizeof by_hand.characters);
-    memcpy(by_hand.marks, from->marks, sizeof by_hand.marks);
+    for (int i = 0; i < PLAIN_MOST_CELLS; i++)
+        by_hand.marks[i] = panel_two_bytes(from->marks + 2 * i);
 }
 
 static void get_plain(struct snapshot *to)
@@ -106,7 +107,7 @@ static void get_plain(struct snapshot *to)
     put_two_bytes(record + PANEL_RECORD_COLUMNS, by_hand.columns);
     put_two_bytes(record + PANEL_RECORD_ROW, by_hand.row + 1u);
     put_two_bytes(record + PANEL_RECORD_COLUMN, by_hand.column + 1u);
-    record[PANEL_RECORD_PEN] = by_hand.pen;
+    put_two_bytes(record + PANEL_RECORD_PEN, by_hand.pen);
     record[PANEL_RECORD_ERASURE] = by_hand.erasure;
     record[PANEL_RECORD_MANUAL] = by_hand.manual;
     record[PANEL_RECORD_SOFT] = by_hand.soft;
@@ -120,7 +121,8 @@ static void get_plain(struct snapshot *to)
     for (int i = 0; i < PLAIN_MOST_COLUMNS; i++)
         record[PANEL_RECORD_STOPS + i] = by_hand.stops[i];
     memcpy(to->characters, by_hand.characters, sizeof to->characters);
-    memcpy(to->marks, by_hand.marks, sizeof to->marks);
+    for (int i = 0; i < PLAIN_MOST_CELLS; i++)
+        put_two_bytes(to->marks + 2 * i, by_hand.marks[i]);
 }
 
 static void plain_result(const struct plain_answer *answer, struct told *told)

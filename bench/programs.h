@@ -7,7 +7,7 @@
 /* What a terminal is at a moment, as docs/PANEL.md lays it out. */
 struct snapshot {
     uint8_t record[PANEL_RECORD_LENGTH];
-    uint8_t characters[PANEL_MOST_CELLS], marks[PANEL_MOST_CELLS];
+    uint8_t characters[PANEL_MOST_CELLS], marks[2 * PANEL_MOST_CELLS];
 };
 
 /* What calls gave: the last one's number, and the counts of all of them. */
@@ -15,6 +15,9 @@ struct told {
     uint8_t number;
     uint64_t taken, sent, stored;
 };
+
+/* Two bytes, low one first, as record and marks have them. */
+void put_two_bytes(uint8_t *at, size_t number);
 
 struct program {
     const char *name;

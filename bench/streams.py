@@ -4,6 +4,7 @@
 form   a form that is painted now and then, and whose fields are filled again and again
 dense  nearly all sequences: moves, pens, tab stops, erasing of a part of a row, a word now and then
 text   lines of text, 10 to 79 long, a screenful at a time, scrolling now and then
+areas  cells of every area, by ESC [ n o, ESC V and ESC W, and values that are refused; only compared, not measured
 
 One kind, size and length is one stream, on every machine: the numbers come from the generator below. Nothing in them
 makes the terminal send.
@@ -179,7 +180,35 @@ class Text(Stream):
                 self.put(b"\r\n")
 
 
-KINDS = {"form": (Form, 1), "dense": (Dense, 2), "text": (Text, 3)}
+class Areas(Stream):
+    AREAS = (0, 1, 3, 4)
+    VISUAL = (0, 1, 4, 5, 7, 8)
+    OTHERS = b"\x1b[o \x1b[03o \x1b[2o \x1b[5o \x1b[20o \x1b[3;4o \x1b[?3o \x1b[3!o \x1b[3\x0bo \x1b3o".split(b" ")
+
+    def one(self):
+        numbers = self.numbers
+        kind = numbers.below(20)
+        if kind < 6:
+            self.control(b"o", numbers.pick(self.AREAS))
+        elif kind < 8:
+            self.put(numbers.pick((b"\x1bV", b"\x1bW")))
+        elif kind < 9:
+            self.put(numbers.pick(self.OTHERS))
+        elif kind < 11:
+            self.control(b"m", numbers.pick(self.VISUAL))
+        elif kind < 13:
+            self.go(self.row(), self.column())
+        elif kind < 14:
+            self.put(numbers.pick((b"\x1b[K", b"\x1b[1K", b"\x1b[6h", b"\x1b[6l", b"\x1bD", b"\x1bM")))
+        else:
+            self.text(numbers.between(1, 12))
+
+    def write(self, length):
+        while len(self.bytes) < length:
+            self.one()
+
+
+KINDS = {"form": (Form, 1), "dense": (Dense, 2), "text": (Text, 3), "areas": (Areas, 4)}
 
 
 def stream(kind, rows, columns, length=TEN_MEBIBYTES):
@@ -217,7 +246,7 @@ def main(words):
     elif len(words) in (3, 4) and words[0] in KINDS:
         sys.stdout.buffer.write(stream(words[0], *map(int, words[1:])))
     else:
-        sys.exit("usage: streams.py [shares] form|dense|text ROWS COLUMNS [BYTES]")
+        sys.exit("usage: streams.py [shares] form|dense|text|areas ROWS COLUMNS [BYTES]")
 
 
 if __name__ == "__main__":

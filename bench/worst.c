@@ -1,7 +1,7 @@
 /* Makes the calls that worst.py asks for, one a line on standard input, with a mark before and after each; whoever runs
    it counts the instructions between marks (count.c):
 
-   PROGRAM PAGE CURSOR STOPS ERASURE host HEX     PAGE: open, shut, densest, modified, first, last
+   PROGRAM PAGE CURSOR STOPS ERASURE host HEX     PAGE: open, shut, densest, modified, first, last, numeric, alphabetic
    PROGRAM PAGE CURSOR STOPS ERASURE key NUMBER   CURSOR: a cell from 0 on; STOPS: all, none; ERASURE: 0, 1
 
    The page is 48 by 160. For each call it prints the number given, the bytes sent and a digest of what was left. */
@@ -37,12 +37,23 @@ static int is_open(const char *page, size_t cell)
     return cell == 0 || cell % 2 == 1;
 }
 
+static size_t mark_of(const char *page, size_t cell)
+{
+    if (strcmp(page, "numeric") == 0)
+        return PANEL_MARK_NUMERIC;
+    if (strcmp(page, "alphabetic") == 0)
+        return PANEL_MARK_ALPHABETIC;
+    if (!is_open(page, cell))
+        return PANEL_MARK_PROTECTED;
+    return strcmp(page, "modified") == 0 ? PANEL_MARK_MODIFIED : 0;
+}
+
+/* Every cell takes the character that all have: a key that moves them looks at each. */
 static void make_page(struct snapshot *to, const char *page)
 {
-    uint8_t modified = strcmp(page, "modified") == 0 ? PANEL_MARK_MODIFIED : 0;
-    memset(to->characters, 'x', CELLS);
+    memset(to->characters, strcmp(page, "numeric") == 0 ? '5' : 'x', CELLS);
     for (size_t cell = 0; cell < CELLS; cell++)
-        to->marks[cell] = is_open(page, cell) ? modified : PANEL_MARK_PROTECTED;
+        put_two_bytes(to->marks + 2 * cell, mark_of(page, cell));
 }
 
 /* the last page made is kept: asked for again and again it is the same */
@@ -55,12 +66,6 @@ static const struct snapshot *page_named(const char *page)
         strcpy(name, page);
     }
     return &made;
-}
-
-static void put_two_bytes(uint8_t *at, size_t number)
-{
-    at[0] = (uint8_t)number;
-    at[1] = (uint8_t)(number >> 8);
 }
 
 static void set_up(const struct program *program, const char *page, size_t cursor, const char *stops,

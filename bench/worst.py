@@ -27,6 +27,8 @@ PAGES = {
     "modified": "densest, all modified",
     "first": "1;1 alone unprotected",
     "last": "48;160 alone unprotected",
+    "numeric": "all numeric",
+    "alphabetic": "all alphabetic",
 }
 HOST_PAGES = ("open", "shut", "densest")
 EVERYWHERE = list(product(HOST_PAGES, CURSORS, ("none", "all"), "01"))
@@ -44,13 +46,16 @@ LISTS = ["1;4;5;7;8;1;4;5", "1;4;5;7;8;1;4;99", "6;7", ";;;;;;;", *(";".join(n *
 SPOILT = ["10000", "?", " ", "1;2;3;4;5;6;7;8;9", LONGEST + ";", LONGEST + "?"]
 
 # the values that are taken, of commands that take few
-TAKEN = {"W": (0, 2, 5), "J": (0, 1, 2), "K": (0, 1, 2), "m": (0, 1, 4, 5, 7, 8), "h": (6,), "l": (6,), "n": (5, 6)}
-MOST = {**dict.fromkeys("ABCDEFGdIZWJKn", 1), **dict.fromkeys("Hf", 2), **dict.fromkeys("mhl", 8)}
+TAKEN = {
+    **{"W": (0, 2, 5), "J": (0, 1, 2), "K": (0, 1, 2), "m": (0, 1, 4, 5, 7, 8), "h": (6,), "l": (6,), "n": (5, 6)},
+    **{"o": (0, 1, 3, 4)},
+}
+MOST = {**dict.fromkeys("ABCDEFGdIZWJKno", 1), **dict.fromkeys("Hf", 2), **dict.fromkeys("mhl", 8)}
 NAMES = {
     **{"A": "up", "B": "down", "C": "right", "D": "left", "E": "down, column 1", "F": "up, column 1", "G": "column"},
     **{"d": "row", "H": "row, column", "f": "row, column", "I": "tab stops on", "Z": "tab stops back"},
     **{"W": "tab stops", "J": "erase page", "K": "erase row", "m": "pen"},
-    **{"h": "erasure mode set", "l": "erasure mode reset", "n": "report"},
+    **{"h": "erasure mode set", "l": "erasure mode reset", "n": "report", "o": "area"},
 }
 ESCAPES = {
     **{"D": "down", "E": "down, column 1", "M": "up", "H": "set tab stop", "V": "pen protected"},

@@ -13,10 +13,11 @@ extern "C" {
 #endif
 
 /* The lengths of record and result slice. The record's changes with the layout, so that an old header is refused. */
-#define PANEL_RECORD_LENGTH 193
+#define PANEL_RECORD_LENGTH 194
 #define PANEL_RESULT_LENGTH 13
 
-/* The most cells that a page has (48 by 160), the most host bytes of a call, an output room that holds any block. */
+/* The most cells that a page has (48 by 160): so many bytes of characters, and twice as many of marks. The most host
+   bytes of a call, an output room that holds any block. */
 #define PANEL_MOST_CELLS 7680
 #define PANEL_MOST_HOST_BYTES 65536
 #define PANEL_ROOM 35138
@@ -26,17 +27,17 @@ extern "C" {
 #define PANEL_RECORD_COLUMNS 2    /* 2 bytes */
 #define PANEL_RECORD_ROW 4        /* of the cursor, from 1 on, 2 bytes */
 #define PANEL_RECORD_COLUMN 6     /* of the cursor, from 1 on, 2 bytes */
-#define PANEL_RECORD_PEN 8        /* bits of a mark */
-#define PANEL_RECORD_ERASURE 9    /* flag: erasing takes protected cells too */
-#define PANEL_RECORD_MANUAL 10    /* flag: manual input disabled */
-#define PANEL_RECORD_SOFT 11      /* flag: the soft lock */
-#define PANEL_RECORD_MESSAGE 12   /* why a command was refused */
-#define PANEL_RECORD_BYTE 13      /* the byte at which it was refused */
-#define PANEL_RECORD_KIND 14      /* of the half-read sequence */
-#define PANEL_RECORD_SPOILT 15    /* flag */
-#define PANEL_RECORD_COUNT 16     /* arguments reached */
-#define PANEL_RECORD_ARGUMENTS 17 /* 8 arguments, 2 bytes each */
-#define PANEL_RECORD_STOPS 33     /* 160 flags: the tab stops of columns 1 to 160 */
+#define PANEL_RECORD_PEN 8        /* bits of a mark, 2 bytes */
+#define PANEL_RECORD_ERASURE 10   /* flag: erasing takes protected cells too */
+#define PANEL_RECORD_MANUAL 11    /* flag: manual input disabled */
+#define PANEL_RECORD_SOFT 12      /* flag: the soft lock */
+#define PANEL_RECORD_MESSAGE 13   /* why a command was refused */
+#define PANEL_RECORD_BYTE 14      /* the byte at which it was refused */
+#define PANEL_RECORD_KIND 15      /* of the half-read sequence */
+#define PANEL_RECORD_SPOILT 16    /* flag */
+#define PANEL_RECORD_COUNT 17     /* arguments reached */
+#define PANEL_RECORD_ARGUMENTS 18 /* 8 arguments, 2 bytes each */
+#define PANEL_RECORD_STOPS 34     /* 160 flags: the tab stops of columns 1 to 160 */
 
 /* Places in the result slice. */
 #define PANEL_RESULT_NUMBER 0 /* as returned */
@@ -53,6 +54,7 @@ extern "C" {
 #define PANEL_LOCKED 5
 #define PANEL_TOO_LONG 6
 #define PANEL_NO_CELL 7
+#define PANEL_NOT_TAKEN 8
 
 /* Messages. */
 #define PANEL_MESSAGE_NONE 0
@@ -76,7 +78,8 @@ extern "C" {
 #define PANEL_KEY_SEND_ALL 267
 #define PANEL_KEY_UNLOCK 268
 
-/* The bits of a mark; bit 7 is zero. The glass shows those from bold on. */
+/* The bits of a mark, which has 2 bytes; bits 9 to 15 are zero. The glass shows those from bold to concealed. Of
+   protected, numeric and alphabetic a mark has one at most. */
 #define PANEL_MARK_PROTECTED 0x01
 #define PANEL_MARK_MODIFIED 0x02
 #define PANEL_MARK_BOLD 0x04
@@ -84,6 +87,8 @@ extern "C" {
 #define PANEL_MARK_BLINKING 0x10
 #define PANEL_MARK_REVERSED 0x20
 #define PANEL_MARK_CONCEALED 0x40
+#define PANEL_MARK_NUMERIC 0x80
+#define PANEL_MARK_ALPHABETIC 0x100
 
 /* Kinds of the half-read sequence. */
 #define PANEL_KIND_NONE 0
@@ -91,7 +96,8 @@ extern "C" {
 #define PANEL_KIND_AFTER_INTERMEDIATE 2
 #define PANEL_KIND_AFTER_BRACKET 3
 
-/* A number of 2 or 4 bytes in record or result slice: panel_four_bytes(result + PANEL_RESULT_SENT). */
+/* A number of 2 or 4 bytes: panel_four_bytes(result + PANEL_RESULT_SENT), or the mark of a cell (from 0 on),
+   panel_two_bytes(marks + 2 * cell). */
 static inline uint16_t panel_two_bytes(const uint8_t *at)
 {
     return (uint16_t)(at[0] | at[1] << 8);
@@ -102,7 +108,7 @@ static inline uint32_t panel_four_bytes(const uint8_t *at)
     return panel_two_bytes(at) | (uint32_t)panel_two_bytes(at + 2) << 16;
 }
 
-/* Makes a fresh page and its record, whatever they held; characters and marks have rows x columns bytes each. */
+/* Makes a fresh page and its record, whatever they held; characters have rows x columns bytes, marks twice as many. */
 uint8_t panel_start(size_t rows, size_t columns, uint8_t *record, size_t record_length,
                     uint8_t *characters, size_t characters_length, uint8_t *marks, size_t marks_length,
                     uint8_t *result, size_t result_length);

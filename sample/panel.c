@@ -1,5 +1,6 @@
-/* One session with nobody at the panel: a page is started, the stow form of sample/stow.txt comes from the host, the
-   readings are typed, and the full block that goes back is printed, a field a line, as C writes strings.
+/* One session with nobody at the panel: a page is started, the stow form of sample/stow.txt comes from the host, here
+   with a wind field that takes digits only; the readings are typed, and the full block that goes back is printed, a
+   field a line, as C writes strings.
    README and docs/PANEL.md tell how to build and run it. */
 #include "panel.h"
 
@@ -11,7 +12,7 @@
 #define COLUMNS 80
 
 /* What a panel keeps from call to call, .. */
-static uint8_t record[PANEL_RECORD_LENGTH], characters[ROWS * COLUMNS], marks[ROWS * COLUMNS];
+static uint8_t record[PANEL_RECORD_LENGTH], characters[ROWS * COLUMNS], marks[2 * ROWS * COLUMNS];
 /* .. and what one call fills in. */
 static uint8_t output[PANEL_ROOM], result[PANEL_RESULT_LENGTH];
 
@@ -59,7 +60,8 @@ int main(void)
     want_done("start", panel_start(ROWS, COLUMNS, record, sizeof record, characters, sizeof characters,
                                    marks, sizeof marks, result, sizeof result));
 
-    /* protected blanks everywhere, the labels, then three unprotected fields; the remark's goes on in the next row */
+    /* protected blanks everywhere, the labels, then three unprotected fields: the wind's takes digits only, and the
+       remark's goes on in the next row */
     host("\033V");
     for (int row = 1; row <= ROWS; row++) {
         char blanks[COLUMNS + 1];
@@ -67,7 +69,7 @@ int main(void)
         host(blanks);
     }
     host("\033[1;1fSTOW PANEL   PARK 7\033[3;1fWIND (KNOTS)\033[4;1fROWS STOWED\033[6;1fREMARK");
-    host("\033W\033[3;15f   \033[4;15f  \033[6;15f");
+    host("\033[3o\033[3;15f   \033W\033[4;15f  \033[6;15f");
     for (int cell = 1; cell <= 86; cell++)
         host(" ");
     host("\033[3;15f");

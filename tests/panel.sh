@@ -1,7 +1,8 @@
 #!/usr/bin/env bash
 # The exported functions as C calls them, by include/panel.h and docs/PANEL.md: header and archive, the sample program,
-# the second program's transcripts and calls through a driver in C, and whatever C can get wrong (tests/panel/). In the
-# last two every slice lies between pages that may not be touched, and what may not be written can only be read.
+# the second program's transcripts and calls through a driver in C, the characters that cells take, and whatever C can
+# get wrong (tests/panel/). In the last three every slice lies between pages that may not be touched, and what may not
+# be written can only be read.
 # The archive is for x86-64; elsewhere programs run under the kit's emulator.
 set -eu -o pipefail
 . tests/tools/debian.sh
@@ -49,6 +50,7 @@ build page $room/page.c
 build sample sample/panel.c
 build driver tests/panel/driver.c tests/panel/lent.c
 build refusals tests/panel/refusals.c tests/panel/lent.c
+build taken tests/panel/taken.c tests/panel/lent.c
 
 run() { step "${emulator[@]}" "$@"; }
 driver=("${emulator[@]}" $room/driver)
@@ -69,6 +71,7 @@ printf 'panel: new seeds: %s and the 49 after it\n' "$new"
 {
     step $second compare transcript "${driver[@]}" transcript -- 1 200 300
     step $second compare transcript "${driver[@]}" transcript -- "$new" 50 300
+    run $room/taken
     run $room/refusals
 } >$room/beside.log 2>&1 &
 beside=$!

@@ -12,7 +12,7 @@
 #define KEPT 8192
 #define HOST_FRAME 256
 
-static uint8_t record[PANEL_RECORD_LENGTH], characters[KEPT], marks[KEPT], result[PANEL_RESULT_LENGTH];
+static uint8_t record[PANEL_RECORD_LENGTH], characters[KEPT], marks[2 * KEPT], result[PANEL_RESULT_LENGTH];
 static uint8_t host_bytes[LONGEST];
 static struct kept kept = {
     {record, characters, marks, host_bytes, NULL, result},
@@ -63,6 +63,13 @@ static uint32_t count(int place)
     return panel_four_bytes(result + place);
 }
 
+/* The formats count marks, C their bytes. */
+static void lend_page(size_t character_count, size_t mark_count)
+{
+    kept.length[CHARACTERS] = character_count;
+    kept.length[MARKS] = 2 * mark_count;
+}
+
 /* -- transcript */
 
 static bool going;
@@ -80,7 +87,9 @@ static void print_transcript(uint8_t number)
 static void transcript_start(uint8_t rows, uint8_t columns)
 {
     size_t cells = (size_t)rows * columns;
-    kept.length[CHARACTERS] = kept.length[MARKS] = cells <= KEPT ? cells : KEPT;
+    if (cells > KEPT)
+        cells = KEPT;
+    lend_page(cells, cells);
     uint8_t number = lend(START, rows, columns, &kept);
     going = number == PANEL_DONE;
     print_transcript(number);
@@ -126,7 +135,7 @@ static enum form field(unsigned number, size_t *place)
     } parts[12] = {
         {PANEL_RECORD_ROWS, TWO_BYTES},    {PANEL_RECORD_COLUMNS, TWO_BYTES},
         {PANEL_RECORD_ROW, TWO_BYTES},     {PANEL_RECORD_COLUMN, TWO_BYTES},
-        {PANEL_RECORD_PEN, BYTE},          {PANEL_RECORD_ERASURE, FLAG},
+        {PANEL_RECORD_PEN, TWO_BYTES},     {PANEL_RECORD_ERASURE, FLAG},
         {PANEL_RECORD_MANUAL, FLAG},       {PANEL_RECORD_SOFT, FLAG},
         {PANEL_RECORD_MESSAGE, BYTE},      {PANEL_RECORD_KIND, BYTE},
         {PANEL_RECORD_SPOILT, FLAG},       {PANEL_RECORD_COUNT, BYTE},
@@ -147,6 +156,13 @@ static enum form field(unsigned number, size_t *place)
     return BYTE;
 }
 
+/* Low byte first, as record and marks have them. */
+static void put_two_bytes(uint8_t *at, unsigned value)
+{
+    at[0] = (uint8_t)value;
+    at[1] = (uint8_t)(value >> 8);
+}
+
 static bool set_field(unsigned number, unsigned value)
 {
     size_t place;
@@ -155,9 +171,10 @@ static bool set_field(unsigned number, unsigned value)
     enum form form = field(number, &place);
     if (form == BYTE && value > 255)
         return false;
-    record[place] = form == FLAG ? value != 0 : (uint8_t)value;
     if (form == TWO_BYTES)
-        record[place + 1] = (uint8_t)(value >> 8);
+        put_two_bytes(record + place, value);
+    else
+        record[place] = form == FLAG ? value != 0 : (uint8_t)value;
     return true;
 }
 
@@ -165,6 +182,15 @@ static unsigned field_value(unsigned number)
 {
     size_t place;
     return field(number, &place) == TWO_BYTES ? panel_two_bytes(record + place) : record[place];
+}
+
+/* High byte first, as all numbers of the formats. */
+static void print_marks(void)
+{
+    static uint8_t turned[2 * KEPT];
+    for (size_t i = 0; i < kept.length[MARKS]; i++)
+        turned[i] = marks[i ^ 1];
+    put_line(turned, kept.length[MARKS]);
 }
 
 /* That the output past the bytes sent is still A5 lent.c looks after. */
@@ -180,7 +206,7 @@ static void print_call(uint8_t number)
         put_number(field_value(i), 2);
     putchar('\n');
     put_line(characters, kept.length[CHARACTERS]);
-    put_line(marks, kept.length[MARKS]);
+    print_marks();
 }
 
 static void calls_host(const uint8_t *bytes, size_t pattern, size_t length)
@@ -215,14 +241,13 @@ static bool calls_frame(const uint8_t *frame, size_t length)
         return true;
     }
     if (frame[0] == 0x24 && length == 4 && number_in(rest, 2) <= KEPT && number_in(rest + 2, 2) <= KEPT) {
-        kept.length[CHARACTERS] = number_in(rest, 2);
-        kept.length[MARKS] = number_in(rest + 2, 2);
+        lend_page(number_in(rest, 2), number_in(rest + 2, 2));
     } else if (frame[0] == 0x25 && length == 4 && number_in(rest, 4) <= ROOM) {
         kept.length[OUTPUT] = number_in(rest, 4);
     } else if (frame[0] == 0x26 && length == 3 && number_in(rest, 2) < KEPT) {
         characters[number_in(rest, 2)] = rest[2];
-    } else if (frame[0] == 0x27 && length == 3 && number_in(rest, 2) < KEPT) {
-        marks[number_in(rest, 2)] = rest[2];
+    } else if (frame[0] == 0x27 && length == 4 && number_in(rest, 2) < KEPT) {
+        put_two_bytes(marks + 2 * number_in(rest, 2), number_in(rest + 2, 2));
     } else if (frame[0] != 0x28 || length != 4 || !set_field(number_in(rest, 2), number_in(rest + 2, 2))) {
         return false;
     }
@@ -259,7 +284,7 @@ int main(int argument_count, char **arguments)
         return 2;
     }
     if (calls)
-        kept.length[CHARACTERS] = kept.length[MARKS] = 1920;
+        lend_page(1920, 1920);
     prepare();
     /* a longer line is no frame, however it goes on */
     char line[2 * HOST_FRAME + 2];

@@ -1,5 +1,6 @@
-/* What C can get wrong, all of it in turn: lengths, the record's bytes, sizes, keys, rooms. Which number is expected is
-   worked out here from documents 01 and 02 (M-100 to M-102) and the layout in panel.h; lent.c looks at what is left. */
+/* What C can get wrong, all of it in turn: lengths, the record's bytes, marks, sizes, keys, rooms. Which number is
+   expected is worked out here from documents 01 and 02 (M-100 to M-103) and the layout in panel.h; lent.c looks at what
+   is left. */
 #include "lent.h"
 
 #include "panel.h"
@@ -10,7 +11,7 @@
 
 /* Longer than any slice that is tried. */
 static uint8_t record[4 * PANEL_RECORD_LENGTH], result[4 * PANEL_RESULT_LENGTH];
-static uint8_t characters[PANEL_MOST_CELLS + 1], marks[PANEL_MOST_CELLS + 1], host_bytes[LONGEST];
+static uint8_t characters[PANEL_MOST_CELLS + 1], marks[2 * PANEL_MOST_CELLS + 2], host_bytes[LONGEST];
 static struct kept kept = {
     {record, characters, marks, host_bytes, NULL, result},
     {PANEL_RECORD_LENGTH, 0, 0, 0, PANEL_ROOM, PANEL_RESULT_LENGTH},
@@ -28,6 +29,24 @@ static uint32_t count(size_t place)
     return panel_four_bytes(result + place);
 }
 
+static unsigned mark_at(size_t cell)
+{
+    return panel_two_bytes(marks + 2 * cell);
+}
+
+static void put_two_bytes(uint8_t *at, unsigned value)
+{
+    at[0] = (uint8_t)value;
+    at[1] = (uint8_t)(value >> 8);
+}
+
+/* A byte a cell for characters, two for marks. */
+static void lend_cells(size_t cells)
+{
+    kept.length[CHARACTERS] = cells;
+    kept.length[MARKS] = 2 * cells;
+}
+
 /* -- the model: which number a call is given */
 
 static bool is_one_of(size_t n, size_t a, size_t b, size_t c)
@@ -43,7 +62,7 @@ static bool is_listed(size_t rows, size_t columns)
 static bool is_page(size_t rows, size_t columns)
 {
     size_t cells = rows * columns;
-    return is_listed(rows, columns) && kept.length[CHARACTERS] == cells && kept.length[MARKS] == cells;
+    return is_listed(rows, columns) && kept.length[CHARACTERS] == cells && kept.length[MARKS] == 2 * cells;
 }
 
 static bool half_read_is_valid(void)
@@ -62,6 +81,13 @@ static bool half_read_is_valid(void)
     return kind == PANEL_KIND_AFTER_BRACKET && count >= 1 && count <= 8 && reached <= count && most <= 9999;
 }
 
+/* Bits 9 to 15 are zero; of protected, numeric and alphabetic there is one at most. */
+static bool is_valid_mark(unsigned mark)
+{
+    unsigned areas = mark & (PANEL_MARK_PROTECTED | PANEL_MARK_NUMERIC | PANEL_MARK_ALPHABETIC);
+    return mark < 0x200 && (areas & (areas - 1)) == 0;
+}
+
 /* Line 2, of a size that is listed and of page slices that fit it. */
 static bool is_valid(void)
 {
@@ -72,7 +98,7 @@ static bool is_valid(void)
     if (record[PANEL_RECORD_ERASURE] > 1 || record[PANEL_RECORD_MANUAL] > 1 || record[PANEL_RECORD_SOFT] > 1)
         return false;
     /* the pen has no modified */
-    if (record[PANEL_RECORD_PEN] & (0x80 | PANEL_MARK_MODIFIED))
+    if (!is_valid_mark(two_bytes(PANEL_RECORD_PEN)) || two_bytes(PANEL_RECORD_PEN) & PANEL_MARK_MODIFIED)
         return false;
     if (record[PANEL_RECORD_MESSAGE] > 4 || (record[PANEL_RECORD_MESSAGE] == 0 && record[PANEL_RECORD_BYTE] != 0))
         return false;
@@ -82,7 +108,7 @@ static bool is_valid(void)
     if (!half_read_is_valid())
         return false;
     for (size_t i = 0; i < kept.length[CHARACTERS]; i++)
-        if (characters[i] < 0x20 || characters[i] > 0x7E || marks[i] > 0x7F)
+        if (characters[i] < 0x20 || characters[i] > 0x7E || !is_valid_mark(mark_at(i)))
             return false;
     return true;
 }
@@ -137,7 +163,7 @@ static void start(size_t rows, size_t columns)
 {
     kept.length[RECORD] = PANEL_RECORD_LENGTH;
     kept.length[RESULT] = PANEL_RESULT_LENGTH;
-    kept.length[CHARACTERS] = kept.length[MARKS] = rows * columns;
+    lend_cells(rows * columns);
     kept.length[OUTPUT] = PANEL_ROOM;
     want("start", lend(START, rows, columns, &kept), PANEL_DONE);
 }
@@ -145,7 +171,7 @@ static void start(size_t rows, size_t columns)
 /* -- what is put back after a call that did something */
 
 static struct {
-    uint8_t record[PANEL_RECORD_LENGTH], characters[PANEL_MOST_CELLS], marks[PANEL_MOST_CELLS];
+    uint8_t record[PANEL_RECORD_LENGTH], characters[PANEL_MOST_CELLS], marks[2 * PANEL_MOST_CELLS];
 } saved;
 
 static void save(void)
@@ -197,10 +223,10 @@ static void make_garbage(int round)
 {
     for (size_t i = 0; i < sizeof record; i++)
         record[i] = round == 0 ? 0xFF : random_byte();
-    for (size_t i = 0; i < sizeof characters; i++) {
+    for (size_t i = 0; i < sizeof characters; i++)
         characters[i] = random_byte();
+    for (size_t i = 0; i < sizeof marks; i++)
         marks[i] = random_byte();
-    }
     for (size_t i = 0; i < sizeof result; i++)
         result[i] = random_byte();
 }
@@ -216,7 +242,7 @@ static void try_start(size_t rows, size_t columns)
     want_record("start", fresh);
     want_counts("start", 0, 0, (uint32_t)(rows * columns));
     for (size_t i = 0; i < rows * columns; i++)
-        if (characters[i] != 0x20 || marks[i] != 0)
+        if (characters[i] != 0x20 || mark_at(i) != 0)
             fault("start: cell %zu is not fresh", i);
 }
 
@@ -228,20 +254,20 @@ static void try_starts(void)
         for (size_t columns = 0; columns <= 162; columns++) {
             size_t cells = rows * columns;
             make_garbage((int)(rows % 2));
-            kept.length[CHARACTERS] = kept.length[MARKS] = cells < sizeof characters ? cells : sizeof characters;
+            lend_cells(cells < sizeof characters ? cells : sizeof characters);
             try_start(rows, columns);
             if (!is_listed(rows, columns))
                 continue;
-            for (int i = 0; i < 9; i++) {
-                static const int off[] = {-1, 0, 1};
+            for (int i = 0; i < 15; i++) {
+                static const int off[] = {-1, 0, 1, -2, 2};
                 kept.length[CHARACTERS] = cells + off[i % 3];
-                kept.length[MARKS] = cells + off[i / 3];
+                kept.length[MARKS] = 2 * cells + off[i / 3];
                 make_garbage(i);
                 try_start(rows, columns);
             }
         }
     }
-    kept.length[CHARACTERS] = kept.length[MARKS] = 24 * 80;
+    lend_cells(24 * 80);
     for (size_t i = 0; i < sizeof far / sizeof *far; i++)
         for (size_t j = 0; j < sizeof far / sizeof *far; j++)
             try_start(far[i], far[j]);
@@ -289,6 +315,11 @@ static const struct good goods[] = {
       {PANEL_RECORD_KIND, PANEL_KIND_AFTER_BRACKET}, {PANEL_RECORD_COUNT, 8}, {AT_ARGUMENT(1), 1}, {AT_ARGUMENT(2), 2},
       {AT_ARGUMENT(3), 3}, {AT_ARGUMENT(4), 4}, {AT_ARGUMENT(5), 5}, {AT_ARGUMENT(6), 6}, {AT_ARGUMENT(7), 7},
       {AT_ARGUMENT(8), 9999 & 255}, {AT_ARGUMENT(8) + 1, 9999 >> 8}}},
+    {"numeric pen", 24, 80, "\033V\033[1;8m\033[3o\033[2;2H",
+     {{PANEL_RECORD_PEN, PANEL_MARK_NUMERIC | PANEL_MARK_BOLD | PANEL_MARK_CONCEALED}, {PANEL_RECORD_ROW, 2},
+      {PANEL_RECORD_COLUMN, 2}}},
+    {"alphabetic pen", 27, 132, "\033[3o\033[4m\033[4o",
+     {{PANEL_RECORD_PEN, PANEL_MARK_UNDERLINED}, {PANEL_RECORD_PEN + 1, PANEL_MARK_ALPHABETIC >> 8}}},
 };
 
 static void make_good(const struct good *good)
@@ -356,7 +387,7 @@ static void damage(const struct good *good, bool every_value)
     printf("%s: %ld records with one byte changed, %ld of them valid\n", good->name, tried, valid);
 }
 
-/* A cell's character and mark with every value. */
+/* A cell's character with every value, its mark with those of bits 0 to 9. */
 static void damage_cells(void)
 {
     make_good(&goods[2]);
@@ -366,7 +397,9 @@ static void damage_cells(void)
             characters[cells[i]] = (uint8_t)value;
             try_host("a character", number_before(HOST, 0, 0));
             put_back();
-            marks[cells[i]] = (uint8_t)value;
+        }
+        for (unsigned value = 0; value < 0x400; value++) {
+            put_two_bytes(marks + 2 * cells[i], value);
             try_host("a mark", number_before(HOST, 0, 0));
             put_back();
         }
@@ -382,23 +415,96 @@ static uint8_t make(enum call call)
     return call == START ? lend(START, 24, 80, &kept) : lend(KEY, PANEL_KEY_UNLOCK, 0, &kept);
 }
 
+/* A mark, and what a call is given where a cell or the pen has it. Of bits 0, 7 and 8 there is one at most, bits 9 to
+   15 are zero, and the pen has no bit 1. */
+static const struct {
+    uint16_t mark;
+    uint8_t in_cell, in_pen;
+} tried_marks[] = {
+    {0x0000, 0, 0}, {0x0001, 0, 0}, {0x0080, 0, 0}, {0x0100, 0, 0},                 /* none of them, or one */
+    {0x0081, 2, 2}, {0x0101, 2, 2}, {0x0180, 2, 2}, {0x0181, 2, 2},                 /* two of them, or all */
+    {0x0200, 2, 2}, {0x0400, 2, 2}, {0x0800, 2, 2}, {0x1000, 2, 2}, {0x2000, 2, 2}, /* bits 9 to 15 */
+    {0x4000, 2, 2}, {0x8000, 2, 2}, {0x0201, 2, 2}, {0x0280, 2, 2}, {0x0300, 2, 2}, {0x8001, 2, 2}, {0x8080, 2, 2},
+    {0x8100, 2, 2}, {0x0002, 0, 2}, {0x0003, 0, 2}, {0x0082, 0, 2}, {0x0102, 0, 2}, /* modified */
+    {0x007C, 0, 0}, {0x007D, 0, 0}, {0x00FC, 0, 0}, {0x017C, 0, 0},                 /* with all visual marks */
+    {0x007F, 0, 2}, {0x00FE, 0, 2}, {0x017E, 0, 2}, {0x00FD, 2, 2}, {0x017D, 2, 2}, {0x01FC, 2, 2}, {0xFFFF, 2, 2},
+};
+
+/* A host call without bytes, and key 268, which is done under locks too; after them all is put back. */
+static void want_both(const char *what, uint8_t wanted)
+{
+    want(what, make(HOST), wanted);
+    want(what, make(KEY), wanted);
+    put_back();
+}
+
+static void try_marks(const struct good *good)
+{
+    make_good(good);
+    size_t last = good->rows * good->columns - 1;
+    for (size_t i = 0; i < sizeof tried_marks / sizeof *tried_marks; i++) {
+        const size_t cells[] = {0, last / 2, last};
+        for (int j = 0; j < 3; j++) {
+            put_two_bytes(marks + 2 * cells[j], tried_marks[i].mark);
+            want_both("a cell's mark", tried_marks[i].in_cell);
+        }
+        put_two_bytes(record + PANEL_RECORD_PEN, tried_marks[i].mark);
+        want_both("the pen", tried_marks[i].in_pen);
+    }
+}
+
+/* On each of the nine pages, marks of the lengths that a program may take for theirs: 2 x R x C alone is right. */
+static void try_marks_lengths(void)
+{
+    static const size_t rows[] = {24, 27, 48}, columns[] = {80, 132, 160};
+    for (int size = 0; size < 9; size++) {
+        size_t cells = rows[size / 3] * columns[size % 3];
+        size_t all = 2 * cells;
+        const size_t lengths[] = {0, 1, 2, cells - 1, cells, cells + 1, all - 2, all - 1, all + 1, all + 2};
+        start(rows[size / 3], columns[size % 3]);
+        save();
+        want_both("marks of the right length", PANEL_DONE);
+        for (size_t i = 0; i < sizeof lengths / sizeof *lengths; i++) {
+            kept.length[MARKS] = lengths[i];
+            want_both("marks of a wrong length", PANEL_WRONG_SIZE);
+            want("start, marks of a wrong length", lend(START, rows[size / 3], columns[size % 3], &kept),
+                 PANEL_WRONG_SIZE);
+            put_back();
+        }
+    }
+}
+
+/* The record as it was before M-103, with a pen of one byte: its length tells it. */
+static void try_old_record(void)
+{
+    make_good(&goods[0]);
+    memmove(record + PANEL_RECORD_PEN + 1, record + PANEL_RECORD_PEN + 2, PANEL_RECORD_LENGTH - PANEL_RECORD_PEN - 2);
+    kept.length[RECORD] = 193;
+    want("an old record", make(START), PANEL_WRONG_STATE);
+    want("an old record", make(HOST), PANEL_WRONG_STATE);
+    want("an old record", make(KEY), PANEL_WRONG_STATE);
+    kept.length[RECORD] = PANEL_RECORD_LENGTH;
+    put_back();
+}
+
 /* Result, record and page slices of right and wrong lengths, with good and bad content, in every pairing. */
 static void try_lengths(void)
 {
-    static const size_t records[] = {0, 1, 192, 193, 194, 386}, results[] = {0, 1, 12, 13, 14, 26};
-    static const size_t pages[] = {0, 1919, 1920, 1921};
+    static const size_t records[] = {0, 1, 193, 194, 195, 388}, results[] = {0, 1, 12, 13, 14, 26};
+    static const size_t character_lengths[] = {0, 1919, 1920, 1921};
+    static const size_t mark_lengths[] = {0, 1920, 3838, 3839, 3840, 3841, 3842};
     make_good(&goods[0]);
-    for (int i = 0; i < 3 * 6 * 6 * 4 * 4 * 4; i++) {
+    for (int i = 0; i < 3 * 6 * 6 * 4 * 7 * 4; i++) {
         enum call call = (enum call)(i % 3);
         put_back();
         memset(record + PANEL_RECORD_LENGTH, 0, sizeof record - PANEL_RECORD_LENGTH);
         kept.length[RECORD] = records[i / 3 % 6];
         kept.length[RESULT] = results[i / 18 % 6];
-        kept.length[CHARACTERS] = pages[i / 108 % 4];
-        kept.length[MARKS] = pages[i / 432 % 4];
+        kept.length[CHARACTERS] = character_lengths[i / 108 % 4];
+        kept.length[MARKS] = mark_lengths[i / 432 % 7];
         characters[1920] = ' ';
-        marks[1920] = 0;
-        int content = i / 1728;
+        put_two_bytes(marks + 3840, 0);
+        int content = i / 3024;
         if (content == 1)
             record[PANEL_RECORD_SOFT] = 2;
         else if (content == 2)
@@ -471,6 +577,45 @@ static void try_every_key(void)
     }
 }
 
+/* A form, a key at its first cell, and the number: 8 where a character other than 20 would come into a cell that
+   doesn't take it, after 4, 5 and 7. */
+static const struct {
+    const char *fed;
+    size_t key;
+    uint8_t wanted;
+} tried_keys[] = {
+    {"\033[3o1\033V.\033[H", 'O', 8},         {"\033[3oO\033V.\033[H", 'O', 8},
+    {"\033[3oO\033V.\033[H", '0', 0},         {"\033[3oO\033V.\033[H", ' ', 0},
+    {"\033[3o1\033V.\033[H\200", 'O', 5},     {"\033[3o1\033V.\033[H\033`", 'O', 5},
+    {"\033[3o1\033V.\033[H", 31, 4},          {"\033[3o1\033V.\033[H", 127, 4},
+    {"\033[3o1\033V.\033[H", 255, 4},         {"\033[3o1\033V.\033[H", 256 + 'O', 4},
+    {"\033V.\033[3o1\033[H", 'O', 7},         {"\033V.\033[3o1\033[H", '0', 7},
+    {"\033[4oA\033V.\033[H", '0', 8},         {"\033[4oA\033V.\033[H", 'O', 0},
+    {"\033[3o1\033[0oA\033V.\033[H", 264, 8}, {"\033[3o1\033[0oA\033V.\033[H", 265, 0},
+    {"\033[0oA\033[3o1\033V.\033[H", 265, 8}, {"\033[0oA\033[3o1\033V.\033[H", 264, 0},
+    {"\033[3o1A\033V.\033[H", 264, 8},        {"\033[3oA1\033V.\033[H", 265, 8},
+    {"\033[3oA1\033V.\033[H", 264, 0},        {"\033[3o1A\033V.\033[H", 265, 0},
+    {"\033[3o1A\033V.\033[H\200", 264, 5},    {"\033[3oA1\033V.\033[H\200", 265, 5},
+    {"\033V.\033[3oAA\033[H", 264, 7},        {"\033V.\033[3oAA\033[H", 265, 7},
+    {"\033[3oAA\033V.\033[H", 263, 0},
+};
+
+static void try_not_taken(void)
+{
+    for (size_t i = 0; i < sizeof tried_keys / sizeof *tried_keys; i++) {
+        size_t key = tried_keys[i].key;
+        start(24, 80);
+        feed(tried_keys[i].fed);
+        save();
+        want("a key where not all is taken", lend(KEY, key, 0, &kept), tried_keys[i].wanted);
+        put_back();
+        put_two_bytes(marks + 2 * 24, 0x0180);
+        want("a key and a bad mark", lend(KEY, key, 0, &kept), PANEL_WRONG_STATE);
+        kept.length[MARKS]--;
+        want("a key, a bad mark and a wrong length", lend(KEY, key, 0, &kept), PANEL_WRONG_SIZE);
+    }
+}
+
 /* -- room */
 
 /* The stow form's fields, with the wind typed and the cursor in the last cell. It takes a hundred calls: made once. */
@@ -501,7 +646,7 @@ static void put_form(void)
     }
     memcpy(&saved, form, sizeof saved);
     put_back();
-    kept.length[CHARACTERS] = kept.length[MARKS] = 24 * 80;
+    lend_cells(24 * 80);
     kept.length[OUTPUT] = PANEL_ROOM;
 }
 
@@ -511,8 +656,8 @@ static size_t make_block(bool changed, char *block)
     size_t columns = two_bytes(PANEL_RECORD_COLUMNS), cells = kept.length[CHARACTERS], length = 0;
     for (size_t from = 0, to; from < cells; from = to + 1) {
         bool modified = false;
-        for (to = from; to < cells && !(marks[to] & PANEL_MARK_PROTECTED); to++)
-            modified = modified || marks[to] & PANEL_MARK_MODIFIED;
+        for (to = from; to < cells && !(mark_at(to) & PANEL_MARK_PROTECTED); to++)
+            modified = modified || mark_at(to) & PANEL_MARK_MODIFIED;
         if (to == from || (changed && !modified))
             continue;
         length += (size_t)sprintf(block + length, "\033[%zu;%zuf", from / columns + 1, from % columns + 1);
@@ -532,7 +677,7 @@ static void want_sent(const char *what, const char *wanted, size_t length)
 /* After a block no unprotected cell is modified; all else of the page stays. */
 static void want_sent_page(const char *what)
 {
-    for (size_t i = 0; i < kept.length[MARKS]; i++)
+    for (size_t i = 0; i < kept.length[MARKS]; i += 2) /* both are bits of the low byte */
         if (!(saved.marks[i] & PANEL_MARK_PROTECTED))
             saved.marks[i] &= (uint8_t)~PANEL_MARK_MODIFIED;
     want_page_as_saved(what);
@@ -633,8 +778,13 @@ int main(void)
     prepare();
     try_starts();
     try_lengths();
+    try_marks_lengths();
+    try_old_record();
+    try_marks(&goods[2]);
+    try_marks(&goods[7]);
     try_many_bytes();
     try_every_key();
+    try_not_taken();
     try_rooms();
     damage_cells();
     for (size_t i = 0; i < sizeof goods / sizeof *goods; i++)
