@@ -95,6 +95,25 @@ fn print_hex(bytes: &[u8]) {
     }
 }
 
+// At most 1,024 marks, four digits each.
+fn print_marks_piece(marks: &[Mark])
+    requires { ⌜ length (now marks) ≤ 1024 ⌝ }
+{
+    let mut text = io::buffer();
+    let end = numerals::put_hex_pairs(&mut text, 0, marks);
+    io::write_all(STDOUT_FILENO, &text[..end]);
+}
+
+fn print_marks(marks: &[Mark]) {
+    let mut from = 0;
+    while from < marks.len() {
+        let to = from + least(marks.len() - from, 1024);
+        print_marks_piece(&marks[from..to]);
+        from = to;
+    }
+    io::write_all(STDOUT_FILENO, b"\n");
+}
+
 fn print_line(bytes: &[u8]) {
     print_hex(bytes);
     io::write_all(STDOUT_FILENO, b"\n");
@@ -168,7 +187,7 @@ fn print_call(reply: Reply, out: &[u8], characters: &[u8], marks: &[Mark])
     print_changed(count_changed(&out[sent..]));
     print_state(reply.state);
     print_line(characters);
-    print_line(marks);
+    print_marks(marks);
 }
 
 fn refuse() {
@@ -378,9 +397,8 @@ fn set_room(held: Held, frame: &[u8]) -> Held
     }
 }
 
-// A character or a mark.
-fn set_cell(cells: &mut [u8], frame: &[u8])
-    requires { ⌜ length (now cells) ≡ 8192 ⌝ }
+fn set_character(characters: &mut [u8], frame: &[u8])
+    requires { ⌜ length (now characters) ≡ 8192 ⌝ }
 {
     if frame.len() != 4 {
         refuse();
@@ -391,14 +409,30 @@ fn set_cell(cells: &mut [u8], frame: &[u8])
         refuse();
         return;
     }
-    cells[place] = frame[3];
+    characters[place] = frame[3];
     confirm();
 }
 
-// Pen, message, kind, count and the byte beside the message are bytes.
+// A mark has two bytes.
+fn set_mark(marks: &mut [Mark], frame: &[u8])
+    requires { ⌜ length (now marks) ≡ 8192 ⌝ }
+{
+    if frame.len() != 5 {
+        refuse();
+        return;
+    }
+    let place = two(frame, 1);
+    if KEPT <= place {
+        refuse();
+        return;
+    }
+    page::set_mark(marks, place, two(frame, 3) as u16);
+    confirm();
+}
+
+// Message, kind, count and the byte beside the message are bytes.
 fn largest(part: usize) -> usize {
     match part {
-        4 => 255,
         8 => 255,
         9 => 255,
         11 => 255,
@@ -456,11 +490,11 @@ fn do_frame(held: Held, frame: &[u8], characters: &mut [u8], marks: &mut [Mark])
         0x24 => set_lengths(held, frame),
         0x25 => set_room(held, frame),
         0x26 => {
-            set_cell(characters, frame);
+            set_character(characters, frame);
             held
         }
         0x27 => {
-            set_cell(marks, frame);
+            set_mark(marks, frame);
             held
         }
         0x28 => set_part(held, frame),

@@ -45,7 +45,8 @@ partOf s part =
     else if eqb part 180 then s .locks .byte
     else 0
 
--- What a part of this number becomes where a part is set: only that one changes. A byte takes the value's low byte.
+-- What a part of this number becomes where a part is set: only that one changes. A part that is a byte takes the value's
+-- low byte.
 unfoldable pub chosen : {A : Type 0} → ℕ → ℕ → A → A → A
 chosen this part new old =
     if eqb part this then new
@@ -68,7 +69,7 @@ withPart s part value =
       cursor = record { row = chosen 2 part value (s .cursor .row); column = chosen 3 part value (s .cursor .column) };
       modes =
           record {
-            pen = chosen 4 part (value % 256) (s .modes .pen);
+            pen = chosen 4 part value (s .modes .pen);
             erasure = chosen 5 part (isOn value) (s .modes .erasure);
           };
       locks =

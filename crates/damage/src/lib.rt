@@ -1,4 +1,5 @@
 // The state's parts by number, so that a test can read and set any of them; see specs/Parts.antt.
+use page::Mark;
 use sequence::HalfRead;
 use state::Cursor;
 use state::Locks;
@@ -73,6 +74,15 @@ fn number_with(this: usize, part: usize, value: u16, number: usize) -> usize
     number
 }
 
+fn mark_with(this: usize, part: usize, value: u16, mark: Mark) -> Mark
+    ensures { λ r. ⌜ r ≡ chosen this part value mark ⌝ }
+{
+    if part == this {
+        return value;
+    }
+    mark
+}
+
 fn byte_with(this: usize, part: usize, value: u16, byte: u8) -> u8
     ensures { λ r. ⌜ r ≡ chosen this part (value % 256) byte ⌝ }
 {
@@ -135,7 +145,7 @@ pub fn with_part(state: State, part: usize, value: u16) -> State
             column: number_with(3, part, value, state.cursor.column),
         },
         modes: Modes {
-            pen: byte_with(4, part, value, state.modes.pen),
+            pen: mark_with(4, part, value, state.modes.pen),
             erasure: flag_with(5, part, value, state.modes.erasure),
         },
         locks: Locks {

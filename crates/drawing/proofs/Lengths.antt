@@ -1,6 +1,6 @@
 -- How long each line is, and the whole drawing.
 use mathlib.Core.Path.{_≡_, refl, sym, ap, _∙_}
-use mathlib.Core.Bool.{Bool, true, false}
+use mathlib.Core.Bool.{Bool, false}
 use mathlib.Core.List.{List, [], _++_, flatMap}
 use Prim.Native.Nat.{ℕ, zero, suc, _+_, _*_}
 use native.Mathlib.Nat.{zero-mul, suc-mul}
@@ -11,16 +11,15 @@ use Rattle.sequence.specs.declared.HalfRead.{HalfRead}
 use Rattle.state.specs.declared.Modes.{Modes}
 use Rattle.state.specs.declared.Locks.{Locks}
 use Rattle.state.specs.declared.State.{State}
-use Rattle.numerals.specs.Hexadecimal.{hexOf}
+use Rattle.numerals.specs.Hexadecimal.{hexPairs}
 use Rattle.words.specs.Text.{bytes}
 use Rattle.words.specs.Lists.{exactly}
 use Rattle.words.proofs.Elements.{exactly-length}
 use Rattle.words.proofs.Pieces.{flat-length}
-use Rattle.numerals.proofs.Digits.{hex-length}
-use Rattle.drawing.specs.Drawing.{lineEnd, stopOf, spaced, penLine, locksLine, allStops, stopsLine, allArguments, halfLine, stateLines, rowsOf, rowLine, rowLines, drawn}
-use Rattle.drawing.proofs.Lines.{hex-line, character-line}
+use Rattle.numerals.proofs.Digits.{pairs-length}
+use Rattle.drawing.specs.Drawing.{lineEnd, stopOf, spaced, penLine, locksLine, allStops, stopsLine, allArguments, halfLine, stateLines, rowsOf, characterLine, markLine, rowLines, drawn}
 
-pub pen-length : (modes : Modes) → length (penLine modes) ≡ 17
+pub pen-length : (modes : Modes) → length (penLine modes) ≡ 19
 unfolding penLine
 pen-length modes = refl
 
@@ -42,36 +41,36 @@ pub half-length : (half : HalfRead) → length (halfLine half) ≡ 90
 unfolding halfLine
 half-length half = simp (length-append, all-arguments-length (half .arguments))
 
-pub state-length : (state : State) → length (stateLines state) ≡ 348
+pub state-length : (state : State) → length (stateLines state) ≡ 350
 unfolding stateLines
 state-length state = simp (length-append, pen-length (state .modes), locks-length (state .locks), stops-length (state .stops), half-length (state .half))
 
 module _ (row : List ℕ) where
-  pub hex-line-length : {inHex : Bool} → inHex ≡ true → length (rowLine inHex row) ≡ length row * 2 + 2
-  hex-line-length h = rw (hex-line row h, length-append (bytes ":" ++ hexOf row) lineEnd, hex-length row) (omega arith)
+  pub mark-line-length : length (markLine row) ≡ 4 * length row + 2
+  mark-line-length = rw (length-append (bytes ":" ++ hexPairs row) lineEnd, pairs-length row) (omega arith)
 
-  pub character-line-length : {inHex : Bool} → inHex ≡ false → length (rowLine inHex row) ≡ length row + 3
-  character-line-length h = rw (character-line row h, length-append (bytes "|" ++ row) (bytes "|\n")) (omega arith)
+  pub character-line-length : length (characterLine row) ≡ length row + 3
+  character-line-length = rw (length-append (bytes "|" ++ row) (bytes "|\n")) (omega arith)
 
 -- Rows of one width have lines of one width.
-rows-length : (inHex : Bool) (columns width : ℕ) → ((row : List ℕ) → length row ≡ columns → length (rowLine inHex row) ≡ width) → (rows : ℕ) (cells : List ℕ) → length cells ≡ rows * columns → length (rowLines inHex rows columns cells) ≡ rows * width
+rows-length : (line : List ℕ → List ℕ) (columns width : ℕ) → ((row : List ℕ) → length row ≡ columns → length (line row) ≡ width) → (rows : ℕ) (cells : List ℕ) → length cells ≡ rows * columns → length (rowLines line rows columns cells) ≡ rows * width
 unfolding flatMap rowsOf
-rows-length inHex columns width each zero cells all = sym (zero-mul width)
-rows-length inHex columns width each (suc rows) cells all =
+rows-length line columns width each zero cells all = sym (zero-mul width)
+rows-length line columns width each (suc rows) cells all =
     let more : suc rows * columns ≡ rows * columns + columns = suc-mul rows columns in
     let row : length (take columns cells) ≡ columns = length-take-le columns cells (omega arith) in
     let rest : length (drop columns cells) ≡ rows * columns = length-drop columns cells ∙ (omega arith) in
-    rw (length-append (rowLine inHex (take columns cells)) (rowLines inHex rows columns (drop columns cells)), each (take columns cells) row, rows-length inHex columns width each rows (drop columns cells) rest, suc-mul rows width) (omega arith)
+    rw (length-append (line (take columns cells)) (rowLines line rows columns (drop columns cells)), each (take columns cells) row, rows-length line columns width each rows (drop columns cells) rest, suc-mul rows width) (omega arith)
 
 module _ (state : State) (characters marks : List ℕ) where
-  pub parts-length : length (drawn state characters marks) ≡ length (stateLines state) + length (rowLines false (state .size .rows) (state .size .columns) characters) + length (rowLines true (state .size .rows) (state .size .columns) marks)
+  pub parts-length : length (drawn state characters marks) ≡ length (stateLines state) + length (rowLines characterLine (state .size .rows) (state .size .columns) characters) + length (rowLines markLine (state .size .rows) (state .size .columns) marks)
   unfolding drawn
   parts-length = simp length-append
 
   -- For a caller's room.
-  pub drawn-length : length characters ≡ state .size .rows * state .size .columns → length marks ≡ state .size .rows * state .size .columns → length (drawn state characters marks) ≡ 348 + state .size .rows * (state .size .columns + 3) + state .size .rows * (2 * state .size .columns + 2)
+  pub drawn-length : length characters ≡ state .size .rows * state .size .columns → length marks ≡ state .size .rows * state .size .columns → length (drawn state characters marks) ≡ 350 + state .size .rows * (state .size .columns + 3) + state .size .rows * (4 * state .size .columns + 2)
   drawn-length c m =
       let columns = state .size .columns in
-      let shown = rows-length false columns (columns + 3) (λ row h. rw h at (character-line-length row refl)) (state .size .rows) characters c in
-      let hexed = rows-length true columns (2 * columns + 2) (λ row h. omega (arith, hex-line-length row refl)) (state .size .rows) marks m in
+      let shown = rows-length characterLine columns (columns + 3) (λ row h. rw h at (character-line-length row)) (state .size .rows) characters c in
+      let hexed = rows-length markLine columns (4 * columns + 2) (λ row h. rw h at (mark-line-length row)) (state .size .rows) marks m in
       rw (parts-length, state-length state, shown, hexed)

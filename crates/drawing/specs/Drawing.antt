@@ -1,13 +1,13 @@
 -- A terminal drawn as text: six lines for the state, then each row's characters, then each row's marks.
 --     size 00024 00080
 --     cursor 00001 00006
---     pen 00 erasure 0
+--     pen 0000 erasure 0
 --     manual 0 soft 0 message 00000 byte 00
 --     stops ....T...                                      (160 of them, column 1 first)
 --     half 00003 spoilt 0 count 00002 arguments 00001 00005 00000 00000 00000 00000 00000 00000
 --     |KN  .          |                                   (R lines)
---     :010100000100..                                     (R lines)
-use mathlib.Core.Bool.{Bool, true, false}
+--     :00010001000000800080..                             (R lines)
+use mathlib.Core.Bool.{Bool, false}
 use mathlib.Core.List.{List, [], _∷_, _++_, flatMap}
 use Prim.Native.Char.{code}
 use Prim.Native.Nat.{ℕ, zero, suc, _<_}
@@ -20,7 +20,7 @@ use Rattle.state.specs.declared.Locks.{Locks}
 use Rattle.state.specs.declared.State.{State}
 use Rattle.words.specs.Text.{bytes}
 use Rattle.numerals.specs.Text.{fiveDigits}
-use Rattle.numerals.specs.Hexadecimal.{hexByte, hexOf}
+use Rattle.numerals.specs.Hexadecimal.{hexByte, hexPair, hexPairs}
 
 abbrev pub lineEnd : List ℕ
 lineEnd = bytes "\n"
@@ -47,7 +47,7 @@ abbrev pub pairLine : List ℕ → ℕ → ℕ → List ℕ
 pairLine word first second = numbered word first ++ spaced second ++ lineEnd
 
 unfoldable pub penLine : Modes → List ℕ
-penLine modes = bytes "pen " ++ hexByte (modes .pen) ++ flagged (bytes " erasure ") (modes .erasure) ++ lineEnd
+penLine modes = bytes "pen " ++ hexPair (modes .pen) ++ flagged (bytes " erasure ") (modes .erasure) ++ lineEnd
 
 unfoldable pub locksLine : Locks → List ℕ
 locksLine locks =
@@ -90,20 +90,21 @@ unfoldable pub rowsOf : ℕ → ℕ → List ℕ → List (List ℕ)
 rowsOf columns zero cells = []
 rowsOf columns (suc rows) cells = take columns cells ∷ rowsOf columns rows (drop columns cells)
 
--- A row of marks, in hexadecimal; a row of characters, as they are.
-unfoldable pub rowLine : Bool → List ℕ → List ℕ
-rowLine inHex row =
-    if inHex then bytes ":" ++ hexOf row ++ lineEnd
-    else bytes "|" ++ row ++ bytes "|\n"
+-- A row of characters, as they are; a row of marks, in hexadecimal.
+abbrev pub characterLine : List ℕ → List ℕ
+characterLine row = bytes "|" ++ row ++ bytes "|\n"
 
-abbrev pub rowLines : Bool → ℕ → ℕ → List ℕ → List ℕ
-rowLines inHex rows columns cells = flatMap (rowLine inHex) (rowsOf columns rows cells)
+abbrev pub markLine : List ℕ → List ℕ
+markLine row = bytes ":" ++ hexPairs row ++ lineEnd
+
+abbrev pub rowLines : (List ℕ → List ℕ) → ℕ → ℕ → List ℕ → List ℕ
+rowLines line rows columns cells = flatMap line (rowsOf columns rows cells)
 
 unfoldable pub drawn : State → List ℕ → List ℕ → List ℕ
 drawn state characters marks =
     stateLines state
-    ++ rowLines false (state .size .rows) (state .size .columns) characters
-    ++ rowLines true (state .size .rows) (state .size .columns) marks
+    ++ rowLines characterLine (state .size .rows) (state .size .columns) characters
+    ++ rowLines markLine (state .size .rows) (state .size .columns) marks
 
 -- The numbers that could be large have five digits at most.
 pub record FiveDigitsEach (state : State) : Type 0 where

@@ -12,7 +12,7 @@ ghost use Rattle.words.specs.Choice.{if_then_else_};
 ghost use Rattle.words.specs.Output.{Wrote};
 ghost use Rattle.drawing.specs.Drawing.{numbered, flagged, spaced, pairLine, penLine, locksLine};
 ghost use Rattle.drawing.specs.Drawing.{allStops, stopsLine, allArguments, halfLine, stateLines};
-ghost use Rattle.drawing.specs.Drawing.{rowLine, rowLines, drawn, FiveDigitsEach};
+ghost use Rattle.drawing.specs.Drawing.{characterLine, markLine, rowLines, drawn, FiveDigitsEach};
 
 fn byte_if(test: bool, yes: u8, no: u8) -> u8
     ensures { λ r. ⌜ r ≡ (if test then yes else no) ⌝ }
@@ -50,11 +50,11 @@ fn put_pair(text: &mut [u8], at: usize, word: &[u8], first: usize, second: usize
 }
 
 fn put_modes(text: &mut [u8], at: usize, modes: Modes) -> usize
-    requires { ⌜ at + 17 ≤ length (now text) ⌝ }
+    requires { ⌜ at + 19 ≤ length (now text) ⌝ }
     ensures { λ r. ⌜ Wrote at (penLine modes) (now (text .entry)) r (now (text .exit)) ⌝ }
 {
     let pen = output::put_all(text, at, b"pen ");
-    let erasure = numerals::put_hex_byte(text, pen, modes.pen);
+    let erasure = numerals::put_hex_pair(text, pen, modes.pen);
     let end = put_flag(text, erasure, b" erasure ", modes.erasure);
     output::put_byte(text, end, b'\n')
 }
@@ -128,7 +128,7 @@ fn put_half(text: &mut [u8], at: usize, half: HalfRead) -> usize
 
 fn put_state(text: &mut [u8], at: usize, state: State) -> usize
     requires { ⌜ FiveDigitsEach state ⌝ }
-    requires { ⌜ at + 348 ≤ length (now text) ⌝ }
+    requires { ⌜ at + 350 ≤ length (now text) ⌝ }
     ensures { λ r. ⌜ Wrote at (stateLines state) (now (text .entry)) r (now (text .exit)) ⌝ }
 {
     let stops = state.stops;
@@ -146,32 +146,29 @@ fn put_state(text: &mut [u8], at: usize, state: State) -> usize
     put_half(text, half, state.half)
 }
 
-fn put_row(text: &mut [u8], at: usize, row: &[u8], in_hex: bool) -> usize
-    requires { ⌜ at + length (rowLine in_hex (now row)) ≤ length (now text) ⌝ }
-    ensures { λ r. ⌜ Wrote at (rowLine in_hex (now (row .entry))) (now (text .entry)) r (now (text .exit)) ⌝ }
+fn put_character_row(text: &mut [u8], at: usize, row: &[u8]) -> usize
+    requires { ⌜ at + length (now row) + 3 ≤ length (now text) ⌝ }
+    ensures { λ r. ⌜ Wrote at (characterLine (now (row .entry))) (now (text .entry)) r (now (text .exit)) ⌝ }
 {
-    if in_hex {
-        let digits = output::put_byte(text, at, b':');
-        let end = numerals::put_hex(text, digits, row);
-        return output::put_byte(text, end, b'\n');
-    }
     let characters = output::put_byte(text, at, b'|');
     let bar = output::put_all(text, characters, row);
     output::put_all(text, bar, b"|\n")
 }
 
-// A page's rows, as characters or, for marks, in hexadecimal.
-fn put_rows(
-    text: &mut [u8],
-    at: usize,
-    cells: &[u8],
-    rows: usize,
-    columns: usize,
-    in_hex: bool,
-) -> usize
+fn put_mark_row(text: &mut [u8], at: usize, row: &[Mark]) -> usize
+    requires { ⌜ at + 4 * length (now row) + 2 ≤ length (now text) ⌝ }
+    ensures { λ r. ⌜ Wrote at (markLine (now (row .entry))) (now (text .entry)) r (now (text .exit)) ⌝ }
+{
+    let digits = output::put_byte(text, at, b':');
+    let end = numerals::put_hex_pairs(text, digits, row);
+    output::put_byte(text, end, b'\n')
+}
+
+// A page's rows, as characters.
+fn put_character_rows(text: &mut [u8], at: usize, cells: &[u8], rows: usize, columns: usize) -> usize
     requires { ⌜ length (now cells) ≡ rows * columns ⌝ }
-    requires { ⌜ at + length (rowLines in_hex rows columns (now cells)) ≤ length (now text) ⌝ }
-    ensures { λ r. ⌜ Wrote at (rowLines in_hex rows columns (now (cells .entry)))
+    requires { ⌜ at + length (rowLines characterLine rows columns (now cells)) ≤ length (now text) ⌝ }
+    ensures { λ r. ⌜ Wrote at (rowLines characterLine rows columns (now (cells .entry)))
         (now (text .entry)) r (now (text .exit)) ⌝ }
 {
     let mut next = at;
@@ -179,7 +176,26 @@ fn put_rows(
     let mut left = rows;
     while 0 < left {
         let to = from + columns;
-        next = put_row(text, next, &cells[from..to], in_hex);
+        next = put_character_row(text, next, &cells[from..to]);
+        from = to;
+        left -= 1;
+    }
+    next
+}
+
+// Its marks, in hexadecimal.
+fn put_mark_rows(text: &mut [u8], at: usize, cells: &[Mark], rows: usize, columns: usize) -> usize
+    requires { ⌜ length (now cells) ≡ rows * columns ⌝ }
+    requires { ⌜ at + length (rowLines markLine rows columns (now cells)) ≤ length (now text) ⌝ }
+    ensures { λ r. ⌜ Wrote at (rowLines markLine rows columns (now (cells .entry)))
+        (now (text .entry)) r (now (text .exit)) ⌝ }
+{
+    let mut next = at;
+    let mut from = 0;
+    let mut left = rows;
+    while 0 < left {
+        let to = from + columns;
+        next = put_mark_row(text, next, &cells[from..to]);
         from = to;
         left -= 1;
     }
@@ -198,6 +214,6 @@ pub fn draw(state: State, characters: &[u8], marks: &[Mark], text: &mut [u8], at
     let rows = state.size.rows;
     let columns = state.size.columns;
     let first_row = put_state(text, at, state);
-    let first_marks = put_rows(text, first_row, characters, rows, columns, false);
-    put_rows(text, first_marks, marks, rows, columns, true)
+    let first_marks = put_character_rows(text, first_row, characters, rows, columns);
+    put_mark_rows(text, first_marks, marks, rows, columns)
 }

@@ -11,7 +11,7 @@ use Rattle.words.specs.Output.{placed, Wrote}
 use Rattle.words.proofs.Choosing.{one-holds, range-holds}
 use Rattle.words.proofs.Walking.{next-element}
 use Rattle.output.proofs.Digits.{twoDigits}
-use Rattle.numerals.specs.Hexadecimal.{isDigit, digitValue, hexByte, hexOf, pairsOf}
+use Rattle.numerals.specs.Hexadecimal.{isDigit, digitValue, hexByte, hexOf, hexPair, hexPairs, pairsOf}
 use Rattle.numerals.specs.Text.{fiveDigits}
 use Rattle.words.proofs.Pieces.{flat-append, flat-length}
 
@@ -32,6 +32,10 @@ is-digit digit is =
 -- Each byte has two digits.
 pub hex-length : (bytes : List ℕ) → length (hexOf bytes) ≡ 2 * length bytes
 hex-length bytes = omega (arith, flat-length hexByte 2 (λ _. refl) bytes)
+
+-- Each number of two bytes has four.
+pub pairs-length : (numbers : List ℕ) → length (hexPairs numbers) ≡ 4 * length numbers
+pairs-length numbers = omega (arith, flat-length hexPair 4 (λ _. refl) numbers)
 
 pub hex-append : (a b : List ℕ) → hexOf (a ++ b) ≡ hexOf a ++ hexOf b
 hex-append = flat-append hexByte

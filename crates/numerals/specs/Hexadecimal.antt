@@ -1,6 +1,6 @@
 -- Document 01, "Examples", the transcript program: upper-case hexadecimal, two digits a byte, the high one first.
 use mathlib.Core.Bool.{Bool}
-use mathlib.Core.List.{List, [], _∷_, flatMap}
+use mathlib.Core.List.{List, [], _∷_, _++_, flatMap}
 use Prim.Native.Nat.{ℕ, _+_, _-_, _*_, _/_, _%_}
 use Prim.Native.Char.{code}
 use lib.Dec.{eqb, ltb, leb}
@@ -28,6 +28,13 @@ hexByte byte = digitOf (byte / 16) ∷ digitOf (byte % 16) ∷ []
 
 abbrev pub hexOf : List ℕ → List ℕ
 hexOf bytes = flatMap hexByte bytes
+
+-- A number of two bytes, with four digits, the high byte first.
+abbrev pub hexPair : ℕ → List ℕ
+hexPair number = hexByte (number / 256) ++ hexByte (number % 256)
+
+abbrev pub hexPairs : List ℕ → List ℕ
+hexPairs numbers = flatMap hexPair numbers
 
 -- Digits as bytes: those that a text says, and none where it is not all whole bytes.
 unfoldable pub pairsOf : List ℕ → List ℕ

@@ -8,7 +8,7 @@ ghost use lib.ListN.{length, take};
 ghost use Rattle.words.specs.Lists.{every};
 ghost use Rattle.words.specs.Output.{Wrote};
 ghost use Rattle.numerals.specs.Hexadecimal.{isDigit, digitValue, digitOf, isHexadecimal};
-ghost use Rattle.numerals.specs.Hexadecimal.{hexByte, hexOf, pairsOf};
+ghost use Rattle.numerals.specs.Hexadecimal.{hexByte, hexOf, hexPair, hexPairs, pairsOf};
 ghost use Rattle.numerals.specs.Text.{fiveDigits};
 
 fn is_digit(byte: u8) -> bool
@@ -106,6 +106,29 @@ pub fn put_hex(text: &mut [u8], at: usize, bytes: &[u8]) -> usize
     let mut i = 0;
     while i < bytes.len() {
         next = put_hex_byte(text, next, bytes[i]);
+        i += 1;
+    }
+    next
+}
+
+// A number of two bytes as four digits.
+pub fn put_hex_pair(text: &mut [u8], at: usize, number: u16) -> usize
+    requires { ⌜ at + 4 ≤ length (now text) ⌝ }
+    ensures { λ r. ⌜ Wrote at (hexPair number) (now (text .entry)) r (now (text .exit)) ⌝ }
+{
+    let next = put_hex_byte(text, at, (number / 256) as u8);
+    put_hex_byte(text, next, (number % 256) as u8)
+}
+
+// Four digits for each number.
+pub fn put_hex_pairs(text: &mut [u8], at: usize, numbers: &[u16]) -> usize
+    requires { ⌜ at + 4 * length (now numbers) ≤ length (now text) ⌝ }
+    ensures { λ r. ⌜ Wrote at (hexPairs (now (numbers .entry))) (now (text .entry)) r (now (text .exit)) ⌝ }
+{
+    let mut next = at;
+    let mut i = 0;
+    while i < numbers.len() {
+        next = put_hex_pair(text, next, numbers[i]);
         i += 1;
     }
     next

@@ -14,14 +14,14 @@ put-state-requires c κs =
     let parts = parts-length (start .args .state) (start .args .characters .now) (start .args .marks .now) in
     (start .pre .0, omega (arith, parts, state-length (start .args .state)))
 
-put-rows-requires : tie.Need-put-rows-requires
-put-rows-requires c κs =
+put-character-rows-requires : tie.Need-put-character-rows-requires
+put-character-rows-requires c κs =
     let start = c .before .before .before .before .before .before .before .before in
     let parts = parts-length (start .args .state) (start .args .characters .now) (start .args .marks .now) in
     (start .pre .1 .0 .0, omega (arith, parts))
 
-put-rows-requires-2 : tie.Need-put-rows-requires-2
-put-rows-requires-2 c κs =
+put-mark-rows-requires : tie.Need-put-mark-rows-requires
+put-mark-rows-requires c κs =
     let start = c .before .before .before .before .before .before .before .before .before .before .before .before in
     let parts = parts-length (start .args .state) (start .args .characters .now) (start .args .marks .now) in
     (start .pre .1 .0 .1, omega (arith, parts))
@@ -31,14 +31,14 @@ unfolding drawn
 returns c =
     let start = c .before .before .before .before .before .before .before .before .before .before .before .before .before .before .before in
     let room : start .args .at ≤ length (start .args .text .now) = omega arith in
-    wrote-then room (wrote-then room (c .before .before .before .before .before .before .before .before .before .before .put-state .ensures) (c .before .before .before .before .before .before .put-rows .ensures)) (c .before .before .put-rows2 .ensures)
+    wrote-then room (wrote-then room (c .before .before .before .before .before .before .before .before .before .before .put-state .ensures) (c .before .before .before .before .before .before .put-character-rows .ensures)) (c .before .before .put-mark-rows .ensures)
 
 pub draw-spec : {M : Type 1} → statement M
 draw-spec =
     tie.close
     (tie.spec
     put-state-requires
-    put-rows-requires
-    put-rows-requires-2
+    put-character-rows-requires
+    put-mark-rows-requires
     (λ c. search needs)
     returns)

@@ -12,7 +12,7 @@ unfolding penLine
 returns c =
     let start = c .before .before .before .before .before .before .before .before .before .before .before .before .before .before .before .before .before .before .before in
     let room : start .args .at ≤ length (start .args .text .now) = omega arith in
-    wrote-then room (wrote-then room (wrote-then room (c .before .before .before .before .before .before .before .before .before .before .before .before .before .before .before .put-all .ensures) (c .before .before .before .before .before .before .before .before .before .before .before .put-hex-byte .ensures)) (c .before .before .before .before .before .before .put-flag .ensures)) (c .before .before .put-byte .ensures)
+    wrote-then room (wrote-then room (wrote-then room (c .before .before .before .before .before .before .before .before .before .before .before .before .before .before .before .put-all .ensures) (c .before .before .before .before .before .before .before .before .before .before .before .put-hex-pair .ensures)) (c .before .before .before .before .before .before .put-flag .ensures)) (c .before .before .put-byte .ensures)
 
 pub put-modes-spec : {M : Type 1} → statement M
 put-modes-spec =
