@@ -21,6 +21,6 @@ unfolding if_then_else_ _and_ _is_to_ every flagNumber firstParts partOf chosen 
 each-alone = refl
 
 -- a number, a byte, a flag, an argument, a tab stop and the last part set to 65,535; a part that there is not
-pub largest-set : partOf (withPart zeroState 0 65535) 0 ∷ partOf (withPart zeroState 4 65535) 4 ∷ partOf (withPart zeroState 5 65535) 5 ∷ partOf (withPart zeroState 19 65535) 19 ∷ partOf (withPart zeroState 179 65535) 179 ∷ partOf (withPart zeroState 180 65535) 180 ∷ partOf (withPart zeroState 181 65535) 181 ∷ [] ≡ 65535 ∷ 255 ∷ 1 ∷ 65535 ∷ 1 ∷ 255 ∷ 0 ∷ []
+pub largest-set : partOf (withPart zeroState 0 65535) 0 ∷ partOf (withPart zeroState 4 65535) 4 ∷ partOf (withPart zeroState 5 65535) 5 ∷ partOf (withPart zeroState 19 65535) 19 ∷ partOf (withPart zeroState 179 65535) 179 ∷ partOf (withPart zeroState 180 65535) 180 ∷ partOf (withPart zeroState 181 65535) 181 ∷ [] ≡ 65535 ∷ 65535 ∷ 1 ∷ 65535 ∷ 1 ∷ 255 ∷ 0 ∷ []
 unfolding if_then_else_ _and_ _is_to_ flagNumber firstParts partOf chosen argumentsWith stopsWith withPart
 largest-set = refl
