@@ -24,11 +24,11 @@ use Rattle.steps.specs.Steps.{Terminal, Stepped, Valid, refusing}
 use Rattle.steps.proofs.Soundness.{sized}
 use Rattle.table.specs.Table.{Allowed, allowed, valueOf}
 use Rattle.table.specs.Moves.{toColumn, toRow, toPlace, keptColumn, isMove, moveStep}
-use Rattle.table.specs.Settings.{tabControl, isVisual, rendition, setMode}
+use Rattle.table.specs.Settings.{tabControl, isArea, areaSet, areaQualified, isVisual, rendition, setMode}
 use Rattle.sending.specs.Sending.{readyReport, cursorReport, statusReport}
 use Rattle.commands.specs.Commands.{erasing, erasePart, listedStep}
 use Rattle.commands.proofs.Values.{zero-is-one}
-use Rattle.promises.specs.Reasons.{NoneOf, argumentsRead, NotAllowed, too-many, d-off-page, H-row-off-page, H-column-off-page, f-row-off-page, f-column-off-page, W-value, J-value, K-value, m-value, h-value, l-value, n-value, Shows}
+use Rattle.promises.specs.Reasons.{NoneOf, argumentsRead, NotAllowed, too-many, d-off-page, H-row-off-page, H-column-off-page, f-row-off-page, f-column-off-page, W-value, J-value, K-value, m-value, h-value, l-value, o-value, n-value, Shows}
 use Rattle.promises.proofs.FeedingRuns.{reading}
 
 pub data Weighed (t : Terminal) (final : ℕ) (step : Stepped) : Type 0 where
@@ -59,6 +59,23 @@ visual-listed value p none =
     (λ p. ⊎-elim (λ e. none .1 .1 .1 .0 (eqb-true value 5 e))
     (λ p. ⊎-elim (λ e. none .1 .1 .1 .1 .0 (eqb-true value 7 e)) (λ e. none .1 .1 .1 .1 .1 .0 (eqb-true value 8 e)) (one-holds p))
     (one-holds p)) (one-holds p)) (one-holds p)) (one-holds p)
+
+-- The values listed for o.
+not-area : (value : ℕ) → isArea value ≡ false → NoneOf (0 ∷ 1 ∷ 3 ∷ 4 ∷ []) value
+unfolding isArea NoneOf
+not-area value p =
+    let after-0 = neither p in
+    let after-1 = neither (after-0 .1) in
+    let after-3 = neither (after-1 .1) in
+    (eqb-false value 0 (after-0 .0), (eqb-false value 1 (after-1 .0), (eqb-false value 3 (after-3 .0), (eqb-false value 4 (after-3 .1), tt))))
+
+area-listed : (value : ℕ) → isArea value ≡ true → NoneOf (0 ∷ 1 ∷ 3 ∷ 4 ∷ []) value → ⊥
+unfolding isArea NoneOf
+area-listed value p none =
+    ⊎-elim (λ e. none .0 (eqb-true value 0 e))
+    (λ p. ⊎-elim (λ e. none .1 .0 (eqb-true value 1 e))
+    (λ p. ⊎-elim (λ e. none .1 .1 .0 (eqb-true value 3 e)) (λ e. none .1 .1 .1 .0 (eqb-true value 4 e)) (one-holds p))
+    (one-holds p)) (one-holds p)
 
 -- By letter: what is left that could not be allowed, where the arguments are few enough.
 module _ (t : Terminal) where
@@ -133,6 +150,10 @@ module _ (t : Terminal) where
   l-takes all few (too-many _ some more) = omega arith
   l-takes all few (l-value i here other) = other (eqb-true _ 6 (passes (λ value. eqb value 6) (argumentsRead half) all i here))
 
+  o-takes : (NoneOf (0 ∷ 1 ∷ 3 ∷ 4 ∷ []) (argumentOf half 0) → ⊥) → Few 0x6F → NotAllowed t 0x6F → ⊥
+  o-takes listed few (too-many _ some more) = omega arith
+  o-takes listed few (o-value none) = listed none
+
   n-takes : (NoneOf (5 ∷ 6 ∷ []) (argumentOf half 0) → ⊥) → Few 0x6E → NotAllowed t 0x6E → ⊥
   n-takes listed few (too-many _ some more) = omega arith
   n-takes listed few (n-value none) = listed none
@@ -200,6 +221,12 @@ module _ (t : Terminal) where
           (λ a. line (λ e. goes letter named (only (λ none. none .1 .0 (sym given ∙ eqb-true what 1 e))) refl)
           (λ b. line (λ e. goes letter named (only (λ none. none .1 .1 .0 (sym given ∙ eqb-true what 2 e))) refl)
           (λ c. refuses letter named (other (λ e. eqb-false what 0 a (given ∙ e), (λ e. eqb-false what 1 b (given ∙ e), (λ e. eqb-false what 2 c (given ∙ e), tt)))))))
+
+    area-weighed : (what : ℕ) → what ≡ argumentOf half 0 → eqb final 0x6F ≡ true → Weighed t final (areaQualified final what there)
+    unfolding areaQualified areaSet
+    area-weighed what given named =
+        line (λ listed. goes 0x6F named (o-takes (λ none. area-listed what listed (subst (NoneOf (0 ∷ 1 ∷ 3 ∷ 4 ∷ [])) (sym given) none))) refl)
+        (λ other. refuses 0x6F named (o-value (subst (NoneOf (0 ∷ 1 ∷ 3 ∷ 4 ∷ [])) given (not-area what other))))
 
     status-weighed : (what : ℕ) → what ≡ argumentOf half 0 → eqb final 0x6E ≡ true → Weighed t final (statusReport final what there)
     unfolding statusReport readyReport cursorReport NoneOf
@@ -340,9 +367,9 @@ module _ (t : Terminal) where
           (λ i. goes 0x5A (is-Z move a b c d e f g vpa h hvp i) Z-takes refl)))))))))))
 
       -- What is listed and none of the others is n.
-      is-n : 1 ≤ allowed final .most → isMove final ≡ false → eqb final 0x57 ≡ false → eqb final 0x4A ≡ false → eqb final 0x4B ≡ false → eqb final 0x6D ≡ false → eqb final 0x68 ≡ false → eqb final 0x6C ≡ false → eqb final 0x6E ≡ true
+      is-n : 1 ≤ allowed final .most → isMove final ≡ false → eqb final 0x57 ≡ false → eqb final 0x4A ≡ false → eqb final 0x4B ≡ false → eqb final 0x6F ≡ false → eqb final 0x6D ≡ false → eqb final 0x68 ≡ false → eqb final 0x6C ≡ false → eqb final 0x6E ≡ true
       unfolding allowed isMove
-      is-n some other w j k m h l =
+      is-n some other w j k o m h l =
           let letters = neither other in
           let after-z = neither (letters .1) in
           let vpa-hvp = neither (after-z .1) in
@@ -364,11 +391,12 @@ module _ (t : Terminal) where
           (λ _. either-line IsN _ _ _ (λ e _. absurd (⊎-elim (λ named. not-both named j) (λ named. not-both named k) (one-holds e)))
           (λ _. either-line IsN _ _ _ (λ e _. absurd (not-both e m))
           (λ _. either-line IsN _ _ _ (λ e _. absurd (⊎-elim (λ named. not-both named h) (λ named. not-both named l) (one-holds e)))
-          (λ _. either-line IsN _ _ _ (λ e _. e) (λ _ none. absurd (omega arith))))))))))))) some
+          (λ _. either-line IsN _ _ _ (λ e _. e)
+          (λ _. either-line IsN _ _ _ (λ e _. absurd (not-both e o)) (λ _ none. absurd (omega arith)))))))))))))) some
 
-      plain-letters : (allowed 0x57 .zeroIs ≡ 0) × (allowed 0x4A .zeroIs ≡ 0) × (allowed 0x4B .zeroIs ≡ 0) × (allowed 0x6E .zeroIs ≡ 0)
+      plain-letters : (allowed 0x57 .zeroIs ≡ 0) × (allowed 0x4A .zeroIs ≡ 0) × (allowed 0x4B .zeroIs ≡ 0) × (allowed 0x6F .zeroIs ≡ 0) × (allowed 0x6E .zeroIs ≡ 0)
       unfolding allowed if_then_else_ _and_ _or_ _is_to_
-      plain-letters = (refl, refl, refl, refl)
+      plain-letters = (refl, refl, refl, refl, refl)
 
       first-plain : (letter : ℕ) → eqb final letter ≡ true → allowed letter .zeroIs ≡ 0 → valueOf final (half .arguments) 0 ≡ argumentOf half 0
       first-plain letter named plain = value-plain 0 (zero-is letter 0 named plain)
@@ -380,7 +408,8 @@ module _ (t : Terminal) where
           (λ other. line (λ e. tab-weighed _ (first-plain 0x57 e (plain-letters .0)) e)
           (λ w. line (λ e. erase-weighed 0x4A e J-takes J-value _ _ _ (first-plain 0x4A e (plain-letters .1)))
           (λ j. line (λ e. erase-weighed 0x4B e K-takes K-value _ _ _ (first-plain 0x4B e (plain-letters .2)))
-          (λ k. line rendition-weighed
+          (λ k. line (λ e. area-weighed _ (first-plain 0x6F e (plain-letters .3)) e)
+          (λ o. line rendition-weighed
           (λ m. line (λ e. mode-weighed 0x68 e h-takes h-value true)
           (λ h. line (λ e. mode-weighed 0x6C e l-takes l-value false)
-          (λ l. let n = is-n some other w j k m h l in status-weighed _ (first-plain 0x6E n (plain-letters .3)) n)))))))
+          (λ l. let n = is-n some other w j k o m h l in status-weighed _ (first-plain 0x6E n (plain-letters .4)) n))))))))

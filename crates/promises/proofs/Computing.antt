@@ -1,11 +1,11 @@
 -- What is opened where something is computed from the definitions: each name stands for all that its line lists.
 use Rattle.words.specs.Choice.{if_then_else_, _and_, _or_, _is_to_}
-use Rattle.words.specs.Lists.{within, every, eachFrom, numbersFrom, onPart, selected}
+use Rattle.words.specs.Lists.{within, every, allFrom, eachFrom, numbersFrom, onPart, selected}
 use Rattle.words.specs.Output.{placed}
 use Rattle.sequence.specs.Record.{argumentsFit, largestArgument, validHalfRead, withDigit, withNextArgument}
 use Rattle.sequence.specs.Reading.{isControl, isCancel, outsideSequence, afterEsc, afterIntermediate, afterBracket, insideSequence, advanceOf}
-use Rattle.page.specs.Marks.{unprotected}
-use Rattle.page.specs.Page.{validPage, textStored, typed, tagged, blanked, markAfterBlock, modifiedCleared}
+use Rattle.page.specs.Marks.{validMark, numericTakes, alphabeticTakes, takes, unprotected}
+use Rattle.page.specs.Page.{validPage, textStored, typed, takesFromRight, takesFromLeft, tagged, blanked, closedUp, markAfterBlock, modifiedCleared}
 use Rattle.places.specs.Places.{placeOf}
 use Rattle.output.specs.Decimal.{decimal, placeBytes}
 use Rattle.fields.specs.Fields.{joined, startsField, fieldStart, endFrom, fieldEnd, fieldsFrom}
@@ -23,10 +23,11 @@ use Rattle.table.specs.Table.{allowed, valueOf}
 use Rattle.state.specs.Moves.{toNextCell}
 use Rattle.commands.specs.Text.{textStep}
 use Rattle.sending.specs.Sending.{sendBlock, readyReport, cursorReport, statusReport}
+use Rattle.table.specs.Settings.{penOfArea, areaSet}
 use Rattle.table.specs.Moves.{toPlace, keptColumn, isMove, moveStep}
 use Rattle.commands.specs.Commands.{escStep, listedStep, bracketStep}
 use Rattle.commands.specs.Host.{eventStep, hostStep}
-use Rattle.keys.specs.Keys.{isTyping, isEditing, isFieldMove, isKnown, isLocked, isLockedOut, lacksCell, goneTo, typedStep, fieldBlanked, keyStep}
+use Rattle.keys.specs.Keys.{isTyping, isEditing, isFieldMove, isKnown, isLocked, isLockedOut, lacksCell, isNotTaken, goneTo, typedStep, fieldBlanked, restShifted, takenStep, keyStep}
 use Rattle.terminal.specs.Runs.{stepsOf, fitting, after, bytesSentBy, cellsStoredBy, countOf, refusedBy, protectionBy}
 use Rattle.terminal.specs.Answers.{numberOf, unchanged, afterSteps, changesNothing, gives}
 use Rattle.terminal.specs.Tests.{firstOf, exceedsRoom, passesLine2, startLines, hostRefusals, keyRefusals, hostLines, keyLines}
@@ -40,7 +41,7 @@ unfolding if_then_else_ _and_ _or_ _is_to_
 tests = tt
 
 unfoldable pub validity : Unit {0}
-unfolding tests every argumentsFit largestArgument validHalfRead validPage validPen listedRows listedColumns listedSize sizeFits cursorFits stopsFit validMessage validState
+unfolding tests every argumentsFit largestArgument validHalfRead validMark validPage validPen listedRows listedColumns listedSize sizeFits cursorFits stopsFit validMessage validState
 validity = tt
 
 -- The bytes of a block whose fields are known, and a block laid over a copy.
@@ -59,11 +60,11 @@ finding = tt
 
 -- The steps of host bytes and of keys.
 unfoldable pub hostSteps : Unit {0}
-unfolding tests withDigit withNextArgument isControl isCancel outsideSequence afterEsc afterIntermediate afterBracket insideSequence advanceOf textStored markAfterBlock modifiedCleared eachFrom messageOf refused inputDisabled decimal placeBytes bytesOf blockTransmission allowed valueOf toPlace keptColumn toNextCell textStep sendBlock escStep readyReport cursorReport statusReport isMove moveStep listedStep bracketStep eventStep hostStep
+unfolding tests withDigit withNextArgument isControl isCancel outsideSequence afterEsc afterIntermediate afterBracket insideSequence advanceOf textStored markAfterBlock modifiedCleared eachFrom messageOf refused inputDisabled decimal placeBytes bytesOf blockTransmission allowed valueOf toPlace keptColumn toNextCell textStep sendBlock penOfArea areaSet escStep readyReport cursorReport statusReport isMove moveStep listedStep bracketStep eventStep hostStep
 hostSteps = tt
 
 unfoldable pub keySteps : Unit {0}
-unfolding tests within eachFrom numbersFrom onPart unprotected typed tagged blanked markAfterBlock modifiedCleared placeOf joined fieldStart endFrom fieldEnd orElse firstUnprotectedFrom firstUnprotected nextUnprotected onBy rightBy unlocked bytesOf blockTransmission sendBlock isTyping isEditing isFieldMove isKnown isLocked isLockedOut lacksCell goneTo typedStep fieldBlanked keyStep
+unfolding tests within eachFrom numbersFrom onPart allFrom numericTakes alphabeticTakes takes unprotected typed takesFromRight takesFromLeft tagged blanked closedUp markAfterBlock modifiedCleared placeOf joined fieldStart endFrom fieldEnd orElse firstUnprotectedFrom firstUnprotected nextUnprotected onBy rightBy unlocked bytesOf blockTransmission sendBlock isTyping isEditing isFieldMove isKnown isLocked isLockedOut lacksCell isNotTaken goneTo typedStep fieldBlanked restShifted takenStep keyStep
 keySteps = tt
 
 -- Calls, with all but their steps; and what several of them leave.

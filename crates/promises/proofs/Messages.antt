@@ -18,7 +18,7 @@ use Rattle.state.specs.Moves.{upBy, downBy, rightBy, leftBy, toMargin, toNextCe
 use Rattle.state.specs.Tabs.{stopSet, stopCleared, stopsCleared, tabbedOn, tabbedBack}
 use Rattle.steps.specs.Steps.{Terminal, Stepped}
 use Rattle.table.specs.Moves.{toColumn, toRow, toPlace, moveStep}
-use Rattle.table.specs.Settings.{tabControl, rendition, setMode}
+use Rattle.table.specs.Settings.{tabControl, areaSet, areaQualified, rendition, setMode}
 use Rattle.sending.specs.Sending.{sendBlock, readyReport, cursorReport, statusReport}
 use Rattle.commands.specs.Text.{textStep, lineDown, lineUp, nextLine, controlStep}
 use Rattle.commands.specs.Commands.{freshStep, escStep, erasing, erasePart, listedStep, bracketStep}
@@ -77,7 +77,7 @@ module _ (t : Terminal) where
 
     -- After ESC, but for c and b.
     esc-leaves : (byte : ℕ) → (byte ≡ 0x63 → ⊥) → (byte ≡ 0x62 → ⊥) → Leaves t (escStep byte here)
-    unfolding escStep stopSet sendBlock inputDisabled
+    unfolding escStep areaSet stopSet sendBlock inputDisabled
     esc-leaves byte not-c not-b =
         line _ _ _ line-down-leaves
         (line _ _ _ next-line-leaves
@@ -114,16 +114,17 @@ module _ (t : Terminal) where
     mode-leaves final on values = line _ _ _ (same refl refl) (refuses refl)
 
     listed-leaves : (final : ℕ) (arguments : List ℕ) (count : ℕ) → Leaves t (listedStep final arguments count here)
-    unfolding listedStep tabControl stopSet stopCleared stopsCleared rendition statusReport readyReport cursorReport
+    unfolding listedStep tabControl stopSet stopCleared stopsCleared areaQualified areaSet rendition statusReport readyReport cursorReport
     listed-leaves final arguments count =
         line _ _ _ (move-leaves final arguments)
         (line _ _ _ (line _ _ _ (same refl refl) (line _ _ _ (same refl refl) (line _ _ _ (same refl refl) (refuses refl))))
         (line _ _ _ (erase-leaves _ _ _ _)
         (line _ _ _ (erase-leaves _ _ _ _)
         (line _ _ _ (line _ _ _ (same refl refl) (refuses refl))
+        (line _ _ _ (line _ _ _ (same refl refl) (refuses refl))
         (line _ _ _ (mode-leaves _ _ _)
         (line _ _ _ (mode-leaves _ _ _)
-        (line _ _ _ (same refl refl) (line _ _ _ (same refl refl) (refuses refl)))))))))
+        (line _ _ _ (same refl refl) (line _ _ _ (same refl refl) (refuses refl))))))))))
 
     event-leaves : (byte : ℕ) (event : Event) → Tells (t .state .half) byte event → (Clears (t .state .half) byte → ⊥) → Leaves t (eventStep (t .state .half) event here)
     unfolding eventStep bracketStep Tells

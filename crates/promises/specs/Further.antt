@@ -3,16 +3,17 @@
 -- that none is empty, the wrong terminals show (crates/wrong).
 use mathlib.Core.Path.{_≡_}
 use mathlib.Core.Bool.{Bool, true, false}
-use mathlib.Core.List.{List, [], _∷_, map}
+use mathlib.Core.List.{List, [], _∷_, map, List·Memᴰ}
 use mathlib.Core.Logic.{_↔_}
 use Prim.Native.Nat.{ℕ, _*_, _<_, _≤_}
 use Prim.Native.Char.{code}
 use lib.ListN.{length, getD}
+use Rattle.page.specs.Marks.{isProtected, isNumeric, isAlphabetic}
 use Rattle.page.specs.Page.{Page, markAfterBlock}
 use Rattle.state.specs.declared.Size.{Size}
 use Rattle.state.specs.Lines.{Line1, Line2}
 use Rattle.steps.specs.Steps.{Terminal, fullBlock, blockTransmission, Valid}
-use Rattle.steps.specs.Seen.{seen, characterAt, unprotectedAt, modifiedAt, fieldsHere, blockHere}
+use Rattle.steps.specs.Seen.{seen, characterAt, unprotectedAt, modifiedAt, takesAt, fieldsHere, blockHere}
 use Rattle.steps.specs.Claims.{CellKept}
 use Rattle.terminal.specs.declared.Reply.{Reply}
 use Rattle.terminal.specs.Claims.{SameResult}
@@ -116,6 +117,19 @@ SendsBlocks rules =
     (t : Terminal) → Valid t → (input : Input) (full : Bool) (bytes : List ℕ) →
     (stepOf rules input t .transmission ≡ blockTransmission full bytes)
     ↔ (Asks t full input × (bytes ≡ blockHere full t))
+
+-- M-103. After any key each cell that it stored holds a character that the cell takes (20 is taken everywhere), and
+-- every cell keeps its bits 0, 7 and 8.
+pub record SameKind (before after : ℕ) : Type 0 where
+  pub protected : isProtected after ≡ isProtected before
+  pub numeric : isNumeric after ≡ isNumeric before
+  pub alphabetic : isAlphabetic after ≡ isAlphabetic before
+
+pub record KeysTake (rules : Rules) : Type 0 where
+  pub taken : (t : Terminal) → Valid t → (key cell : ℕ) → List·Memᴰ cell (rules .onKey key t .cells) →
+      takesAt t cell (characterAt (rules .onKey key t .terminal) cell) ≡ true
+  pub kinds : (t : Terminal) (key cell : ℕ) →
+      SameKind (getD (t .page .marks) cell 0) (getD (rules .onKey key t .terminal .page .marks) cell 0)
 
 -- No block that is sent exceeds 35,138 bytes.
 abbrev pub Bounded : Rules → Type 0

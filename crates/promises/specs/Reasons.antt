@@ -70,6 +70,7 @@ pub data NotAllowed (t : Terminal) : ℕ → Type 0 where
       → (getD (argumentsRead (t .state .half)) i 0 ≡ 6 → ⊥) → NotAllowed t (code "h")
   l-value : (i : ℕ) → i < length (argumentsRead (t .state .half))
       → (getD (argumentsRead (t .state .half)) i 0 ≡ 6 → ⊥) → NotAllowed t (code "l")
+  o-value : NoneOf (0 ∷ 1 ∷ 3 ∷ 4 ∷ []) (argumentOf (t .state .half) 0) → NotAllowed t (code "o")
   n-value : NoneOf (5 ∷ 6 ∷ []) (argumentOf (t .state .half) 0) → NotAllowed t (code "n")
 
 -- The four, in order.

@@ -1,6 +1,6 @@
--- Keys that change protected cells are caught by demand 2; blocks that clear too much or too little, by what a block
--- leaves.
-use mathlib.Core.Path.{refl}
+-- Keys that change protected cells are caught by demand 2, and those that bring a character where it isn't taken by
+-- `KeysTake`; blocks that clear too much or too little, by what a block leaves.
+use mathlib.Core.Path.{refl, sym}
 use mathlib.Core.Bool.{true}
 use mathlib.Core.List.{[], _∷_}
 use Prim.Native.Nat.{ℕ}
@@ -15,9 +15,9 @@ use Rattle.steps.specs.Steps.{Terminal, withState, Valid}
 use Rattle.words.specs.Text.{bytes}
 use Rattle.promises.specs.Rules.{byte, press}
 use Rattle.promises.specs.Demands.{KeysKeep}
-use Rattle.promises.specs.Further.{BlocksKeep}
+use Rattle.promises.specs.Further.{BlocksKeep, KeysTake}
 use Rattle.wrong.specs.Entries.{blanksRow, typesOnProtected}
-use Rattle.wrong.specs.Rules.{isBlock, clearsAllTags, unprotectsFirst, clearsLooks, keepsTags}
+use Rattle.wrong.specs.Rules.{isBlock, clearsAllTags, unprotectsFirst, clearsLooks, keepsTags, typesAnything, carriesAnything, makesPlain}
 use Rattle.promises.proofs.Sheets.{sheet, at}
 use Rattle.promises.proofs.Computing.{validity, hostSteps, keySteps, calls, streams}
 
@@ -76,3 +76,26 @@ unfolding validity keySteps streams isBlock
 clearsLooks-breaks-blocks-keep kept =
     let valid : Valid boldField = record { size = refl; state = refl; page = refl } in
     eqb-false 0 4 refl (kept boldField valid (press 267) true (block true 80 (boldField .page)) refl .marks 0)
+
+-- A field of one numeric cell and a plain one, with a 1 and an A.
+abbrev mixedField : Terminal
+mixedField = at 1 (sheet (bytes "1A   ") (0x80 ∷ 0 ∷ 1 ∷ 1 ∷ 1 ∷ []))
+
+-- O typed into the numeric cell.
+pub typesAnything-breaks-keys-take : KeysTake typesAnything → ⊥
+unfolding validity keySteps
+typesAnything-breaks-keys-take kept =
+    let valid : Valid mixedField = record { size = refl; state = refl; page = refl } in
+    true-is-not-false (sym (kept .taken mixedField valid (code "O") 0 here))
+
+-- 264 there carries the A into it.
+pub carriesAnything-breaks-keys-take : KeysTake carriesAnything → ⊥
+unfolding validity keySteps
+carriesAnything-breaks-keys-take kept =
+    let valid : Valid mixedField = record { size = refl; state = refl; page = refl } in
+    true-is-not-false (sym (kept .taken mixedField valid 264 0 here))
+
+-- A digit typed into it leaves it plain.
+pub makesPlain-breaks-keys-take : KeysTake makesPlain → ⊥
+unfolding validity keySteps
+makesPlain-breaks-keys-take kept = true-is-not-false (sym (kept .kinds mixedField (code "3") 0 .numeric))

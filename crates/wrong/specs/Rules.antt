@@ -4,11 +4,11 @@ use mathlib.Core.Bool.{Bool, true, false, not}
 use mathlib.Core.List.{List, [], _∷_, _++_, map, flatMap}
 use Prim.Native.Nat.{ℕ, _+_, _-_, _%_}
 use lib.Dec.{eqb, leb}
-use lib.ListN.{length, take, drop, set, replicate}
+use lib.ListN.{length, take, drop, getD, set, replicate}
 use Rattle.words.specs.Choice.{if_then_else_, _and_, _is_to_}
 use Rattle.words.specs.Lists.{selected}
 use Rattle.sequence.specs.declared.Reason.the-variants.{UnknownCommand}
-use Rattle.page.specs.Marks.{isProtected, withoutModified}
+use Rattle.page.specs.Marks.{withoutBits, isProtected, withoutModified}
 use Rattle.page.specs.Page.{Page, pageOf}
 use Rattle.fields.specs.Fields.{Field}
 use Rattle.blocks.specs.Blocks.{encode}
@@ -19,7 +19,7 @@ use Rattle.steps.specs.Steps.{cursorCell, withState, refusing}
 use Rattle.steps.specs.Seen.{cellsHere, characterAt, unprotectedAt, modifiedAt, fieldsHere, entryHere, blockHere}
 use Rattle.table.specs.Table.{allowed}
 use Rattle.commands.specs.Host.{hostStep}
-use Rattle.keys.specs.Keys.{isTyping, keyStep}
+use Rattle.keys.specs.Keys.{isTyping, takenStep, keyStep}
 use Rattle.terminal.specs.declared.Answer.the-variants.{NoRoom}
 use Rattle.terminal.specs.Runs.{fitting}
 use Rattle.terminal.specs.Answers.{Outcome, gives}
@@ -34,12 +34,12 @@ withOnByte onByte = record { onByte = onByte; onKey = keyStep }
 abbrev withOnKey : (ℕ → Terminal → Stepped) → Rules
 withOnKey onKey = record { onByte = hostStep; onKey = onKey }
 
--- A key call that does another step, after lines 1, 2, 4, 5 and 7; entries whose keys follow other rules.
+-- A key call that does another step, after lines 1, 2, 4, 5, 7 and 8; entries whose keys follow other rules.
 abbrev pub keyCallBy : (ℕ → Terminal → Stepped) → Terminal → ℕ → List ℕ → Outcome
 keyCallBy onKey t key output =
     let room = length output in
     let pressed = onKey key t ∷ [] in
-    let lines = take 5 (keyLines t key output) ++ (exceedsRoom room pressed answers NoRoom ∷ []) in
+    let lines = take 6 (keyLines t key output) ++ (exceedsRoom room pressed answers NoRoom ∷ []) in
     gives (firstOf lines) 0 t output (fitting room pressed)
 
 abbrev pub keysBy : Rules → Entries
@@ -165,6 +165,25 @@ locksNothing = withOnByte (λ b t.
     let unlocked : Locks = record { manual = left .manual; soft = soft; message = left .message; byte = left .byte } in
     if step .wasRefused then leavingLocks unlocked step
     else step)
+
+-- Keys take. A character is typed into any unprotected cell,
+abbrev pub typesAnything : Rules
+typesAnything = withOnKey (λ key t. if isTyping key then takenStep key t else keyStep key t)
+
+-- 264 carries characters without asking the cells that they come to,
+abbrev pub carriesAnything : Rules
+carriesAnything = withOnKey (λ key t. if eqb key 264 then takenStep key t else keyStep key t)
+
+-- or a typed character makes its cell plain.
+abbrev plainly : Terminal → Stepped → Stepped
+plainly t step =
+    let marks = step .terminal .page .marks in
+    let cell = cursorCell (t .state) in
+    let page = pageOf (step .terminal .page .characters) (set marks cell (withoutBits 7 9 (getD marks cell 0))) in
+    stores (step .cells) (step .protection) (step .terminal .state) page
+
+abbrev pub makesPlain : Rules
+makesPlain = withOnKey (λ key t. if isTyping key then plainly t (keyStep key t) else keyStep key t)
 
 -- Message and byte. Text clears them,
 abbrev pub textClears : Rules
