@@ -1,5 +1,5 @@
--- The definitions of the commands, computed on streams worked out by hand from document 01, each from a fresh page of
--- 24 by 80. (What they leave in the cells is shown in Cells.)
+-- The definitions of the commands, computed on streams worked out by hand from documents 01 and 02, each from a fresh
+-- page of 24 by 80. (What they leave in the cells is shown in Cells.)
 use mathlib.Core.Path.{_≡_, refl}
 use mathlib.Core.List.{List, [], _∷_, _++_, map}
 use mathlib.Core.Bool.{Bool, true, false}
@@ -131,6 +131,19 @@ examples =
     ∷ gives (esc "[4m" ++ esc "V" ++ esc "[1;99m") 1 1 (refusedAs 2 (code "m")) 9 0 []
     ∷ gives (esc "[4m" ++ esc "V" ++ esc "[0m") 1 1 accepted 1 0 []
     ∷ gives (esc "[4m" ++ esc "V" ++ esc "W") 1 1 accepted 8 0 []
+    -- M-103: 3 o is numeric and 4 o alphabetic, in place of what was; 0 m keeps it; ESC V and 1 o protect, ESC W, 0 o and
+    -- o alone do not, and each takes the kind off; 2 o, 5 o and two arguments are refused and leave the pen
+    ∷ gives (esc "[4m" ++ esc "[3o") 1 1 accepted 0x88 0 []
+    ∷ gives (esc "[4m" ++ esc "[3o" ++ esc "[004o") 1 1 accepted 0x108 0 []
+    ∷ gives (esc "[4m" ++ esc "[4o" ++ esc "[0m") 1 1 accepted 0x100 0 []
+    ∷ gives (esc "[3o" ++ esc "V") 1 1 accepted 1 0 []
+    ∷ gives (esc "[4m" ++ esc "[4o" ++ esc "[1o") 1 1 accepted 9 0 []
+    ∷ gives (esc "[3o" ++ esc "W") 1 1 accepted 0 0 []
+    ∷ gives (esc "[4o" ++ esc "[o") 1 1 accepted 0 0 []
+    ∷ gives (esc "[1o" ++ esc "[4o") 1 1 accepted 0x100 0 []
+    ∷ gives (esc "[3o" ++ esc "[2o") 1 1 (refusedAs 2 (code "o")) 0x80 0 []
+    ∷ gives (esc "[5o") 1 1 (refusedAs 2 (code "o")) 0 0 []
+    ∷ gives (esc "[3;o") 1 1 (refusedAs 2 (code "o")) 0 0 []
     -- a tab stop, on to it and back to it
     ∷ gives (at4x20 ++ esc "H" ++ (0x0D ∷ 0x09 ∷ [])) 4 20 accepted 0 0 []
     ∷ gives (at4x20 ++ esc "H" ++ esc "[9C" ++ esc "[Z") 4 20 accepted 0 0 []

@@ -2,7 +2,7 @@
 -- `KeysTake`; blocks that clear too much or too little, by what a block leaves.
 use mathlib.Core.Path.{refl, sym}
 use mathlib.Core.Bool.{true}
-use mathlib.Core.List.{[], _∷_}
+use mathlib.Core.List.{[], _∷_, List·Memᴰ·head}
 use Prim.Native.Nat.{ℕ}
 use Prim.Native.Char.{code}
 use borrow.Author.Tests.{eqb-false}
@@ -86,14 +86,14 @@ pub typesAnything-breaks-keys-take : KeysTake typesAnything → ⊥
 unfolding validity keySteps
 typesAnything-breaks-keys-take kept =
     let valid : Valid mixedField = record { size = refl; state = refl; page = refl } in
-    true-is-not-false (sym (kept .taken mixedField valid (code "O") 0 here))
+    true-is-not-false (sym (kept .taken mixedField valid (code "O") 0 (List·Memᴰ·head refl)))
 
 -- 264 there carries the A into it.
 pub carriesAnything-breaks-keys-take : KeysTake carriesAnything → ⊥
 unfolding validity keySteps
 carriesAnything-breaks-keys-take kept =
     let valid : Valid mixedField = record { size = refl; state = refl; page = refl } in
-    true-is-not-false (sym (kept .taken mixedField valid 264 0 here))
+    true-is-not-false (sym (kept .taken mixedField valid 264 0 (List·Memᴰ·head refl)))
 
 -- A digit typed into it leaves it plain.
 pub makesPlain-breaks-keys-take : KeysTake makesPlain → ⊥
