@@ -14,7 +14,7 @@ use Rattle.words.proofs.Choosing.{both, both-hold, then-case, either-line}
 use Rattle.words.proofs.Pieces.{flat-length}
 use Rattle.page.specs.Marks.{validMark}
 use Rattle.record.specs.Bytes.{numberBytes, numberAt, AreBytes, readEach}
-use Rattle.record.proofs.Reading.{first-read}
+use Rattle.record.proofs.Reading.{length-each, first-read}
 use Rattle.record.proofs.RoundTrip.{many, number-back, each-back, numbers-again, all-again}
 use Rattle.panel.specs.Panel.{marksSaid, marksIn, markBytes}
 
@@ -65,6 +65,13 @@ mark-bytes-length = flat-length (numberBytes 2) 2 (λ _. refl)
 pub marks-again : (cells : ℕ) (bytes : List ℕ) → AreBytes bytes → cells ≤ 7680 → length bytes ≡ cells * 2 → markBytes (marksIn cells bytes) ≡ bytes
 marks-again cells bytes are most two =
     rw (all-said cells (length bytes) most two) (all-again bytes are 2 cells two)
+
+-- So a call that changes none leaves the bytes as they were, however many there are.
+pub marks-unchanged : (cells : ℕ) (bytes : List ℕ) → AreBytes bytes → placed 0 (markBytes (marksIn cells bytes)) bytes ≡ bytes
+marks-unchanged cells bytes are =
+    let count = marksSaid cells (length bytes) in
+    let as-many = length-each (numberAt 2 bytes) 2 0 count in
+    sym (said-already bytes (marksIn cells bytes) are (rw as-many (said-there cells (length bytes))) (ap (readEach (numberAt 2 bytes) 2 0) as-many))
 
 -- Marks that are in range are read back.
 marks-fit : (marks : List ℕ) → every validMark marks ≡ true → (mark : ℕ) → List·Memᴰ mark marks → mark < many 2

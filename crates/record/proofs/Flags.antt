@@ -3,12 +3,12 @@ use mathlib.Core.Path.{_≡_, refl, sym, ap, _∙_}
 use mathlib.Core.Bool.{Bool, true, false}
 use mathlib.Core.List.{List, [], _∷_, _++_, flatMap}
 use mathlib.Core.Logic.{_↔_, ⊎-elim}
-use Prim.Native.Nat.{ℕ, zero, suc, _+_, _*_, _-_, _/_, _%_, _<_, _≤_}
+use Prim.Native.Nat.{ℕ, zero, suc, _+_, _-_, _<_, _≤_}
 use native.Mathlib.Omega.{arith}
 use borrow.Author.Tests.{eqb-true}
 use lib.Dec.{eqb}
 use lib.ListN.{length, getD, length-append}
-use lib.Seq.{getD-append-add, ext-getD}
+use lib.Seq.{getD-append-add}
 use Rattle.words.specs.Choice.{if_then_else_, _or_}
 use Rattle.words.specs.Lists.{exactly}
 use Rattle.words.proofs.Choosing.{one-holds, range-holds, range-is}

@@ -15,7 +15,7 @@ ghost use mathlib.Core.Path.{_≡_};
 ghost use Prim.Native.Nat.{_+_, _%_, _<_, _≤_};
 ghost use lib.ListN.{length, getD};
 ghost use Rattle.words.specs.Output.{Wrote};
-ghost use Rattle.record.specs.Bytes.{numberBytes, numberAt, flagByte, flagAt, readEach, sameBytes};
+ghost use Rattle.record.specs.Bytes.{numberAt, flagByte, flagAt, readEach, sameBytes};
 ghost use Rattle.record.specs.Record.{firstBytes, argumentBytes, stopBytes, recordOf, stateIn, isGood};
 
 // Where each part of the state stands in the record.
