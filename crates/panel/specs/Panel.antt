@@ -1,20 +1,22 @@
 -- Document 02, M-100: what the three functions that C calls give back and leave.
 use mathlib.Core.Path.{_≡_}
 use mathlib.Core.Bool.{not}
-use mathlib.Core.List.{List, [], _∷_, _++_}
-use Prim.Native.Nat.{ℕ}
-use lib.Dec.{eqb, ltb}
+use mathlib.Core.List.{List, [], _∷_, _++_, flatMap}
+use Prim.Native.Nat.{ℕ, _*_}
+use lib.Dec.{eqb, leb, ltb}
 use lib.ListN.{length}
-use Rattle.words.specs.Choice.{if_then_else_}
+use Rattle.words.specs.Choice.{if_then_else_, _and_}
+use Rattle.words.specs.Output.{placed}
 use Rattle.page.specs.Page.{Page, pageOf}
 use Rattle.state.specs.Tests.{sizeFits}
 use Rattle.steps.specs.Steps.{Terminal}
 use Rattle.terminal.specs.Answers.{Outcome}
 use Rattle.terminal.specs.Calls.{startCall, hostCall, keyCall}
-use Rattle.record.specs.Bytes.{numberBytes}
+use Rattle.record.specs.Bytes.{numberBytes, numberAt, readEach}
 use Rattle.record.specs.Record.{recordLength, recordOf, stateIn, isGood}
 
--- What is lent to a call, each slice by its bytes: the state's record (packed), characters, marks, output, results.
+-- What is lent to a call, each slice by its bytes: the state's record (packed), characters, marks (M-103: two bytes a
+-- cell), output, results.
 pub record Lent : Type 0 where
   pub packed : List ℕ
   pub characters : List ℕ
@@ -39,9 +41,27 @@ unfoldable pub resultBytes : ℕ → ℕ → ℕ → ℕ → List ℕ
 resultBytes number taken sent stored =
     (number ∷ []) ++ numberBytes 4 taken ++ numberBytes 4 sent ++ numberBytes 4 stored
 
+-- The most cells that a page has, 48 x 160.
+abbrev pub mostCells : ℕ
+mostCells = 7680
+
+-- How many marks so many bytes say for a page of so many cells: one for each cell, where the bytes are two for each.
+-- Else none, and then line 1 is given: no listed size has no cells.
+unfoldable pub marksSaid : ℕ → ℕ → ℕ
+marksSaid cells bytes =
+    if leb cells mostCells and eqb bytes (cells * 2) then cells
+    else 0
+
+-- The marks that bytes say for a page of so many cells, each the low byte first; and the bytes of marks.
+abbrev pub marksIn : ℕ → List ℕ → List ℕ
+marksIn cells bytes = readEach (numberAt 2 bytes) 2 0 (marksSaid cells (length bytes))
+
+abbrev pub markBytes : List ℕ → List ℕ
+markBytes marks = flatMap (numberBytes 2) marks
+
 -- The page that is lent, and the terminal that the record and the page say.
 abbrev pub pageIn : Lent → Page
-pageIn lent = pageOf (lent .characters) (lent .marks)
+pageIn lent = pageOf (lent .characters) (marksIn (length (lent .characters)) (lent .marks))
 
 abbrev pub terminalIn : Lent → Terminal
 terminalIn lent = record { state = stateIn (lent .packed); page = pageIn lent }
@@ -56,16 +76,16 @@ refusedWith number lent =
     let left = lentOf (lent .packed) (lent .characters) (lent .marks) (lent .output) (resultBytes number 0 0 0) in
     record { number = number; lent = left }
 
--- What an entry gave and left.
-abbrev pub leftBy : Outcome → Left
-leftBy outcome =
+-- What an entry gave and left. (Marks of another length than the cells' are left as they were lent: none are written.)
+abbrev pub leftBy : Lent → Outcome → Left
+leftBy lent outcome =
     record {
       number = outcome .number;
       lent =
           record {
             packed = recordOf (outcome .terminal .state);
             characters = outcome .terminal .page .characters;
-            marks = outcome .terminal .page .marks;
+            marks = placed 0 (markBytes (outcome .terminal .page .marks)) (lent .marks);
             output = outcome .output;
             result = resultBytes (outcome .number) (outcome .taken) (outcome .sent) (outcome .stored);
           };
@@ -90,7 +110,7 @@ unfoldable pub panelStart : ℕ → ℕ → Lent → Left
 panelStart rows columns lent =
     let wrong = wrongLength (lent .packed) (lent .result) in
     if ltb 0 wrong then untouched wrong lent
-    else leftBy (startCall (record { rows = rows; columns = columns }) (pageIn lent))
+    else leftBy lent (startCall (record { rows = rows; columns = columns }) (pageIn lent))
 
 -- A call on the terminal that the record and the page say.
 unfoldable pub onTerminal : (Terminal → Outcome) → Lent → Left
@@ -99,7 +119,7 @@ onTerminal call lent =
     let bad = wrongContent (lent .packed) (pageIn lent) in
     if ltb 0 wrong then untouched wrong lent
     else if ltb 0 bad then refusedWith bad lent
-    else leftBy (call (terminalIn lent))
+    else leftBy lent (call (terminalIn lent))
 
 unfoldable pub panelHost : Lent → List ℕ → Left
 panelHost lent bytes = onTerminal (λ t. hostCall t bytes (lent .output)) lent

@@ -76,11 +76,18 @@ first-done (done outcome later number further) = number
 later-done : {outcome : Outcome} {later : List Outcome} → AllDone (outcome ∷ later) → AllDone later
 later-done (done outcome later number further) = further
 
--- Steps keep a terminal valid.
+-- Steps keep a terminal valid, and its size.
 pub steps-keep-valid : (rules : Rules) → StepLaws rules → (t : Terminal) → Valid t → (inputs : List Input) → Valid (after t (steps rules t inputs))
 unfolding steps after
 steps-keep-valid rules laws t valid [] = valid
 steps-keep-valid rules laws t valid (input ∷ later) = steps-keep-valid rules laws (stepOf rules input t .terminal) (laws .every-step input t valid .valid) later
+
+pub steps-keep-size : (rules : Rules) → StepLaws rules → (t : Terminal) → Valid t → (inputs : List Input) → after t (steps rules t inputs) .state .size ≡ t .state .size
+unfolding steps after
+steps-keep-size rules laws t valid [] = refl
+steps-keep-size rules laws t valid (input ∷ later) =
+    let law = laws .every-step input t valid in
+    steps-keep-size rules laws (stepOf rules input t .terminal) (law .valid) later ∙ law .size
 
 module _ (rules : Rules) (entries : Entries) (kept : Keeps rules entries) where
   pub calls-are-steps-of : CallsAreSteps rules entries

@@ -23,6 +23,7 @@ pub mod FeedingCells
 pub mod FeedingText
 pub mod FeedingFields
 pub mod Feeding
+pub mod PanelPages
 pub mod Panels
 pub mod PanelCalls
 pub mod Theorems

@@ -1,7 +1,7 @@
 -- Validity through calls, the field that a start leaves, and that no key changes a protected cell: by the laws alone.
 use mathlib.Core.Path.{_≡_, refl, sym, ap, _∙_, subst}
 use mathlib.Core.Bool.{true, false, not}
-use mathlib.Core.List.{List, []}
+use mathlib.Core.List.{List, [], _∷_}
 use Prim.Native.Nat.{ℕ, _*_, _<_}
 use native.Mathlib.Nat.{mul-le-mul}
 use native.Mathlib.Omega.{arith}
@@ -26,16 +26,16 @@ use Rattle.steps.proofs.Storing.{blank-page-valid}
 use Rattle.terminal.specs.Runs.{after}
 use Rattle.terminal.specs.Lines.{startTable, Decides, this-holds, not-this}
 use Rattle.promises.specs.Rules.{Rules, press, stepOf, Total}
-use Rattle.promises.specs.Entries.{Entries, inputsDone}
+use Rattle.promises.specs.Entries.{Entries, Call, outcomeOf, outcomes, total, inputsDone}
 use Rattle.promises.specs.Demands.{KeysKeep}
 use Rattle.promises.specs.Further.{StaysValid, StartsWithOneField}
 use Rattle.promises.proofs.Laws.{StepLaws, Keeps}
 use Rattle.promises.proofs.Keeping.{same-size, protected-kept, past-unprotected}
 use Rattle.promises.proofs.Doing.{key-valid}
-use Rattle.promises.proofs.Calling.{steps-keep-valid, calls-are-steps-of}
+use Rattle.promises.proofs.Calling.{steps-keep-valid, steps-keep-size, calls-are-steps-of}
 
 -- Where line 1 doesn't decide a start, the page has the size asked for.
-start-fits : {size : Size} {page : Page} {n : ℕ} → Decides (startTable size page) n → n ≡ 0 → sizeFits size page ≡ true
+pub start-fits : {size : Size} {page : Page} {n : ℕ} → Decides (startTable size page) n → n ≡ 0 → sizeFits size page ≡ true
 start-fits (this-holds _ _ holds) zero = absurd (omega (arith, zero))
 start-fits {size} {page} (not-this _ _ _ no-1 rest) zero =
     either-way (sizeFits size page) (λ fits. fits) (λ wrong. absurd (no-1 (line-1 size page .0 wrong)))
@@ -51,6 +51,15 @@ fresh-page-valid size page blank fits is = subst (λ (blank : Page). Valid (reco
 fresh-unprotected : (all cell : ℕ) → cell < all → unprotected (replicate all 0) cell ≡ true
 unfolding unprotected
 fresh-unprotected all cell here = ap (λ (mark : ℕ). not (isProtected mark)) (getD-replicate all cell 0 0 here)
+
+-- A call leaves a valid terminal of the same size.
+abbrev pub KeepsSize : Entries → Type 0
+KeepsSize entries = (call : Call) (t : Terminal) → Valid t → outcomeOf entries call t .terminal .state .size ≡ t .state .size
+
+-- A call leaves a valid terminal valid.
+pub call-stays-valid : (entries : Entries) → StaysValid entries → (call : Call) (t : Terminal) → Valid t → Valid (outcomeOf entries call t .terminal)
+unfolding outcomes total
+call-stays-valid entries stays call t valid = stays .through-calls t valid (call ∷ [])
 
 module _ (rules : Rules) (laws : StepLaws rules) (entries : Entries) (kept : Keeps rules entries) where
   started-valid : (size : Size) (page : Page) → entries .start size page .number ≡ 0 → Valid (entries .start size page .terminal)
@@ -70,6 +79,12 @@ module _ (rules : Rules) (laws : StepLaws rules) (entries : Entries) (kept : Kee
         subst Valid (sym (ap (λ (all : Total). all .terminal) (calls-are-steps-of rules entries kept t calls)))
         (steps-keep-valid rules laws t valid (inputsDone entries t calls));
   }
+
+  pub keeps-size-of : KeepsSize entries
+  unfolding outcomes total
+  keeps-size-of call t valid =
+      ap (λ (all : Total). all .terminal .state .size) (calls-are-steps-of rules entries kept t (call ∷ []))
+      ∙ steps-keep-size rules laws t valid (inputsDone entries t (call ∷ []))
 
   -- On a fresh page every cell is unprotected.
   pub starts-with-one-field-of : StartsWithOneField entries

@@ -14,7 +14,7 @@ use Rattle.promises.specs.Further.{AllSame, OneResult, SameEntries, OneT
 use Rattle.promises.proofs.OurLaws.{our-step-laws, our-keeps}
 use Rattle.promises.proofs.Doing.{by-the-table}
 use Rattle.promises.proofs.OnlyOne.{same-entries}
-use Rattle.promises.proofs.Staying.{stays-valid-of, starts-with-one-field-of, keys-keep-of}
+use Rattle.promises.proofs.Staying.{KeepsSize, stays-valid-of, keeps-size-of, starts-with-one-field-of, keys-keep-of}
 use Rattle.promises.proofs.Calling.{calls-are-steps-of, continuing-of, cutting-of, same-however-cut-of}
 use Rattle.promises.proofs.Feeding.{our-feeding-back}
 use Rattle.promises.proofs.Sending.{blocks-keep-of, bounded-of, progress-of}
@@ -118,13 +118,19 @@ message-stays = our-message-stays
 pub one-record : OneRecord ourCoding
 one-record = our-one-record
 
+keeps-size : KeepsSize ourEntries
+keeps-size = keeps-size-of ourRules our-step-laws ourEntries our-keeps
+
+as-called : AsCalled ourEntries ourPanel
+as-called = our-as-called our-keeps stays-valid keeps-size
+
 pub panel-kept : PanelKept ourRules ourEntries ourPanel
 panel-kept = record {
   numbers = our-panel-numbers demand-1;
   refusals = our-panel-refusals demand-1;
-  as-called = our-as-called;
-  as-called-on = our-as-called-on stays-valid our-as-called;
-  leaves-valid = our-leaves-valid demand-1 valid-by-the-table stays-valid;
+  as-called = as-called;
+  as-called-on = our-as-called-on stays-valid as-called;
+  leaves-valid = our-leaves-valid our-keeps valid-by-the-table stays-valid keeps-size;
 }
 
 -- Numbers, refusals and `AsCalled` leave one panel.

@@ -1,13 +1,15 @@
--- What was written as bytes, wherever it stands, is read back.
-use mathlib.Core.Path.{_≡_, refl, ap, _∙_}
+-- What was written as bytes, wherever it stands, is read back; and numbers that were read are written again as they were.
+use mathlib.Core.Path.{_≡_, refl, sym, ap, _∙_}
 use mathlib.Core.Bool.{Bool, true, false}
 use mathlib.Core.List.{List, [], _∷_, _++_, append-assoc, flatMap, List·Memᴰ, List·Memᴰ·head, List·Memᴰ·tail}
 use Prim.Native.Nat.{ℕ, zero, suc, _+_, _*_, _/_, _%_, _<_}
+use native.Mathlib.Nat.{add-comm, zero-mul, suc-mul}
 use native.Mathlib.Omega.{arith}
 use lib.ListN.{length, getD, length-append}
 use lib.Seq.{getD-append-seam}
 use Rattle.words.specs.Choice.{if_then_else_}
-use Rattle.record.specs.Bytes.{numberBytes, numberAt, flagByte, flagBytes, flagAt, readEach}
+use Rattle.record.specs.Bytes.{numberBytes, numberAt, AreBytes, flagByte, flagBytes, flagAt, readEach}
+use Rattle.record.proofs.Reading.{whole-read, split-read}
 
 -- As many numbers as so many bytes can say.
 unfoldable pub many : ℕ → ℕ
@@ -47,3 +49,34 @@ module _ {A : Type 0} (write : A → List ℕ) (read : List ℕ → ℕ → A) (
       let later : readEach (read (before ++ (write x ++ rest))) width (length before + width) (length list) ≡ list =
       rw (regrouped, longer) at (each-back list (λ y among. fit y (List·Memᴰ·tail among)) (before ++ write x) after) in
       rw first (λ i. here i ∷ later i)
+
+-- The other way, for every width.
+low-again : (low rest : ℕ) → low < 256 → (low + 256 * rest) % 256 ≡ low
+low-again low rest h = omega arith
+
+rest-again : (low rest : ℕ) → low < 256 → (low + 256 * rest) / 256 ≡ rest
+rest-again low rest h = omega arith
+
+module _ (bytes : List ℕ) (are : AreBytes bytes) where
+  abbrev byte : ℕ → ℕ
+  byte k = getD bytes k 0
+
+  pub number-again : (width at : ℕ) → numberBytes width (numberAt width bytes at) ≡ readEach byte 1 at width
+  unfolding numberBytes numberAt readEach
+  number-again zero at = refl
+  number-again (suc width) at =
+      let rest = numberAt width bytes (at + 1) in
+      (λ i. low-again (byte at) rest (are at) i ∷ numberBytes width (rest-again (byte at) rest (are at) i))
+      ∙ ap (λ (l : List ℕ). byte at ∷ l) (number-again width (at + 1))
+
+  pub numbers-again : (width at n : ℕ) → flatMap (numberBytes width) (readEach (numberAt width bytes) width at n) ≡ readEach byte 1 at (n * width)
+  unfolding readEach flatMap
+  numbers-again width at zero = rw (zero-mul width)
+  numbers-again width at (suc n) =
+      (λ i. number-again width at i ++ numbers-again width (at + width) n i)
+      ∙ sym (split-read byte at width (n * width))
+      ∙ ap (readEach byte 1 at) (add-comm width (n * width) ∙ sym (suc-mul n width))
+
+  -- All the bytes, where they are so many numbers.
+  pub all-again : (width n : ℕ) → length bytes ≡ n * width → flatMap (numberBytes width) (readEach (numberAt width bytes) width 0 n) ≡ bytes
+  all-again width n all = numbers-again width 0 n ∙ (rw all at (whole-read bytes))

@@ -17,7 +17,7 @@ use Rattle.sequence.specs.Record.{largestArgument, argumentsFit, validHalfRead}
 use Rattle.state.specs.declared.State.{State}
 use Rattle.state.specs.State.{Arrays, zeroState}
 use Rattle.state.specs.Tests.{listedSize, validState}
-use Rattle.state.proofs.Keeping.{size-bounds, on-page, parts}
+use Rattle.state.proofs.Keeping.{size-bounds, on-page, parts, pen-range}
 use Rattle.record.specs.Bytes.{numberBytes, numberAt, flagByte, flagBytes, flagAt, readEach}
 use Rattle.record.specs.Record.{firstBytes, argumentBytes, stopBytes, recordOf, stateIn, Good, isGood}
 use Rattle.record.proofs.Lengths.{first-length, arguments-length}
@@ -43,34 +43,35 @@ arguments-fit half =
     (λ _ v. each-argument-fits (half .count) 0 (half .arguments) (both v .1))
     (λ _ v. each-argument-fits 0 0 (half .arguments) (both (both v .1) .1)))
 
-two-bytes-fit : (n : ℕ) → n ≤ 9999 → n < many 2
+two-bytes-fit : (n : ℕ) → n < 65536 → n < many 2
 unfolding many
 two-bytes-fit n h = omega arith
 
-two-back : (n : ℕ) → n ≤ 9999 → n % 256 + 256 * (n / 256 % 256 + 256 * 0) ≡ n
+two-back : (n : ℕ) → n < 65536 → n % 256 + 256 * (n / 256 % 256 + 256 * 0) ≡ n
 two-back n h = omega arith
 
 flag-here : (flag : Bool) → flagAt (flagBytes flag) 0 ≡ flag
 flag-here flag = flag-back flag [] []
 
 module _ (s : State) (listed : listedSize (s .size) ≡ true) (valid : validState s ≡ true) (has : Arrays s) where
-  arguments-back : readEach (numberAt 2 (recordOf s)) 2 17 8 ≡ s .half .arguments
+  arguments-back : readEach (numberAt 2 (recordOf s)) 2 18 8 ≡ s .half .arguments
   unfolding recordOf numberBytes
   arguments-back =
       let arguments = s .half .arguments in
       let eight = exactly-these 0 arguments (has .arguments) in
+      let argument-fits : (n : ℕ) → List·Memᴰ n arguments → n < 65536 = λ n among. let most = arguments-fit (s .half) (parts s valid .half) n among in omega arith in
       let grouped : recordOf s ≡ firstBytes s ++ (flatMap (numberBytes 2) arguments ++ stopBytes (s .stops)) =
       append-assoc (firstBytes s) (argumentBytes arguments) (stopBytes (s .stops)) ∙ ap (λ (l : List ℕ). firstBytes s ++ (flatMap (numberBytes 2) l ++ stopBytes (s .stops))) eight in
       rw grouped
-      (rw (first-length s, has .arguments) at (each-back (numberBytes 2) (numberAt 2) 2 (λ _. refl) (λ n. n < many 2) (λ n fits before after. number-back 2 n fits before after) arguments (λ n among. two-bytes-fit n (arguments-fit (s .half) (parts s valid .half) n among)) (firstBytes s) (stopBytes (s .stops))))
+      (rw (first-length s, has .arguments) at (each-back (numberBytes 2) (numberAt 2) 2 (λ _. refl) (λ n. n < many 2) (λ n fits before after. number-back 2 n fits before after) arguments (λ n among. two-bytes-fit n (argument-fits n among)) (firstBytes s) (stopBytes (s .stops))))
 
-  stops-back : readEach (flagAt (recordOf s)) 1 33 160 ≡ s .stops
+  stops-back : readEach (flagAt (recordOf s)) 1 34 160 ≡ s .stops
   unfolding recordOf
   stops-back =
       let stops = s .stops in
       let all = exactly-these false stops (has .stops) in
       let before = firstBytes s ++ argumentBytes (s .half .arguments) in
-      let long : length before ≡ 33 = length-append (firstBytes s) (argumentBytes (s .half .arguments)) ∙ (λ i. first-length s i + arguments-length (s .half .arguments) i) in
+      let long : length before ≡ 34 = length-append (firstBytes s) (argumentBytes (s .half .arguments)) ∙ (λ i. first-length s i + arguments-length (s .half .arguments) i) in
       let grouped : recordOf s ≡ before ++ (flatMap flagBytes stops ++ []) =
       ap (λ (l : List Bool). before ++ flatMap flagBytes l) all ∙ ap (λ (l : List ℕ). before ++ l) (sym (append-nil (flatMap flagBytes stops))) in
       rw grouped
@@ -82,10 +83,11 @@ module _ (s : State) (listed : listedSize (s .size) ≡ true) (valid : validStat
   reads-back =
       let bounds = size-bounds (s .size) listed in
       let cursor = on-page s listed valid in
+      let pen = pen-range (s .modes .pen) (parts s valid .pen) .0 in
       (λ i. record {
         size = record { rows = two-back (s .size .rows) (omega arith) i; columns = two-back (s .size .columns) (omega arith) i };
         cursor = record { row = two-back (s .cursor .row) (omega arith) i; column = two-back (s .cursor .column) (omega arith) i };
-        modes = record { pen = s .modes .pen; erasure = flag-here (s .modes .erasure) i };
+        modes = record { pen = two-back (s .modes .pen) (omega arith) i; erasure = flag-here (s .modes .erasure) i };
         locks = record { manual = flag-here (s .locks .manual) i; soft = flag-here (s .locks .soft) i; message = s .locks .message; byte = s .locks .byte };
         stops = stops-back i;
         half = record { kind = s .half .kind; arguments = arguments-back i; count = s .half .count; spoilt = flag-here (s .half .spoilt) i };
@@ -102,11 +104,11 @@ pub one-record : (one other : List ℕ) → Good one → Good other → stateIn 
 one-record one other good other-good same = sym good ∙ ap recordOf same ∙ other-good
 
 -- The record of the all-zero state is all zeros.
-pub zeros : recordOf zeroState ≡ replicate 193 0
+pub zeros : recordOf zeroState ≡ replicate 194 0
 unfolding recordOf firstBytes numberBytes flagByte exactly flatMap if_then_else_
 zeros = refl
 
 -- What bytes say has the arrays of the code, whatever they are.
 pub said-arrays : (bytes : List ℕ) → Arrays (stateIn bytes)
 unfolding stateIn
-said-arrays bytes = record { stops = length-each (flagAt bytes) 1 33 160; arguments = length-each (numberAt 2 bytes) 2 17 8 }
+said-arrays bytes = record { stops = length-each (flagAt bytes) 1 34 160; arguments = length-each (numberAt 2 bytes) 2 18 8 }

@@ -1,7 +1,7 @@
 -- Document 02, M-100: how numbers and flags stand in bytes.
 use mathlib.Core.Bool.{Bool, true, false}
 use mathlib.Core.List.{List, [], _∷_}
-use Prim.Native.Nat.{ℕ, zero, suc, _+_, _*_, _/_, _%_}
+use Prim.Native.Nat.{ℕ, zero, suc, _+_, _*_, _/_, _%_, _<_}
 use lib.Dec.{eqb}
 use lib.ListN.{getD}
 use Rattle.words.specs.Choice.{if_then_else_, _and_}
@@ -15,6 +15,10 @@ numberBytes (suc width) number = number % 256 ∷ numberBytes width (number / 25
 unfoldable pub numberAt : ℕ → List ℕ → ℕ → ℕ
 numberAt zero bytes at = 0
 numberAt (suc width) bytes at = getD bytes at 0 + 256 * numberAt width bytes (at + 1)
+
+-- Bytes as the code has them: each is below 256.
+abbrev pub AreBytes : List ℕ → Type 0
+AreBytes bytes = (place : ℕ) → getD bytes place 0 < 256
 
 -- A flag is one byte, 0 or 1. Any other byte is read as 0 is.
 unfoldable pub flagByte : Bool → ℕ

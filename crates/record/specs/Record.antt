@@ -1,25 +1,25 @@
--- Document 02, M-100: the state as a record of 193 bytes. docs/PANEL.md has the same layout for who writes C.
---     0  rows, 2 columns, 4 the cursor's row, 6 its column           two bytes each
---     8  pen, 9 erasure mode
---     10 manual lock, 11 soft lock, 12 message, 13 byte
---     14 kind of the half-read sequence, 15 its spoilt flag, 16 its count of arguments
---     17 its eight arguments                                         two bytes each
---     33 the tab stops of columns 1 to 160                           a flag each
+-- Document 02, M-100: the state as a record of 194 bytes. docs/PANEL.md has the same layout for who writes C.
+--     0  rows, 2 columns, 4 the cursor's row, 6 its column, 8 pen    two bytes each
+--     10 erasure mode
+--     11 manual lock, 12 soft lock, 13 message, 14 byte
+--     15 kind of the half-read sequence, 16 its spoilt flag, 17 its count of arguments
+--     18 its eight arguments                                         two bytes each
+--     34 the tab stops of columns 1 to 160                           a flag each
 -- Nothing is reserved: where a later request adds to the state the record is longer, and an old one is refused.
 use mathlib.Core.Bool.{Bool, true, false}
 use mathlib.Core.List.{List, [], _∷_, _++_, flatMap}
 use mathlib.Core.Path.{_≡_}
-use Prim.Native.Nat.{ℕ, _<_, _≤_}
+use Prim.Native.Nat.{ℕ, _≤_}
 use lib.Dec.{eqb}
 use lib.ListN.{length, getD}
 use Rattle.words.specs.Choice.{_or_, _is_to_}
 use Rattle.words.specs.Lists.{exactly}
 use Rattle.state.specs.declared.State.{State}
 use Rattle.record.specs.Bytes.{numberBytes, numberAt, flagByte, flagBytes, flagAt, readEach}
-use Rattle.record.specs.Bytes.{sameBytes}
+use Rattle.record.specs.Bytes.{AreBytes, sameBytes}
 
 abbrev pub recordLength : ℕ
-recordLength = 193
+recordLength = 194
 
 -- The bytes of a state.
 unfoldable pub firstBytes : State → List ℕ
@@ -28,8 +28,8 @@ firstBytes s =
     ++ numberBytes 2 (s .size .columns)
     ++ numberBytes 2 (s .cursor .row)
     ++ numberBytes 2 (s .cursor .column)
-    ++ s .modes .pen
-    ∷ flagByte (s .modes .erasure)
+    ++ numberBytes 2 (s .modes .pen)
+    ++ flagByte (s .modes .erasure)
     ∷ flagByte (s .locks .manual)
     ∷ flagByte (s .locks .soft)
     ∷ s .locks .message
@@ -54,21 +54,21 @@ stateIn bytes =
     record {
       size = record { rows = numberAt 2 bytes 0; columns = numberAt 2 bytes 2 };
       cursor = record { row = numberAt 2 bytes 4; column = numberAt 2 bytes 6 };
-      modes = record { pen = getD bytes 8 0; erasure = flagAt bytes 9 };
+      modes = record { pen = numberAt 2 bytes 8; erasure = flagAt bytes 10 };
       locks =
           record {
-            manual = flagAt bytes 10;
-            soft = flagAt bytes 11;
-            message = getD bytes 12 0;
-            byte = getD bytes 13 0;
+            manual = flagAt bytes 11;
+            soft = flagAt bytes 12;
+            message = getD bytes 13 0;
+            byte = getD bytes 14 0;
           };
-      stops = readEach (flagAt bytes) 1 33 160;
+      stops = readEach (flagAt bytes) 1 34 160;
       half =
           record {
-            kind = getD bytes 14 0;
-            arguments = readEach (numberAt 2 bytes) 2 17 8;
-            count = getD bytes 16 0;
-            spoilt = flagAt bytes 15;
+            kind = getD bytes 15 0;
+            arguments = readEach (numberAt 2 bytes) 2 18 8;
+            count = getD bytes 17 0;
+            spoilt = flagAt bytes 16;
           };
     }
 
@@ -82,12 +82,12 @@ isGood bytes = sameBytes bytes (recordOf (stateIn bytes))
 
 -- The places that hold a flag.
 unfoldable pub holdsFlag : ℕ → Bool
-holdsFlag place = eqb place 9 or eqb place 10 or eqb place 11 or eqb place 15 or place is 33 to 192
+holdsFlag place = eqb place 10 or eqb place 11 or eqb place 12 or eqb place 16 or place is 34 to 193
 
--- Bytes as the code has them, as many as a record has: each is below 256.
+-- Bytes as the code has them, as many as a record has.
 pub record AsLent (bytes : List ℕ) : Type 0 where
   pub as-many : length bytes ≡ recordLength
-  pub is-byte : (place : ℕ) → getD bytes place 0 < 256
+  pub are-bytes : AreBytes bytes
 
 -- Every flag is 0 or 1.
 abbrev pub FlagsRight : List ℕ → Type 0

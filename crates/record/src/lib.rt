@@ -1,4 +1,10 @@
 // Document 02, M-100: the state as a record of bytes, written and read; see specs/Record.antt.
+mod numbers;
+
+pub use numbers::put_numbers;
+pub use numbers::read_numbers;
+pub use numbers::says_numbers;
+use page::Mark;
 use sequence::HalfRead;
 use state::Cursor;
 use state::Locks;
@@ -9,7 +15,7 @@ ghost use mathlib.Core.Path.{_≡_};
 ghost use Prim.Native.Nat.{_+_, _%_, _<_, _≤_};
 ghost use lib.ListN.{length, getD};
 ghost use Rattle.words.specs.Output.{Wrote};
-ghost use Rattle.record.specs.Bytes.{numberBytes, numberAt, flagByte, flagAt, readEach, sameBytes};
+ghost use Rattle.record.specs.Bytes.{numberAt, flagByte, flagAt, readEach, sameBytes};
 ghost use Rattle.record.specs.Record.{firstBytes, argumentBytes, stopBytes, recordOf, stateIn, isGood};
 
 // Where each part of the state stands in the record.
@@ -23,28 +29,28 @@ const COLUMN: usize = 6;
 
 const PEN: usize = 8;
 
-const ERASURE: usize = 9;
+const ERASURE: usize = 10;
 
-const MANUAL: usize = 10;
+const MANUAL: usize = 11;
 
-const SOFT: usize = 11;
+const SOFT: usize = 12;
 
-const MESSAGE: usize = 12;
+const MESSAGE: usize = 13;
 
-const BYTE: usize = 13;
+const BYTE: usize = 14;
 
-const KIND: usize = 14;
+const KIND: usize = 15;
 
-const SPOILT: usize = 15;
+const SPOILT: usize = 16;
 
-const COUNT: usize = 16;
+const COUNT: usize = 17;
 
-const ARGUMENTS: usize = 17;
+const ARGUMENTS: usize = 18;
 
-const STOPS: usize = 33;
+const STOPS: usize = 34;
 
 // As many bytes as a record has.
-pub const LENGTH: usize = 193;
+pub const LENGTH: usize = 194;
 
 // The lowest byte of a number.
 pub fn low_byte(number: usize) -> u8
@@ -66,6 +72,7 @@ fn flag_byte(flag: bool) -> u8
 fn first_bytes(state: State) -> [u8; ARGUMENTS]
     ensures { λ r. ⌜ r ≡ firstBytes state ⌝ }
 {
+    let pen = state.modes.pen as usize;
     [
         low_byte(state.size.rows),
         low_byte(state.size.rows / 256),
@@ -75,7 +82,8 @@ fn first_bytes(state: State) -> [u8; ARGUMENTS]
         low_byte(state.cursor.row / 256),
         low_byte(state.cursor.column),
         low_byte(state.cursor.column / 256),
-        state.modes.pen,
+        low_byte(pen),
+        low_byte(pen / 256),
         flag_byte(state.modes.erasure),
         flag_byte(state.locks.manual),
         flag_byte(state.locks.soft),
@@ -87,26 +95,11 @@ fn first_bytes(state: State) -> [u8; ARGUMENTS]
     ]
 }
 
-fn put_argument(bytes: &mut [u8], at: usize, argument: u16) -> usize
-    requires { ⌜ at + 2 ≤ length (now bytes) ⌝ }
-    ensures { λ r. ⌜ Wrote at (numberBytes 2 argument) (now (bytes .entry)) r (now (bytes .exit)) ⌝ }
-{
-    let number = argument as usize;
-    let high = output::put_byte(bytes, at, low_byte(number));
-    output::put_byte(bytes, high, low_byte(number / 256))
-}
-
 fn put_arguments(bytes: &mut [u8], at: usize, arguments: [u16; 8]) -> usize
     requires { ⌜ at + 16 ≤ length (now bytes) ⌝ }
     ensures { λ r. ⌜ Wrote at (argumentBytes arguments) (now (bytes .entry)) r (now (bytes .exit)) ⌝ }
 {
-    let mut next = at;
-    let mut i = 0;
-    while i < 8 {
-        next = put_argument(bytes, next, arguments[i]);
-        i += 1;
-    }
-    next
+    numbers::put_numbers(bytes, at, &arguments)
 }
 
 fn put_stops(bytes: &mut [u8], at: usize, stops: [bool; 160]) -> usize
@@ -154,7 +147,7 @@ fn flag_at(bytes: &[u8], at: usize) -> bool
 
 // The number that two bytes say.
 fn number_at(bytes: &[u8], at: usize) -> usize
-    requires { ⌜ at < 193 ⌝ }
+    requires { ⌜ at < 194 ⌝ }
     ensures { λ r. ⌜ (r ≡ numberAt 2 (now (bytes .entry)) at) × (r ≤ 65535) ⌝ }
 {
     let low = byte_at(bytes, at) as usize;
@@ -163,7 +156,7 @@ fn number_at(bytes: &[u8], at: usize) -> usize
 }
 
 fn arguments_in(bytes: &[u8]) -> [u16; 8]
-    ensures { λ r. ⌜ r ≡ readEach (numberAt 2 (now (bytes .entry))) 2 17 8 ⌝ }
+    ensures { λ r. ⌜ r ≡ readEach (numberAt 2 (now (bytes .entry))) 2 18 8 ⌝ }
 {
     let mut arguments = [0u16; 8];
     let mut i = 0;
@@ -176,8 +169,8 @@ fn arguments_in(bytes: &[u8]) -> [u16; 8]
 
 // The stops of a whole record. Here no byte is past the end, and the compiler takes many at a time.
 fn stops_there(bytes: &[u8]) -> [bool; 160]
-    requires { ⌜ 193 ≤ length (now bytes) ⌝ }
-    ensures { λ r. ⌜ r ≡ readEach (flagAt (now (bytes .entry))) 1 33 160 ⌝ }
+    requires { ⌜ 194 ≤ length (now bytes) ⌝ }
+    ensures { λ r. ⌜ r ≡ readEach (flagAt (now (bytes .entry))) 1 34 160 ⌝ }
 {
     let mut stops = [false; 160];
     let mut i = 0;
@@ -189,7 +182,7 @@ fn stops_there(bytes: &[u8]) -> [bool; 160]
 }
 
 fn stops_in(bytes: &[u8]) -> [bool; 160]
-    ensures { λ r. ⌜ r ≡ readEach (flagAt (now (bytes .entry))) 1 33 160 ⌝ }
+    ensures { λ r. ⌜ r ≡ readEach (flagAt (now (bytes .entry))) 1 34 160 ⌝ }
 {
     if LENGTH <= bytes.len() {
         return stops_there(bytes);
@@ -219,7 +212,7 @@ pub fn state_in(bytes: &[u8]) -> State
             column: number_at(bytes, COLUMN),
         },
         modes: Modes {
-            pen: byte_at(bytes, PEN),
+            pen: number_at(bytes, PEN) as Mark,
             erasure: flag_at(bytes, ERASURE),
         },
         locks: Locks {
