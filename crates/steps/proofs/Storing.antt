@@ -16,7 +16,7 @@ use Rattle.words.proofs.Passing.{every-replicate}
 use Rattle.words.proofs.Elements.{place-listed}
 use Rattle.page.specs.Marks.{withModified, validCharacter, validMark, isProtected, unprotected}
 use Rattle.page.specs.Page.{Page, pageOf, cells, validPage, textStored, typed, erasable, erased, cellsErased, scrolledUp, scrolledDown, partStored}
-use Rattle.page.proofs.Keeping.{SameSize, KeepsPart, text-same-size, typed-same-size, erased-same-size, scrolled-up-same-size, scrolled-down-same-size, part-same-size, text-keeps-valid, typed-keeps-valid, erased-keeps-valid, scrolled-up-keeps-valid, scrolled-down-keeps-valid, part-keeps-valid}
+use Rattle.page.proofs.Keeping.{SameSize, no-mark-valid, KeepsPart, text-same-size, typed-same-size, erased-same-size, scrolled-up-same-size, scrolled-down-same-size, part-same-size, text-keeps-valid, typed-keeps-valid, erased-keeps-valid, scrolled-up-keeps-valid, scrolled-down-keeps-valid, part-keeps-valid}
 use Rattle.page.proofs.Protecting.{typed-protection, untagged, tagged-protection}
 use Rattle.steps.specs.Steps.{silent, allCells}
 use Rattle.steps.specs.Claims.{Rising, none, next, markLeft, TouchesOnly, KeepsProtection}
@@ -36,7 +36,7 @@ unfolding validPage
 blank-page-valid cells marks =
     both-hold _ _
     (every-replicate validCharacter cells 0x20 (range-is 0x20 0x20 0x7E (omega arith) (omega arith)))
-    (every-replicate validMark marks 0 refl)
+    (every-replicate validMark marks 0 no-mark-valid)
 
 module _ (page : Page) (valid : validPage page ≡ true) where
   -- one cell
