@@ -7,14 +7,15 @@ use mathlib.Core.Logic.{_⊎_, inl, inr}
 use Prim.Native.Nat.{ℕ, _<_, _≤_}
 use native.Mathlib.Omega.{arith}
 use borrow.Author.Tests.{eqb-true}
+use lib.ListN.{getD}
 use lib.Seq.{getD-set-other}
 use Rattle.words.specs.Choice.{if_then_else_}
 use Rattle.words.proofs.Choosing.{not-both, either-line}
 use Rattle.words.proofs.Writing.{outside-part}
-use Rattle.page.specs.Marks.{unprotected}
+use Rattle.page.specs.Marks.{hasBit}
 use Rattle.page.specs.Page.{Page, typed, partStored}
 use Rattle.page.proofs.Keeping.{KeepsPart, blanked-keeps, closed-up-keeps, moved-right-keeps}
-use Rattle.page.proofs.Protecting.{typed-protection, untagged, tagged-protection, cleared-protection, protected-uncleared}
+use Rattle.page.proofs.Protecting.{typed-bit, untagged, tagged-bit, cleared-marks-bit, protected-uncleared}
 use Rattle.fields.specs.declared.Sought.{Sought}
 use Rattle.fields.specs.declared.Sought.the-variants.{At, Nowhere}
 use Rattle.fields.proofs.Claims.{UnprotectedAround}
@@ -25,7 +26,7 @@ use Rattle.state.specs.Moves.{upBy, downBy, rightBy, leftBy}
 use Rattle.blocks.specs.Blocks.{block}
 use Rattle.steps.specs.Steps.{Terminal, Stepped, goesTo, stores, cursorCell}
 use Rattle.sending.specs.Sending.{sendBlock}
-use Rattle.keys.specs.Keys.{isTyping, cellsFrom, goneTo, typedStep, toNextField, toPreviousField, toFirstUnprotected, fieldBlanked, restShifted, keyStep}
+use Rattle.keys.specs.Keys.{isTyping, cellsFrom, goneTo, typedStep, toNextField, toPreviousField, toFirstUnprotected, fieldBlanked, restShifted, takenStep, keyStep}
 use Rattle.steps.specs.Seen.{cellsHere, unprotectedAt, startHere, endHere}
 use Rattle.steps.proofs.Transmissions.{silent-is-no-full, silent-is-no-changed, silent-is-no-report, told-full, told-changed, block-is-no-report}
 use Rattle.keys.proofs.Claims.{KeyStores, no-cell, typed-cell, whole-field, rest-of-field, KeyAlways}
@@ -54,8 +55,8 @@ module _ (key : ℕ) (t : Terminal) where
   line {test} {a} {b} first rest = either-line Always test a b first (λ _. rest)
 
   -- The kinds of steps.
-  puts : {cells : List ℕ} (s : State) (page : Page) → KeyStores key t cells → ((key ≡ 268 → ⊥) → s .locks ≡ t .state .locks) → ((cell : ℕ) → unprotectedAt t cell ≡ false → ProtectedKept (t .page) page cell) → ((cell : ℕ) → unprotected (page .marks) cell ≡ unprotectedAt t cell) → Always (stores cells false s page)
-  puts s page names locks protected protection = record {
+  puts : {cells : List ℕ} (s : State) (page : Page) → KeyStores key t cells → ((key ≡ 268 → ⊥) → s .locks ≡ t .state .locks) → ((cell : ℕ) → unprotectedAt t cell ≡ false → ProtectedKept (t .page) page cell) → ((k : ℕ) → (k ≡ 1 → ⊥) → (cell : ℕ) → hasBit k (getD (page .marks) cell 0) ≡ hasBit k (getD (t .page .marks) cell 0)) → Always (stores cells false s page)
+  puts s page names locks protected bits = record {
     stored = names;
     full-block = λ bytes e. absurd (silent-is-no-full bytes e);
     changed-block = λ bytes e. absurd (silent-is-no-changed bytes e);
@@ -63,11 +64,11 @@ module _ (key : ℕ) (t : Terminal) where
     not-refused = refl;
     locks = locks;
     protected = protected;
-    protection = protection;
+    bits = bits;
   }
 
   goes : (s : State) → ((key ≡ 268 → ⊥) → s .locks ≡ t .state .locks) → Always (goesTo s t)
-  goes s locks = puts s (t .page) no-cell locks (λ cell p. record { character = λ _. refl; mark = refl }) (λ cell. refl)
+  goes s locks = puts s (t .page) no-cell locks (λ cell p. record { character = λ _. refl; mark = refl }) (λ k other cell. refl)
 
   goes-to : (sought : Sought) → Always (goesTo (goneTo sought (t .state)) t)
   goes-to sought = goes (goneTo sought (t .state)) (λ _. gone-keeps-locks sought (t .state))
@@ -92,7 +93,7 @@ module _ (key : ℕ) (t : Terminal) where
         not-refused = refl;
         locks = λ _. refl;
         protected = λ cell p. record { character = λ _. refl; mark = protected-uncleared (t .page .marks) cell p };
-        protection = cleared-protection (t .page .marks);
+        bits = λ k other cell. cleared-marks-bit k other (t .page .marks) cell;
       }
 
   -- Storing: no cell that is stored is protected.
@@ -105,7 +106,7 @@ module _ (key : ℕ) (t : Terminal) where
         character = λ here. outside-part from to change (t .page .characters) some (keeps .size) cell here outside;
         mark = untagged from to (t .page .marks) cell outside;
       })
-      (tagged-protection from to (t .page .marks))
+      (λ k other cell. tagged-bit k other from to (t .page .marks) cell)
 
   typed-always : isTyping key ≡ true → Always (typedStep key t)
   unfolding typedStep typed
@@ -116,7 +117,7 @@ module _ (key : ℕ) (t : Terminal) where
       (λ cell p.
       let other : cell ≡ cursor → ⊥ = λ e. not-both here (rw e at p) in
       record { character = λ _. getD-set-other (t .page .characters) cursor cell key 0 other; mark = getD-set-other (t .page .marks) cursor cell _ 0 other })
-      (typed-protection (t .page) cursor key))
+      (λ k different cell. typed-bit k different (t .page) cursor key cell))
       stays
 
   blanked-always : key ≡ 263 → Always (fieldBlanked t)
@@ -136,9 +137,10 @@ module _ (key : ℕ) (t : Terminal) where
       stays
 
   pub key-always : KeyAlways key t (keyStep key t)
-  unfolding keyStep upBy downBy leftBy rightBy toNextField toPreviousField toFirstUnprotected
+  unfolding keyStep takenStep upBy downBy leftBy rightBy toNextField toPreviousField toFirstUnprotected
   key-always =
-      line typed-always
+      line (λ _. stays)
+      (line typed-always
       (line (λ _. goes _ (λ _. refl))
       (line (λ _. goes _ (λ _. refl))
       (line (λ _. goes _ (λ _. refl))
@@ -151,4 +153,4 @@ module _ (key : ℕ) (t : Terminal) where
       (line (λ e. shifted-always moved-right-keeps (inr (eqb-true key 265 e)))
       (line (λ e. clears false (eqb-true key 266 e))
       (line (λ e. clears true (eqb-true key 267 e))
-      (line (λ e. goes (unlocked (t .state)) (λ other. absurd (other (eqb-true key 268 e)))) stays)))))))))))))
+      (line (λ e. goes (unlocked (t .state)) (λ other. absurd (other (eqb-true key 268 e)))) stays))))))))))))))

@@ -11,7 +11,7 @@ use Rattle.state.specs.Moves.{upBy, downBy, rightBy, leftBy}
 use Rattle.state.proofs.Arrays.{cursor-keeps-arrays, locks-keep-arrays}
 use Rattle.steps.specs.Steps.{Terminal, Stepped}
 use Rattle.sending.specs.Sending.{sendBlock}
-use Rattle.keys.specs.Keys.{goneTo, typedStep, toNextField, toPreviousField, toFirstUnprotected, fieldBlanked, restShifted, keyStep}
+use Rattle.keys.specs.Keys.{goneTo, typedStep, toNextField, toPreviousField, toFirstUnprotected, fieldBlanked, restShifted, takenStep, keyStep}
 
 abbrev Keeps : Stepped → Type 0
 Keeps step = Arrays (step .terminal .state)
@@ -30,10 +30,11 @@ module _ (t : Terminal) (has : Arrays (t .state)) where
   shifted-keeps change = line _ _ _ has has
 
 pub key-keeps-arrays : (key : ℕ) (t : Terminal) → Arrays (t .state) → Arrays (keyStep key t .terminal .state)
-unfolding keyStep typedStep upBy downBy leftBy rightBy toNextField toPreviousField toFirstUnprotected fieldBlanked sendBlock unlocked
+unfolding keyStep takenStep typedStep upBy downBy leftBy rightBy toNextField toPreviousField toFirstUnprotected fieldBlanked sendBlock unlocked
 key-keeps-arrays key t has =
     let moves = cursor-keeps-arrays (t .state) has in
-    line _ _ _ (line _ _ _ (gone-keeps t has _) has)
+    line _ _ _ has
+    (line _ _ _ (line _ _ _ (gone-keeps t has _) has)
     (line _ _ _ (moves _)
     (line _ _ _ (moves _)
     (line _ _ _ (moves _)
@@ -46,4 +47,4 @@ key-keeps-arrays key t has =
     (line _ _ _ (shifted-keeps t has _)
     (line _ _ _ has
     (line _ _ _ has
-    (line _ _ _ (locks-keep-arrays (t .state) has _) has)))))))))))))
+    (line _ _ _ (locks-keep-arrays (t .state) has _) has))))))))))))))

@@ -5,7 +5,7 @@ use mathlib.Core.Logic.{_⊎_}
 use mathlib.Core.Path.{_≡_}
 use Prim.Native.Nat.{ℕ}
 use lib.ListN.{getD}
-use Rattle.page.specs.Marks.{isModified, unprotected}
+use Rattle.page.specs.Marks.{hasBit, isModified, takes, unprotected}
 use Rattle.page.specs.Page.{Page}
 use Rattle.steps.specs.Steps.{Terminal, report, fullBlock, changedBlock, Stepped, cursorCell}
 use Rattle.steps.specs.Claims.{SendsBlock, ProtectedKept}
@@ -22,7 +22,7 @@ pub data KeyStores (key : ℕ) (t : Terminal) : List ℕ → Type 0 where
   whole-field : unprotectedAt t (cursorCell (t .state)) ≡ true → key ≡ 263 → KeyStores key t (cellsFrom (startHere t) (endHere t))
   rest-of-field : unprotectedAt t (cursorCell (t .state)) ≡ true → (key ≡ 264) ⊎ (key ≡ 265) → KeyStores key t (cellsFrom (cursorCell (t .state)) (endHere t))
 
--- In any state, valid or not, whatever the lengths of the two slices.
+-- In any state, valid or not, whatever the lengths of the two slices. Every cell keeps all its marks but modified.
 pub record KeyAlways (key : ℕ) (t : Terminal) (step : Stepped) : Type 0 where
   pub stored : KeyStores key t (step .cells)
   pub full-block : (bytes : List ℕ) → step .transmission ≡ fullBlock bytes → SendsBlock true (key ≡ 267) t step bytes
@@ -31,14 +31,19 @@ pub record KeyAlways (key : ℕ) (t : Terminal) (step : Stepped) : Type 0 where
   pub not-refused : step .wasRefused ≡ false
   pub locks : (key ≡ 268 → ⊥) → step .terminal .state .locks ≡ t .state .locks
   pub protected : (cell : ℕ) → unprotected (t .page .marks) cell ≡ false → ProtectedKept (t .page) (step .terminal .page) cell
-  pub protection : (cell : ℕ) → unprotected (step .terminal .page .marks) cell ≡ unprotected (t .page .marks) cell
+  pub bits : (k : ℕ) → (k ≡ 1 → ⊥) → (cell : ℕ) → hasBit k (getD (step .terminal .page .marks) cell 0) ≡ hasBit k (getD (t .page .marks) cell 0)
 
 -- Every cell named was unprotected and is modified.
 abbrev pub Tags : Page → List ℕ → Page → Type 0
 Tags before cells after = (cell : ℕ) → List·Memᴰ cell cells → (unprotected (before .marks) cell ≡ true) × (isModified (getD (after .marks) cell 0) ≡ true)
+
+-- M-103: what every cell named holds is a character that it takes.
+abbrev pub Takes : Page → List ℕ → Page → Type 0
+Takes before cells after = (cell : ℕ) → List·Memᴰ cell cells → takes (getD (before .marks) cell 0) (getD (after .characters) cell 0) ≡ true
 
 -- All of it, for a key's step from a valid terminal.
 pub record KeySound (key : ℕ) (t : Terminal) (step : Stepped) : Type 0 where
   pub always : KeyAlways key t step
   pub sound : Sound t step
   pub tags : Tags (t .page) (step .cells) (step .terminal .page)
+  pub takes : Takes (t .page) (step .cells) (step .terminal .page)

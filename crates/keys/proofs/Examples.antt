@@ -7,9 +7,9 @@ use Prim.Native.Char.{code}
 use lib.ListN.{length, replicate}
 use Rattle.words.specs.Choice.{if_then_else_, _and_, _or_, _is_to_}
 use Rattle.words.specs.Text.{bytes}
-use Rattle.words.specs.Lists.{within, eachFrom, numbersFrom, onPart, selected}
-use Rattle.page.specs.Marks.{unprotected}
-use Rattle.page.specs.Page.{Page, pageOf, typed, tagged, blanked, closedUp, movedRight, markAfterBlock, modifiedCleared}
+use Rattle.words.specs.Lists.{within, allFrom, eachFrom, numbersFrom, onPart, selected}
+use Rattle.page.specs.Marks.{numericTakes, alphabeticTakes, takes, unprotected}
+use Rattle.page.specs.Page.{Page, pageOf, takesFromRight, takesFromLeft, typed, tagged, blanked, closedUp, movedRight, markAfterBlock, modifiedCleared}
 use Rattle.places.specs.Places.{placeOf}
 use Rattle.output.specs.Decimal.{decimal, placeBytes}
 use Rattle.fields.specs.Fields.{joined, startsField, fieldStart, endFrom, fieldEnd, fieldsFrom, fieldsOf}
@@ -19,7 +19,7 @@ use Rattle.state.specs.State.{freshState, withCursor, cursorAt, withLocks, unlo
 use Rattle.state.specs.Moves.{backBy, onBy, upBy, downBy, rightBy, leftBy}
 use Rattle.steps.specs.Steps.{Terminal, bytesOf, blockTransmission}
 use Rattle.sending.specs.Sending.{sendBlock}
-use Rattle.keys.specs.Keys.{isTyping, isEditing, isFieldMove, isKnown, isLocked, isLockedOut, noField, lacksCell, goneTo, typedStep, toNextField, toPreviousField, toFirstUnprotected, fieldBlanked, restShifted, keyStep}
+use Rattle.keys.specs.Keys.{isTyping, isEditing, isFieldMove, isKnown, isLocked, isLockedOut, noField, lacksCell, isNotTaken, goneTo, typedStep, toNextField, toPreviousField, toFirstUnprotected, fieldBlanked, restShifted, takenStep, keyStep}
 
 -- A page of 2 rows by 8 columns, small enough to be shown whole. No call takes its size, which line 1 refuses; the
 -- steps go by the same rules on any R and C.
@@ -111,6 +111,16 @@ ends = pageOf (bytes "AB............CD") (0 ∷ 0 ∷ replicate 12 1 ++ (0 ∷ 0
 -- A page that is one field.
 whole : Page
 whole = pageOf (bytes "ABCDEFGHIJKLMNOP") (replicate 16 0)
+
+-- A page of mixed cells, of two fields. N stands for numeric, A for alphabetic, + for bold, m for modified.
+--     # 1 - A . b c #     protected, N, N+, A, A, -, A, protected
+--     # 7 X 5 # # # #     protected, -, A, Nm, the rest protected
+kinds : Page
+kinds = pageOf (bytes "#1-A.bc##7X5####") (1 ∷ 128 ∷ 132 ∷ 256 ∷ 256 ∷ 0 ∷ 256 ∷ 1 ∷ 1 ∷ 0 ∷ 256 ∷ 130 ∷ replicate 4 1)
+
+-- What its two rows become: the marks of the six cells and of the three.
+kindsAfter : List ℕ → List ℕ → List ℕ
+kindsAfter first second = (1 ∷ first) ++ (1 ∷ 1 ∷ second) ++ replicate 4 1
 
 examples : List Example
 examples =
@@ -221,6 +231,26 @@ examples =
     ∷ storedOn whole 1 8 265 1 8 9 (bytes "ABCDEFG HIJKLMNO") (replicate 7 0 ++ replicate 9 2)
     ∷ storedOn whole 2 3 263 1 1 16 (bytes "                ") (replicate 16 2)
     ∷ sentOn whole 2 8 267 (bytes "\u{1b}[1;1fABCDEFGHIJKLMNOP\u{3}") (whole .marks)
+    -- M-103: O is not taken by a numeric cell, nor 5 by an alphabetic one; a blank is stored in any, and what a cell
+    -- takes, whose kind stays; a plain cell takes all
+    ∷ goesOn kinds 1 2 (code "O") 1 2
+    ∷ goesOn kinds 1 4 (code "5") 1 4
+    ∷ storedOn kinds 1 2 (code " ") 1 3 1 (bytes "# -A.bc##7X5####") (kindsAfter (130 ∷ 132 ∷ 256 ∷ 256 ∷ 0 ∷ 256 ∷ []) (0 ∷ 256 ∷ 130 ∷ []))
+    ∷ storedOn kinds 1 3 (code "5") 1 4 1 (bytes "#15A.bc##7X5####") (kindsAfter (128 ∷ 134 ∷ 256 ∷ 256 ∷ 0 ∷ 256 ∷ []) (0 ∷ 256 ∷ 130 ∷ []))
+    ∷ storedOn kinds 1 4 (code "x") 1 5 1 (bytes "#1-x.bc##7X5####") (kindsAfter (128 ∷ 132 ∷ 258 ∷ 256 ∷ 0 ∷ 256 ∷ []) (0 ∷ 256 ∷ 130 ∷ []))
+    ∷ storedOn kinds 2 2 (code "O") 2 3 1 (bytes "#1-A.bc##OX5####") (kindsAfter (128 ∷ 132 ∷ 256 ∷ 256 ∷ 0 ∷ 256 ∷ []) (2 ∷ 256 ∷ 130 ∷ []))
+    -- 264 on the second cell would carry A into a numeric cell, 265 there carries; 264 on A carries
+    ∷ goesOn kinds 1 3 264 1 3
+    ∷ storedOn kinds 1 3 265 1 3 5 (bytes "#1 -A.b##7X5####") (kindsAfter (128 ∷ 134 ∷ 258 ∷ 258 ∷ 2 ∷ 258 ∷ []) (0 ∷ 256 ∷ 130 ∷ []))
+    ∷ storedOn kinds 1 4 264 1 4 4 (bytes "#1-.bc ##7X5####") (kindsAfter (128 ∷ 132 ∷ 258 ∷ 258 ∷ 2 ∷ 258 ∷ []) (0 ∷ 256 ∷ 130 ∷ []))
+    -- on 7, 264 would carry 5 into an alphabetic cell and 265 the 7; on a field's last cell neither carries anything
+    ∷ goesOn kinds 2 2 264 2 2
+    ∷ goesOn kinds 2 2 265 2 2
+    ∷ storedOn kinds 2 4 264 2 4 1 (bytes "#1-A.bc##7X ####") (kinds .marks)
+    ∷ storedOn kinds 2 4 265 2 4 1 (bytes "#1-A.bc##7X ####") (kinds .marks)
+    -- 263 leaves the kinds, and so does a block
+    ∷ storedOn kinds 1 5 263 1 2 6 (bytes "#      ##7X5####") (kindsAfter (130 ∷ 134 ∷ 258 ∷ 258 ∷ 2 ∷ 258 ∷ []) (0 ∷ 256 ∷ 130 ∷ []))
+    ∷ sentOn kinds 1 1 266 (bytes "\u{1b}[2;2f7X5\u{3}") (kindsAfter (128 ∷ 132 ∷ 256 ∷ 256 ∷ 0 ∷ 256 ∷ []) (0 ∷ 256 ∷ 128 ∷ []))
     -- 127 and 269 are no keys
     ∷ goes 1 3 127 1 3
     ∷ goes 1 3 269 1 3
@@ -228,7 +258,7 @@ examples =
 
 -- Each key leaves what the example says.
 as-worked-out : map asRun examples ≡ map (λ (e : Example). e .seen) examples
-unfolding characters marks on asRun goesOn storedOn sentOn goes stored sent closed ends whole examples if_then_else_ _and_ _or_ _is_to_ within eachFrom numbersFrom onPart selected unprotected typed tagged blanked closedUp movedRight markAfterBlock modifiedCleared placeOf decimal placeBytes joined startsField fieldStart endFrom fieldEnd fieldsFrom fieldsOf orElse firstField lastField firstAfter lastBefore nextField previousField firstUnprotectedFrom firstUnprotected nextUnprotected entryBytes encode entryOf someModified isInBlock entriesSent block unlocked backBy onBy upBy downBy rightBy leftBy bytesOf blockTransmission sendBlock isTyping goneTo typedStep toNextField toPreviousField toFirstUnprotected fieldBlanked restShifted keyStep
+unfolding characters marks on asRun goesOn storedOn sentOn goes stored sent closed ends whole kinds kindsAfter examples if_then_else_ _and_ _or_ _is_to_ within eachFrom numbersFrom onPart selected unprotected typed tagged blanked closedUp movedRight markAfterBlock modifiedCleared placeOf decimal placeBytes joined startsField fieldStart endFrom fieldEnd fieldsFrom fieldsOf orElse firstField lastField firstAfter lastBefore nextField previousField firstUnprotectedFrom firstUnprotected nextUnprotected entryBytes encode entryOf someModified isInBlock entriesSent block unlocked backBy onBy upBy downBy rightBy leftBy bytesOf blockTransmission sendBlock isTyping goneTo typedStep toNextField toPreviousField toFirstUnprotected fieldBlanked restShifted isNotTaken takenStep keyStep numericTakes alphabeticTakes takes allFrom takesFromRight takesFromLeft
 as-worked-out = refl
 
 -- 268: soft lock, message and byte are cleared; the manual lock, and all else, stays. It is the one key that a lock
@@ -239,7 +269,7 @@ locked manual soft message byte =
     record { state = withLocks (t .state) (record { manual = manual; soft = soft; message = message; byte = byte }); page = t .page }
 
 unlocks : map (λ (t : Terminal). keyStep 268 t .terminal) (locked false true 1 0x42 ∷ locked true true 3 0 ∷ locked true false 0 0 ∷ []) ≡ (locked false false 0 0 ∷ locked true false 0 0 ∷ locked true false 0 0 ∷ [])
-unfolding characters marks on locked if_then_else_ _and_ _is_to_ isTyping unlocked keyStep
+unfolding characters marks on locked if_then_else_ _and_ _is_to_ isTyping unlocked isNotTaken takenStep keyStep
 unlocks = refl
 
 lockedOut : Terminal → List Bool
@@ -263,3 +293,12 @@ lacking t = map (λ (key : ℕ). lacksCell key t) (0x41 ∷ 263 ∷ 264 ∷ 265 
 lacks : map lacking (on (pageOf characters marks) 1 1 ∷ on (pageOf characters marks) 1 3 ∷ on closed 1 1 ∷ []) ≡ ((true ∷ true ∷ true ∷ true ∷ false ∷ false ∷ false ∷ false ∷ false ∷ []) ∷ (false ∷ false ∷ false ∷ false ∷ false ∷ false ∷ false ∷ false ∷ false ∷ []) ∷ (true ∷ true ∷ true ∷ true ∷ true ∷ true ∷ false ∷ false ∷ false ∷ []) ∷ [])
 unfolding characters marks on closed lacking if_then_else_ _and_ _or_ _is_to_ unprotected placeOf joined startsField endFrom fieldEnd fieldsFrom fieldsOf isTyping isEditing isFieldMove noField lacksCell
 lacks = refl
+
+-- Line 8, for O, 5, a blank, 263, 264, 265 and 260: on a numeric cell, on an alphabetic one, and on a plain one before
+-- an alphabetic one.
+notTaken : Terminal → List Bool
+notTaken t = map (λ (key : ℕ). isNotTaken key t) (0x4F ∷ 0x35 ∷ 0x20 ∷ 263 ∷ 264 ∷ 265 ∷ 260 ∷ [])
+
+not-taken : map notTaken (on kinds 1 3 ∷ on kinds 1 4 ∷ on kinds 2 2 ∷ []) ≡ ((true ∷ false ∷ false ∷ false ∷ true ∷ false ∷ false ∷ []) ∷ (false ∷ true ∷ false ∷ false ∷ false ∷ false ∷ false ∷ []) ∷ (false ∷ false ∷ false ∷ false ∷ true ∷ true ∷ false ∷ []) ∷ [])
+unfolding on kinds notTaken if_then_else_ _and_ _or_ _is_to_ numericTakes alphabeticTakes takes allFrom takesFromRight takesFromLeft unprotected joined endFrom fieldEnd isTyping isNotTaken
+not-taken = refl

@@ -3,6 +3,7 @@ pub mod Silent
 pub mod Claims
 pub mod Always
 pub mod Arrays
+pub mod Taking
 pub mod Tables
 pub mod Theorems
 pub mod Examples

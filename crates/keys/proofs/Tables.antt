@@ -22,7 +22,7 @@ use Rattle.state.proofs.Keeping.{KeepsValid, up-keeps-valid, down-keeps-valid, 
 use Rattle.steps.specs.Steps.{Terminal, blockTransmission, Stepped, goesTo, stores, cursorCell, Valid}
 use Rattle.steps.specs.Claims.{markLeft}
 use Rattle.sending.specs.Sending.{sendBlock}
-use Rattle.keys.specs.Keys.{isTyping, cellsFrom, goneTo, typedStep, toNextField, toPreviousField, toFirstUnprotected, fieldBlanked, restShifted, keyStep}
+use Rattle.keys.specs.Keys.{isTyping, cellsFrom, goneTo, typedStep, toNextField, toPreviousField, toFirstUnprotected, fieldBlanked, restShifted, takenStep, keyStep}
 use Rattle.steps.specs.Seen.{cellsHere, unprotectedAt, startHere, endHere}
 use Rattle.steps.proofs.Naming.{named-between, places-rise}
 use Rattle.steps.proofs.Storing.{typed-stored, part-stored}
@@ -30,6 +30,7 @@ use Rattle.steps.proofs.Soundness.{Sound, cursor-on-page, goes-soundly, stores-
 use Rattle.steps.proofs.Measuring.{Measured, measured}
 use Rattle.keys.proofs.Claims.{Tags, KeySound}
 use Rattle.keys.proofs.Always.{field-unprotected, key-always}
+use Rattle.keys.proofs.Taking.{stored-taken}
 
 -- Both blocks clear modified.
 block-clears : (full : Bool) (bytes : List ℕ) (mark : ℕ) → markLeft (blockTransmission full bytes) mark ≡ markAfterBlock mark
@@ -114,14 +115,15 @@ module _ (t : Terminal) (valid : Valid t) where
       (goes (t .state) stays)
 
   table-holds : (key : ℕ) → Holds (keyStep key t)
-  unfolding keyStep toNextField toPreviousField toFirstUnprotected
+  unfolding keyStep takenStep toNextField toPreviousField toFirstUnprotected
   table-holds key =
       let s = t .state in
       let ok = valid .state in
       let columns = s .size .columns in
       let cells = cellsHere t in
       let here = size .cursor-inside in
-      line (typed-holds key)
+      line (λ _. goes s stays)
+      (line (typed-holds key)
       (line (λ _. goes _ (up-keeps-valid s ok 1))
       (line (λ _. goes _ (down-keeps-valid s ok 1))
       (line (λ _. goes _ (left-keeps-valid s ok 1))
@@ -134,7 +136,7 @@ module _ (t : Terminal) (valid : Valid t) where
       (line (λ _. shifted-holds moved-right-keeps)
       (line (λ _. clears false)
       (line (λ _. clears true)
-      (line (λ _. goes _ (unlocked-keeps-valid s ok)) (goes s stays))))))))))))))
+      (line (λ _. goes _ (unlocked-keeps-valid s ok)) (goes s stays)))))))))))))))
 
 pub key-holds : (key : ℕ) (t : Terminal) → Valid t → KeySound key t (keyStep key t)
-key-holds key t valid = let holds = table-holds t valid key in record { always = key-always key t; sound = holds .0; tags = holds .1 }
+key-holds key t valid = let holds = table-holds t valid key in record { always = key-always key t; sound = holds .0; tags = holds .1; takes = stored-taken t valid key }

@@ -1,23 +1,25 @@
 -- What holds of the step of every key.
 use mathlib.Core.Path.{_≡_, refl, ap, _∙_}
-use mathlib.Core.Bool.{true, false}
+use mathlib.Core.Bool.{true, false, not}
 use mathlib.Core.List.{List, [], List·Memᴰ}
 use mathlib.Core.Logic.{_⊎_, inl, inr, ⊎-elim}
 use Prim.Native.Nat.{ℕ, _-_, _<_}
+use native.Mathlib.Omega.{arith}
 use lib.ListN.{length, getD}
 use Rattle.words.specs.Choice.{if_then_else_, _and_, _or_, _is_to_}
 use Rattle.words.proofs.Choosing.{not-both, then-case, first-holds}
 use Rattle.words.proofs.Elements.{run-length}
-use Rattle.page.specs.Marks.{isModified, unprotected}
+use Rattle.page.specs.Marks.{hasBit, isModified, takes, unprotected}
 use Rattle.state.specs.State.{withLocks, unlocked}
 use Rattle.steps.specs.Steps.{Terminal, report, fullBlock, changedBlock, goesTo, cursorCell, Valid}
 use Rattle.steps.specs.Claims.{Rising, TouchesOnly, KeepsProtection, KeepsText, SendsBlock, ProtectedKept, counted}
 use Rattle.steps.specs.Seen.{unprotectedAt}
-use Rattle.keys.specs.Keys.{isTyping, isEditing, typedStep, fieldBlanked, restShifted, keyStep}
+use Rattle.keys.specs.Keys.{isTyping, isEditing, isNotTaken, typedStep, fieldBlanked, restShifted, takenStep, keyStep}
 use Rattle.steps.specs.Seen.{startHere, endHere}
 use Rattle.steps.proofs.Naming.{named-between}
 use Rattle.steps.proofs.Soundness.{names-none}
 use Rattle.keys.proofs.Claims.{KeyStores, no-cell, typed-cell, whole-field, rest-of-field}
+use Rattle.keys.proofs.Silent.{taken-step}
 use Rattle.keys.proofs.Always.{key-always}
 use Rattle.keys.proofs.Tables.{key-holds}
 
@@ -44,6 +46,10 @@ module _ (key : ℕ) (t : Terminal) (valid : Valid t) where
   -- Each cell named was unprotected, and is modified, also where it had the character that was stored.
   pub key-tags : (cell : ℕ) → List·Memᴰ cell (keyStep key t .cells) → (unprotected (t .page .marks) cell ≡ true) × (isModified (getD (keyStep key t .terminal .page .marks) cell 0) ≡ true)
   key-tags = key-holds key t valid .tags
+
+  -- Each cell named holds a character that it takes.
+  pub key-takes : (cell : ℕ) → List·Memᴰ cell (keyStep key t .cells) → takes (getD (t .page .marks) cell 0) (getD (keyStep key t .terminal .page .characters) cell 0) ≡ true
+  key-takes = key-holds key t valid .takes
 
   -- Where no cell is named, all characters stay, and all protection.
   pub key-names-none : keyStep key t .cells ≡ [] → KeepsText (t .page) (keyStep key t .terminal .page)
@@ -75,8 +81,13 @@ module _ (key : ℕ) (t : Terminal) where
   pub no-key-changes-protected : (cell : ℕ) → unprotected (t .page .marks) cell ≡ false → ProtectedKept (t .page) (keyStep key t .terminal .page) cell
   no-key-changes-protected = key-always key t .protected
 
+  -- It leaves every mark but modified.
+  pub no-key-changes-bits : (k : ℕ) → (k ≡ 1 → ⊥) → (cell : ℕ) → hasBit k (getD (keyStep key t .terminal .page .marks) cell 0) ≡ hasBit k (getD (t .page .marks) cell 0)
+  no-key-changes-bits = key-always key t .bits
+
   pub no-key-changes-protection : (cell : ℕ) → unprotected (keyStep key t .terminal .page .marks) cell ≡ unprotected (t .page .marks) cell
-  no-key-changes-protection = key-always key t .protection
+  unfolding unprotected
+  no-key-changes-protection cell = ap not (no-key-changes-bits 0 (λ same. omega arith) cell)
 
   pub key-keeps-protection : KeepsProtection (t .page) (keyStep key t .terminal .page)
   key-keeps-protection cell _ = no-key-changes-protection cell
@@ -87,8 +98,13 @@ module _ (key : ℕ) (t : Terminal) where
 
 -- 268 clears the soft lock, the message and its byte, and does nothing else.
 pub unlocked-step : (t : Terminal) → keyStep 268 t ≡ goesTo (withLocks (t .state) (record { manual = t .state .locks .manual; soft = false; message = 0; byte = 0 })) t
-unfolding keyStep isTyping _is_to_ _and_ if_then_else_ unlocked
+unfolding keyStep isNotTaken takenStep isTyping _is_to_ _and_ if_then_else_ unlocked
 unlocked-step t = refl
+
+-- A key that would bring a character where it isn't taken does nothing.
+pub not-taken-step : (key : ℕ) (t : Terminal) → isNotTaken key t ≡ true → keyStep key t ≡ goesTo (t .state) t
+unfolding keyStep
+not-taken-step key t not-taken = then-case _ _ _ not-taken
 
 -- A key that stores types or edits, on an unprotected cell.
 stores-where : (key : ℕ) (t : Terminal) {cells : List ℕ} → KeyStores key t cells → (cells ≡ []) ⊎ ((unprotectedAt t (cursorCell (t .state)) ≡ true) × ((isTyping key or isEditing key) ≡ true))
@@ -103,27 +119,30 @@ stores-where key t (rest-of-field here (inr asked)) = inr (here, ap (λ (k : ℕ
 module _ (t : Terminal) where
   module _ (here : unprotectedAt t (cursorCell (t .state)) ≡ true) where
     -- 1 for a typed character.
-    pub typed-count : (key : ℕ) → isTyping key ≡ true → counted (keyStep key t) ≡ 1
-    unfolding keyStep typedStep
-    typed-count key typing = ap counted (then-case _ _ _ typing ∙ then-case _ _ _ here)
+    pub typed-count : (key : ℕ) → isTyping key ≡ true → isNotTaken key t ≡ false → counted (keyStep key t) ≡ 1
+    unfolding takenStep typedStep
+    typed-count key typing taken = ap counted (taken-step key t taken ∙ then-case _ _ _ typing ∙ then-case _ _ _ here)
 
     -- The whole field for 263.
     pub blanked-count : counted (keyStep 263 t) ≡ endHere t - startHere t
-    unfolding keyStep isTyping _is_to_ _and_ if_then_else_ fieldBlanked
+    unfolding keyStep isNotTaken takenStep isTyping _is_to_ _and_ if_then_else_ fieldBlanked
     blanked-count = ap counted (then-case _ _ _ here) ∙ run-length (startHere t) (endHere t - startHere t)
 
     -- Cursor to field end for 264 and 265.
-    pub closed-up-count : counted (keyStep 264 t) ≡ endHere t - cursorCell (t .state)
-    unfolding keyStep isTyping _is_to_ _and_ if_then_else_ restShifted
-    closed-up-count = ap counted (then-case _ _ _ here) ∙ run-length (cursorCell (t .state)) (endHere t - cursorCell (t .state))
+    pub closed-up-count : isNotTaken 264 t ≡ false → counted (keyStep 264 t) ≡ endHere t - cursorCell (t .state)
+    unfolding takenStep isTyping _is_to_ _and_ if_then_else_ restShifted
+    closed-up-count taken = ap counted (taken-step 264 t taken ∙ then-case _ _ _ here) ∙ run-length (cursorCell (t .state)) (endHere t - cursorCell (t .state))
 
-    pub moved-right-count : counted (keyStep 265 t) ≡ endHere t - cursorCell (t .state)
-    unfolding keyStep isTyping _is_to_ _and_ if_then_else_ restShifted
-    moved-right-count = ap counted (then-case _ _ _ here) ∙ run-length (cursorCell (t .state)) (endHere t - cursorCell (t .state))
+    pub moved-right-count : isNotTaken 265 t ≡ false → counted (keyStep 265 t) ≡ endHere t - cursorCell (t .state)
+    unfolding takenStep isTyping _is_to_ _and_ if_then_else_ restShifted
+    moved-right-count taken = ap counted (taken-step 265 t taken ∙ then-case _ _ _ here) ∙ run-length (cursorCell (t .state)) (endHere t - cursorCell (t .state))
 
-  -- 0 for the others, and for every key where the cursor's cell is protected.
+  -- 0 for the others, for every key where the cursor's cell is protected, and for one whose character isn't taken.
   pub other-count : (key : ℕ) → (isTyping key or isEditing key) ≡ false → counted (keyStep key t) ≡ 0
   other-count key other = ⊎-elim (ap length) (λ stores. absurd (not-both (stores .1) other)) (stores-where key t (key-stores key t))
 
   pub protected-count : (key : ℕ) → unprotectedAt t (cursorCell (t .state)) ≡ false → counted (keyStep key t) ≡ 0
   protected-count key protected = ⊎-elim (ap length) (λ stores. absurd (not-both (stores .0) protected)) (stores-where key t (key-stores key t))
+
+  pub not-taken-count : (key : ℕ) → isNotTaken key t ≡ true → counted (keyStep key t) ≡ 0
+  not-taken-count key not-taken = ap counted (not-taken-step key t not-taken)

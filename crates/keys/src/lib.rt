@@ -127,7 +127,6 @@ fn takes_here(state: State, characters: &[u8], marks: &[Mark], character: u8) ->
 // Whether the cells that 264 closes up take what comes to them.
 fn takes_deleting(state: State, characters: &[u8], marks: &[Mark]) -> bool
     requires { ⌜ Valid (terminalOf state (now characters) (now marks)) ⌝ }
-    requires { ⌜ unprotectedAt (terminalOf state (now characters) (now marks)) (cursorCell state) ≡ true ⌝ }
     ensures { λ r. ⌜ r ≡ takesFromRight
         (seen (terminalOf state (now (characters .entry)) (now (marks .entry)))) (cursorCell state)
         (carried (terminalOf state (now (characters .entry)) (now (marks .entry)))) ⌝ }
@@ -139,7 +138,6 @@ fn takes_deleting(state: State, characters: &[u8], marks: &[Mark]) -> bool
 // Whether the cells that 265 moves into do.
 fn takes_inserting(state: State, characters: &[u8], marks: &[Mark]) -> bool
     requires { ⌜ Valid (terminalOf state (now characters) (now marks)) ⌝ }
-    requires { ⌜ unprotectedAt (terminalOf state (now characters) (now marks)) (cursorCell state) ≡ true ⌝ }
     ensures { λ r. ⌜ r ≡ takesFromLeft
         (seen (terminalOf state (now (characters .entry)) (now (marks .entry)))) (cursorCell state)
         (carried (terminalOf state (now (characters .entry)) (now (marks .entry)))) ⌝ }
@@ -148,10 +146,9 @@ fn takes_inserting(state: State, characters: &[u8], marks: &[Mark]) -> bool
     page::take_from_left(characters, marks, rest.from, rest.end)
 }
 
-// Whether line 8 holds, where line 7 does not.
+// Whether line 8 holds.
 pub fn is_not_taken(key: usize, state: State, characters: &[u8], marks: &[Mark]) -> bool
     requires { ⌜ Valid (terminalOf state (now characters) (now marks)) ⌝ }
-    requires { ⌜ lacksCell key (terminalOf state (now characters) (now marks)) ≡ false ⌝ }
     ensures { λ r. ⌜ r ≡ isNotTaken key (terminalOf state (now (characters .entry)) (now (marks .entry))) ⌝ }
 {
     if is_typing(key) {
@@ -308,7 +305,8 @@ fn act(state: State, characters: &mut [u8], marks: &mut [Mark], key: usize) -> S
     }
 }
 
-// The step of a key that line 8 lets pass. Its transmission is written into the output; where it does not fit nothing happens.
+// The step of a key that line 8 lets pass. Its transmission is written into the output; where it does not fit nothing
+// happens.
 pub fn step(
     state: State,
     characters: &mut [u8],

@@ -4,3 +4,4 @@ pub mod Valid
 pub mod Keeping
 pub mod Protecting
 pub mod Asking
+pub mod Carrying

@@ -201,14 +201,23 @@ module _ (from to k : ℕ) where
   pub outside-range : (from ≤ k → k < to → ⊥) → within from to k ≡ false
   outside-range outside = less-or-not k from before-range (λ after. let late = outside after in let past : to ≤ k = omega arith in after-range past)
 
--- A change of the part from `from` to before `to` that keeps the part's length keeps the list's,
--- and every element outside the part.
+-- The part of a list from `from` to before `to`.
+module _ (from to : ℕ) (list : List ℕ) where
+  pub length-part : to ≤ length list → length (take (to - from) (drop from list)) ≡ to - from
+  length-part fits = simp (length-take, length-drop) (omega arith)
+
+  pub part-at : (k : ℕ) → from ≤ k → k < to → getD (take (to - from) (drop from list)) (k - from) 0 ≡ getD list k 0
+  part-at k low high =
+      let n : from + (k - from) ≡ k = omega arith in
+      getD-take (to - from) (drop from list) (k - from) 0 (omega arith) ∙ getD-drop from list (k - from) 0 ∙ rw n
+
+-- A change of that part that keeps its length keeps the list's, and every element outside the part; inside stands what
+-- the change put there.
 module _ (from to : ℕ) (change : List ℕ → List ℕ) (list : List ℕ) (some : from < to) (keeps : (part : List ℕ) → 0 < length part → length (change part) ≡ length part) where
   part-kept : to ≤ length list → length (change (take (to - from) (drop from list))) ≡ to - from
   part-kept fits =
-      let part = take (to - from) (drop from list) in
-      let n : length part ≡ to - from = simp (length-take, length-drop) (omega arith) in
-      keeps part (omega arith) ∙ n
+      let n = length-part from to list fits in
+      keeps (take (to - from) (drop from list)) (omega arith) ∙ n
 
   pub length-onPart : to ≤ length list → length (onPart from to change list) ≡ length list
   unfolding onPart
@@ -231,3 +240,13 @@ module _ (from to : ℕ) (change : List ℕ → List ℕ) (list : List ℕ) (som
       rw at-rest at (getD-append-add (take from list) (part ++ drop to list) (length part + (k - to)) 0)
       ∙ getD-append-add part (drop to list) (k - to) 0
       ∙ rw at-end at (getD-drop to list (k - to) 0))
+
+  pub inside-part : to ≤ length list → (k : ℕ) → from ≤ k → k < to → getD (onPart from to change list) k 0 ≡ getD (change (take (to - from) (drop from list))) (k - from) 0
+  unfolding onPart
+  inside-part fits k low high =
+      let part = change (take (to - from) (drop from list)) in
+      let n : length (take from list) ≡ from = length-take-le from list (omega arith) in
+      let m : length part ≡ to - from = part-kept fits in
+      let at-part : length (take from list) + (k - from) ≡ k = omega arith in
+      rw at-part at (getD-append-add (take from list) (part ++ drop to list) (k - from) 0)
+      ∙ List·getD-append part (drop to list) 0 (k - from) (omega arith)

@@ -1,13 +1,13 @@
 use borrow.Author.Needs.{needs}
 use borrow.Author.Tests.{ne-eqb}
 use Rattle.words.specs.Choice.{if_then_else_, _and_, _is_to_}
-use Rattle.keys.specs.Keys.{isTyping, keyStep}
+use Rattle.keys.specs.Keys.{isTyping, takenStep}
 use Rattle.steps.proofs.Measuring.{measured}
 use Rattle.keys.proofs.act.Statement.{statement}
 use Rattle.keys.proofs.act.Tie as tie
 
 returns-12 : tie.Need-returns-12
-unfolding keyStep if_then_else_
+unfolding takenStep if_then_else_
 returns-12 c =
     let none = c .before .match .rest in
     let other = c .before .before .before .before .pre .1 in
@@ -30,7 +30,7 @@ returns-12 c =
     ))
 
 pub act-spec : {M : Type 1} → statement M
-unfolding keyStep isTyping _is_to_ _and_ if_then_else_
+unfolding takenStep isTyping _is_to_ _and_ if_then_else_
 act-spec =
     tie.close
     (tie.spec
