@@ -62,7 +62,7 @@ grep -qxE "[0-9A-F]{14}$sent" <(grep -m 1 -E '^.{16,}03$' sample/stow.out) || {
     printf 'the program in docs/PANEL.md sends %s\n' "$sent"
     exit 1
 }
-for session in stow remark; do
+for session in stow remark kinds; do
     run $room/driver transcript <sample/$session.txt | diff sample/$session.out -
 done
 new=$(date +%s)

@@ -9,7 +9,7 @@ second=target/second/release/second
 
 # the sample sessions, as stored, of both
 for program in ./run $second; do
-    for session in stow remark; do
+    for session in stow remark kinds; do
         $program transcript <sample/$session.txt | cmp - sample/$session.out
     done
     $program dump <sample/page.txt | cmp - sample/page.out
