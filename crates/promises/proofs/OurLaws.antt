@@ -3,6 +3,7 @@ use mathlib.Core.Path.{_≡_, refl, sym, ap, subst}
 use mathlib.Core.Bool.{Bool}
 use mathlib.Core.List.{List, [], _∷_}
 use Prim.Native.Nat.{ℕ}
+use native.Mathlib.Omega.{arith}
 use lib.ListN.{length}
 use Rattle.steps.specs.Steps.{Terminal, Stepped, Valid}
 use Rattle.steps.specs.Claims.{SendsBlock}
@@ -10,7 +11,8 @@ use Rattle.commands.specs.Host.{hostStep}
 use Rattle.keys.specs.Keys.{keyStep}
 use Rattle.commands.proofs.Lengths.{step-short}
 use Rattle.commands.proofs.Theorems.{step-keeps-valid, step-keeps-size, step-touches-only, step-sends-full, step-sends-no-changed, step-reports}
-use Rattle.keys.proofs.Theorems.{key-keeps-valid, key-keeps-size, key-touches-only, key-tags, key-sends-full, key-sends-changed, key-sends-no-report, key-keeps-protection}
+use Rattle.keys.proofs.Taking.{stored-taken}
+use Rattle.keys.proofs.Theorems.{no-key-changes-bits, key-keeps-valid, key-keeps-size, key-touches-only, key-tags, key-sends-full, key-sends-changed, key-sends-no-report, key-keeps-protection}
 use Rattle.terminal.specs.Runs.{stepsOf}
 use Rattle.terminal.specs.Calls.{hostCall}
 use Rattle.terminal.specs.Claims.{NumberedBy, Did}
@@ -19,6 +21,7 @@ use Rattle.terminal.proofs.Counts.{key-short}
 use Rattle.terminal.proofs.Theorems
 use Rattle.promises.specs.Rules.{ourRules, Input, byte, press, stepOf, steps, byteSteps}
 use Rattle.promises.specs.Entries.{ourEntries}
+use Rattle.promises.specs.Further.{KeysTake}
 use Rattle.promises.proofs.Laws.{BlockOfPage, StepLaw, StepLaws, Keeps}
 
 -- Of a step: what the theorems of its crate say.
@@ -83,4 +86,16 @@ our-keeps = record {
         subst (λ (run : List Stepped). Did (length bytes) t lent run (hostCall t bytes lent)) (sym (our-steps t bytes)) (Theorems.host-done t bytes lent zero);
     of-key = Theorems.key-done;
   };
+}
+
+-- M-103: what a key stores is taken, and it leaves every mark but modified.
+pub our-keys-take : KeysTake ourRules
+our-keys-take = record {
+  taken = λ t valid key. stored-taken t valid key;
+  kinds = λ t key cell.
+      record {
+        protected = no-key-changes-bits key t 0 (λ same. omega arith) cell;
+        numeric = no-key-changes-bits key t 7 (λ same. omega arith) cell;
+        alphabetic = no-key-changes-bits key t 8 (λ same. omega arith) cell;
+      };
 }

@@ -10,8 +10,8 @@ use Rattle.promises.specs.Contracts.{ourContracts}
 use Rattle.promises.specs.Demands.{Demand1, Follows, Demand2, Demand3}
 use Rattle.promises.specs.Reasons.{Reasons, MessageStays}
 use Rattle.promises.specs.Panel.{Panel, ourPanel, ourCoding, OneRecord, PanelNumbers, PanelRefusals, AsCalled, SamePanels, PanelKept}
-use Rattle.promises.specs.Further.{AllSame, OneResult, SameEntries, OneTerminal, ValidByTheTable, StaysValid, StartsWithOneField, SameHoweverCut, Continuing, Progress, CallsAreSteps, BlocksKeep, SendsBlocks, Bounded, CopyingSteps, OmissionSteps}
-use Rattle.promises.proofs.OurLaws.{our-step-laws, our-keeps}
+use Rattle.promises.specs.Further.{AllSame, OneResult, SameEntries, OneTerminal, ValidByTheTable, StaysValid, StartsWithOneField, SameHoweverCut, Continuing, Progress, CallsAreSteps, BlocksKeep, SendsBlocks, KeysTake, Bounded, CopyingSteps, OmissionSteps}
+use Rattle.promises.proofs.OurLaws.{our-step-laws, our-keeps, our-keys-take}
 use Rattle.promises.proofs.Doing.{by-the-table}
 use Rattle.promises.proofs.OnlyOne.{same-entries}
 use Rattle.promises.proofs.Staying.{KeepsSize, stays-valid-of, keeps-size-of, starts-with-one-field-of, keys-keep-of}
@@ -98,6 +98,9 @@ blocks-keep = blocks-keep-of ourRules our-step-laws
 
 pub sends-blocks : SendsBlocks ourRules
 sends-blocks = our-sends-blocks
+
+pub keys-take : KeysTake ourRules
+keys-take = our-keys-take
 
 pub bounded : Bounded ourRules
 bounded = bounded-of ourRules our-step-laws
