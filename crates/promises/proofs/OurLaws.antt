@@ -11,8 +11,7 @@ use Rattle.commands.specs.Host.{hostStep}
 use Rattle.keys.specs.Keys.{keyStep}
 use Rattle.commands.proofs.Lengths.{step-short}
 use Rattle.commands.proofs.Theorems.{step-keeps-valid, step-keeps-size, step-touches-only, step-sends-full, step-sends-no-changed, step-reports}
-use Rattle.keys.proofs.Taking.{stored-taken}
-use Rattle.keys.proofs.Theorems.{no-key-changes-bits, key-keeps-valid, key-keeps-size, key-touches-only, key-tags, key-sends-full, key-sends-changed, key-sends-no-report, key-keeps-protection}
+use Rattle.keys.proofs.Theorems.{key-takes, no-key-changes-bits, key-keeps-valid, key-keeps-size, key-touches-only, key-tags, key-sends-full, key-sends-changed, key-sends-no-report, key-keeps-protection}
 use Rattle.terminal.specs.Runs.{stepsOf}
 use Rattle.terminal.specs.Calls.{hostCall}
 use Rattle.terminal.specs.Claims.{NumberedBy, Did}
@@ -91,7 +90,7 @@ our-keeps = record {
 -- M-103: what a key stores is taken, and it leaves every mark but modified.
 pub our-keys-take : KeysTake ourRules
 our-keys-take = record {
-  taken = λ t valid key. stored-taken t valid key;
+  taken = λ t valid key. key-takes key t valid;
   kinds = λ t key cell.
       record {
         protected = no-key-changes-bits key t 0 (λ same. omega arith) cell;
