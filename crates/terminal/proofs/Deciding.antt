@@ -83,16 +83,18 @@ module _ (t : Terminal) (key : ℕ) where
       (fails (ap not (valid-holds t (passes .valid)))
       (fails (ap not (passes .known))
       (fails (passes .not-locked-out)
-      (fails (passes .has-cell) no-line))))
+      (fails (passes .has-cell)
+      (fails (passes .taken) no-line)))))
 
   pub key-passed : AllFail (keyRefusals t key) → Passes t key
   unfolding keyRefusals
-  key-passed (fails size (fails valid (fails known (fails free (fails has no-line))))) =
+  key-passed (fails size (fails valid (fails known (fails free (fails has (fails taken no-line)))))) =
       record {
         valid = is-valid t (not-false _ size) (not-false _ valid);
         known = not-false _ known;
         not-locked-out = free;
         has-cell = has;
+        taken = taken;
       }
 
 module _ (t : Terminal) (bytes output : List ℕ) where

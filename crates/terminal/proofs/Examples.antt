@@ -13,7 +13,7 @@ use Rattle.words.specs.Output.{placed}
 use Rattle.words.specs.Text.{bytes}
 use Rattle.sequence.specs.Record.{argumentsFit, largestArgument, validHalfRead, withDigit, withNextArgument}
 use Rattle.sequence.specs.Reading.{isControl, isCancel, outsideSequence, afterEsc, afterIntermediate, afterBracket, insideSequence, advanceOf}
-use Rattle.page.specs.Marks.{unprotected}
+use Rattle.page.specs.Marks.{validMark, unprotected}
 use Rattle.page.specs.Page.{pageOf, validPage, textStored, markAfterBlock, modifiedCleared}
 use Rattle.places.specs.Places.{placeOf}
 use Rattle.fields.specs.Fields.{joined, startsField, endFrom, fieldEnd, fieldsFrom, fieldsOf}
@@ -30,7 +30,7 @@ use Rattle.commands.specs.Commands.{freshStep, listedStep, bracketStep}
 use Rattle.sending.specs.Sending.{sendBlock}
 use Rattle.table.specs.Moves.{toColumn, toRow, toPlace, keptColumn, isMove, moveStep}
 use Rattle.commands.specs.Host.{eventStep, hostStep}
-use Rattle.keys.specs.Keys.{isTyping, isEditing, isFieldMove, isKnown, isLocked, isLockedOut, lacksCell, keyStep}
+use Rattle.keys.specs.Keys.{isTyping, isEditing, isFieldMove, isKnown, isLocked, isLockedOut, lacksCell, isNotTaken, takenStep, keyStep}
 use Rattle.terminal.specs.Runs.{stepsOf, fitting, after, bytesSentBy, cellsStoredBy, countOf, refusedBy, protectionBy}
 use Rattle.terminal.specs.Answers.{numberOf, Outcome, unchanged, afterSteps, changesNothing, gives}
 use Rattle.terminal.specs.Tests.{firstOf, exceedsRoom, passesLine2, startLines, hostRefusals, keyRefusals, hostLines, keyLines}
@@ -137,5 +137,5 @@ examples =
 
 -- Each leaves what document 01 says.
 as-document-01 : map (λ (e : Example). seen (last started (e .calls))) examples ≡ map (λ (e : Example). e .gives) examples
-unfolding outcome last started seen goes refuses keyed _leave_ sequence at4x20 at24x80 examples if_then_else_ _and_ _or_ _is_to_ within every eachFrom numbersFrom selected placed argumentsFit largestArgument validHalfRead withDigit withNextArgument isControl isCancel outsideSequence afterEsc afterIntermediate afterBracket insideSequence advanceOf unprotected validPage textStored markAfterBlock modifiedCleared placeOf joined startsField endFrom fieldEnd fieldsFrom fieldsOf entryBytes encode entryOf someModified isInBlock entriesSent block messageOf refused onBy rightBy validPen listedRows listedColumns listedSize sizeFits cursorFits stopsFit validMessage validState bytesOf blockTransmission allowed valueOf toNextCell textStep freshStep sendBlock toColumn toRow toPlace keptColumn isMove moveStep listedStep bracketStep eventStep hostStep isTyping isEditing isFieldMove isKnown isLocked isLockedOut lacksCell keyStep stepsOf fitting after bytesSentBy cellsStoredBy countOf refusedBy protectionBy numberOf unchanged afterSteps changesNothing gives firstOf exceedsRoom passesLine2 startLines hostRefusals keyRefusals hostLines keyLines startStep startCall hostCall keyCall
+unfolding outcome last started seen goes refuses keyed _leave_ sequence at4x20 at24x80 examples if_then_else_ _and_ _or_ _is_to_ within every eachFrom numbersFrom selected placed argumentsFit largestArgument validHalfRead withDigit withNextArgument isControl isCancel outsideSequence afterEsc afterIntermediate afterBracket insideSequence advanceOf validMark unprotected validPage textStored markAfterBlock modifiedCleared placeOf joined startsField endFrom fieldEnd fieldsFrom fieldsOf entryBytes encode entryOf someModified isInBlock entriesSent block messageOf refused onBy rightBy validPen listedRows listedColumns listedSize sizeFits cursorFits stopsFit validMessage validState bytesOf blockTransmission allowed valueOf toNextCell textStep freshStep sendBlock toColumn toRow toPlace keptColumn isMove moveStep listedStep bracketStep eventStep hostStep isTyping isEditing isFieldMove isKnown isLocked isLockedOut lacksCell isNotTaken takenStep keyStep stepsOf fitting after bytesSentBy cellsStoredBy countOf refusedBy protectionBy numberOf unchanged afterSteps changesNothing gives firstOf exceedsRoom passesLine2 startLines hostRefusals keyRefusals hostLines keyLines startStep startCall hostCall keyCall
 as-document-01 = refl

@@ -1,19 +1,24 @@
--- Lines 4, 5 and 7, clause by clause: the tests that run hold exactly when the lines do.
+-- Lines 4, 5, 7 and 8, clause by clause: the tests that run hold exactly when the lines do.
 use mathlib.Core.Path.{_≡_, refl, sym, ap, _∙_}
 use mathlib.Core.Bool.{true, false, not}
 use mathlib.Core.List.{List, [], _∷_}
 use mathlib.Core.Logic.{_↔_, ⊎-elim}
-use Prim.Native.Nat.{ℕ, _≤_}
+use Prim.Native.Nat.{ℕ, _+_, _-_, _<_, _≤_}
 use native.Mathlib.Omega.{arith}
-use borrow.Author.Tests.{eqb-false, not-true, ne-eqb}
-use Rattle.words.specs.Choice.{_or_, _is_to_}
-use Rattle.words.proofs.Choosing.{true-is-not-false, not-both, either-way, then-case, else-case, both, both-hold, neither, one-holds, first-holds, second-decides, range-holds, range-is}
+use borrow.Author.Tests.{eqb-true, eqb-false, not-true, ne-eqb}
+use lib.Dec.{eqb}
+use lib.ListN.{getD}
+use Rattle.words.specs.Choice.{if_then_else_, _and_, _or_, _is_to_}
+use Rattle.words.proofs.Choosing.{true-is-not-false, not-both, either-way, then-case, else-case, both, both-hold, neither, one-holds, first-holds, second-decides, range-holds, range-is, refuted}
+use Rattle.words.proofs.Ranges.{in-range, some-place-fails}
+use Rattle.page.specs.Marks.{takes}
+use Rattle.page.specs.Page.{takesFromRight, takesFromLeft}
 use Rattle.fields.specs.Fields.{Field}
 use Rattle.state.specs.declared.State.{State}
 use Rattle.steps.specs.Steps.{Terminal, cursorCell}
-use Rattle.steps.specs.Seen.{unprotectedAt, fieldsHere}
-use Rattle.keys.specs.Keys.{isTyping, isEditing, isFieldMove, isKnown, isLocked, isLockedOut, noField, lacksCell}
-use Rattle.terminal.specs.Lines.{Line4, Line5, manual-lock, soft-lock, Line7, typed-on-protected, edited-on-protected, no-field}
+use Rattle.steps.specs.Seen.{seen, characterAt, unprotectedAt, takesAt, fieldsHere, endHere}
+use Rattle.keys.specs.Keys.{isTyping, isEditing, isFieldMove, isKnown, isLocked, isLockedOut, noField, lacksCell, carried, isNotTaken}
+use Rattle.terminal.specs.Lines.{Line4, Line5, manual-lock, soft-lock, Line7, typed-on-protected, edited-on-protected, no-field, Line8, typed-not-taken, not-taken-on-the-left, not-taken-on-the-right}
 
 pub line-4 : (key : ℕ) → (not (isKnown key) ≡ true) ↔ Line4 key
 unfolding isKnown isTyping
@@ -90,3 +95,71 @@ line-7 key t = (holds, λ line. lacks line)
         else-case _ _ _ (second-decides _ _ (outside 32 126 (λ range. omega (arith, range .1))) ∙ outside 263 265 (λ range. omega (arith, range .0)))
         ∙ then-case _ _ _ (range-is key 260 261 low high)
         ∙ ap noField none
+
+-- Line 8 for 264 and 265: some cell doesn't take what comes to it.
+module _ (t : Terminal) where
+  abbrev cursor : ℕ
+  cursor = cursorCell (t .state)
+
+  on-the-left : isNotTaken 264 t ≡ not (takesFromRight (seen t) cursor (carried t))
+  unfolding isNotTaken isTyping _is_to_ _and_ if_then_else_
+  on-the-left = refl
+
+  on-the-right : isNotTaken 265 t ≡ not (takesFromLeft (seen t) cursor (carried t))
+  unfolding isNotTaken isTyping _is_to_ _and_ if_then_else_
+  on-the-right = refl
+
+  some-on-the-left : takesFromRight (seen t) cursor (carried t) ≡ false → (cell : ℕ) × (cursor < cell) × (cell < endHere t) × (takesAt t (cell - 1) (characterAt t cell) ≡ false)
+  unfolding takesFromRight
+  some-on-the-left fails =
+      let found = some-place-fails _ cursor (carried t) fails in
+      let left : found .0 + 1 - 1 ≡ found .0 = omega arith in
+      (found .0 + 1, omega arith, omega arith, ap (λ (cell : ℕ). takesAt t cell (characterAt t (found .0 + 1))) left ∙ found .3)
+
+  left-fails : (cell : ℕ) → cursor < cell → cell < endHere t → takesAt t (cell - 1) (characterAt t cell) ≡ false → takesFromRight (seen t) cursor (carried t) ≡ false
+  unfolding takesFromRight
+  left-fails cell low high fails =
+      let right : cell - 1 + 1 ≡ cell = omega arith in
+      refuted _ (λ all. not-both (in-range _ cursor (carried t) (cell - 1) all (omega arith) (omega arith)) (ap (λ (from : ℕ). takesAt t (cell - 1) (characterAt t from)) right ∙ fails))
+
+  some-on-the-right : takesFromLeft (seen t) cursor (carried t) ≡ false → (cell : ℕ) × (cursor ≤ cell) × (cell + 1 < endHere t) × (takesAt t (cell + 1) (characterAt t cell) ≡ false)
+  unfolding takesFromLeft
+  some-on-the-right fails =
+      let found = some-place-fails _ cursor (carried t) fails in
+      (found .0, found .1, omega arith, found .3)
+
+  right-fails : (cell : ℕ) → cursor ≤ cell → cell + 1 < endHere t → takesAt t (cell + 1) (characterAt t cell) ≡ false → takesFromLeft (seen t) cursor (carried t) ≡ false
+  unfolding takesFromLeft
+  right-fails cell low high fails = refuted _ (λ all. not-both (in-range _ cursor (carried t) cell all low (omega arith)) fails)
+
+pub line-8 : (key : ℕ) (t : Terminal) → (isNotTaken key t ≡ true) ↔ Line8 key t
+unfolding isNotTaken isTyping
+line-8 key t = (holds, λ line. not-taken line)
+  where
+    same : {other : ℕ} → key ≡ other → isNotTaken key t ≡ isNotTaken other t
+    same asked = ap (λ (k : ℕ). isNotTaken k t) asked
+
+    holds : isNotTaken key t ≡ true → Line8 key t
+    holds refused =
+        either-way (key is 32 to 126)
+        (λ typing.
+        let range = range-holds key 32 126 typing in
+        typed-not-taken (range .0) (range .1) (not-true _ (sym (then-case _ _ _ typing) ∙ refused)))
+        (λ other.
+        either-way (eqb key 264)
+        (λ deletes.
+        let asked = eqb-true key 264 deletes in
+        let found = some-on-the-left t (not-true _ (sym (same asked ∙ on-the-left t) ∙ refused)) in
+        not-taken-on-the-left asked (found .0) (found .1) (found .2) (found .3))
+        (λ no-264.
+        either-way (eqb key 265)
+        (λ inserts.
+        let asked = eqb-true key 265 inserts in
+        let found = some-on-the-right t (not-true _ (sym (same asked ∙ on-the-right t) ∙ refused)) in
+        not-taken-on-the-right asked (found .0) (found .1) (found .2) (found .3))
+        (λ no-265. absurd (true-is-not-false (sym refused ∙ else-case _ _ _ other ∙ else-case _ _ _ no-264 ∙ else-case _ _ _ no-265)))))
+
+    not-taken : Line8 key t → isNotTaken key t ≡ true
+    not-taken (typed-not-taken low high fails) = then-case _ _ _ (range-is key 32 126 low high) ∙ ap not fails
+    not-taken (not-taken-on-the-left asked cell low high fails) = same asked ∙ on-the-left t ∙ ap not (left-fails t cell low high fails)
+    not-taken (not-taken-on-the-right asked cell low high fails) = same asked ∙ on-the-right t ∙ ap not (right-fails t cell low high fails)

@@ -6,9 +6,9 @@ use borrow.Author.Tests.{not-true, not-false}
 use lib.ListN.{drop}
 use Rattle.state.specs.Tests.{sizeFits}
 use Rattle.steps.specs.Steps.{Terminal, Valid, terminalOf}
-use Rattle.keys.specs.Keys.{isKnown, isLockedOut}
+use Rattle.keys.specs.Keys.{isKnown, isLockedOut, lacksCell}
 use Rattle.terminal.specs.declared.Answer.{Answer}
-use Rattle.terminal.specs.declared.Answer.the-variants.{WrongSize, WrongState, UnknownKey, Locked, NoCell}
+use Rattle.terminal.specs.declared.Answer.the-variants.{WrongSize, WrongState, UnknownKey, Locked, NoCell, NotTaken}
 use Rattle.terminal.specs.Answers.{changesNothing}
 use Rattle.terminal.specs.Tests.{LineTest, passesLine2, keyRefusals, keyLines}
 use Rattle.terminal.proofs.Firsts.{First, this, past}
@@ -75,6 +75,19 @@ past-4 c later = past-3 (else-3 c) (past (not-locked-out c) later)
 abbrev else-4 : tie.Else5 → tie.Else4
 else-4 c = c .before .before .before .before
 
+abbrev start-5 : tie.Else5 → tie.Start
+start-5 c = start-4 (else-4 c)
+
+has-cell : (c : tie.Else5) → lacksCell (start-5 c .args .key) (lent (start-5 c)) ≡ false
+has-cell c = sym (c .before .lacks-cell .ensures) ∙ c .if5 .left
+
+past-5 : (c : tie.Else5) {answer : Answer} → First (drop 5 (lines (start-5 c))) answer → First (lines (start-5 c)) answer
+unfolding keyLines keyRefusals
+past-5 c later = past-4 (else-4 c) (past (has-cell c) later)
+
+abbrev else-5 : tie.Else6 → tie.Else5
+else-5 c = c .before .before .before .before
+
 -- So the first test that holds decides.
 returns : tie.Need-returns
 unfolding keyLines keyRefusals changesNothing
@@ -110,21 +123,33 @@ returns-5 c =
     let lacks = sym (test .lacks-cell .ensures) ∙ c .before .if5 .taken in
     c .refuse-call5 .ensures _ _ ∙ sym (key-refuses _ _ _ NoCell refl (past-4 (test .before .before .before) (this lacks)))
 
+returns-6 : tie.Need-returns-6
+unfolding keyLines keyRefusals changesNothing
+returns-6 c =
+    let test = c .before .before in
+    let not-taken = sym (test .is-not-taken .ensures) ∙ c .before .if6 .taken in
+    c .refuse-call6 .ensures _ _ ∙ sym (key-refuses _ _ _ NotTaken refl (past-5 (test .before .before .before) (this not-taken)))
+
 terminal-valid : (c : tie.Else2) → Valid (lent (start-2 c))
 terminal-valid c = is-valid _ (size-fits (else-1 c)) (valid c)
 
 lacks-cell-requires : tie.Need-lacks-cell-requires
 lacks-cell-requires c κs = terminal-valid (else-2 (else-3 (c .before .before)))
 
+is-not-taken-requires : tie.Need-is-not-taken-requires
+is-not-taken-requires c κs = terminal-valid (else-2 (else-3 (else-4 (c .before .before))))
+
 press-requires : tie.Need-press-requires
 press-requires c κs =
-    let at-5 = c .before .before .before in
+    let at-6 = c .before .before .before in
+    let at-5 = else-5 at-6 in
     let at-4 = else-4 at-5 in
     record {
       valid = terminal-valid (else-2 (else-3 at-4));
       known = known (else-3 at-4);
       not-locked-out = not-locked-out at-4;
-      has-cell = sym (at-5 .before .lacks-cell .ensures) ∙ at-5 .if5 .left;
+      has-cell = has-cell at-5;
+      taken = sym (at-6 .before .is-not-taken .ensures) ∙ at-6 .if6 .left;
     }
 
 pub key-spec : {M : Type 1} → statement M
@@ -156,6 +181,11 @@ key-spec =
     (λ c. search needs)
     (λ c. search needs)
     returns-5
+    is-not-taken-requires
+    (λ c κs. search needs)
+    (λ c. search needs)
+    (λ c. search needs)
+    returns-6
     press-requires
     (λ c. search needs)
     (λ c. search needs)
