@@ -5,7 +5,7 @@ use mathlib.Core.List.{List, [], _∷_, append-nil, List·Memᴰ, List·Memᴰ·
 use mathlib.Core.Logic.{⊎-elim}
 use Prim.Native.Nat.{ℕ, _+_, _*_, _<_, _≤_}
 use native.Mathlib.Omega.{arith}
-use borrow.Author.Tests.{leb-true, le-leb, ltb-true, eqb-true, eq-eqb}
+use borrow.Author.Tests.{leb-true, le-leb, eqb-true, eq-eqb}
 use lib.ListN.{length, take, drop, replicate, take-append-drop, drop-of-length-le, length-append, length-drop}
 use lib.Seq.{length-take-le}
 use Rattle.words.specs.Lists.{every}
@@ -13,6 +13,7 @@ use Rattle.words.specs.Output.{placed}
 use Rattle.words.proofs.Choosing.{both, both-hold, then-case, either-line}
 use Rattle.words.proofs.Pieces.{flat-length}
 use Rattle.page.specs.Marks.{validMark}
+use Rattle.page.proofs.Valid.{valid-mark}
 use Rattle.record.specs.Bytes.{numberBytes, numberAt, AreBytes, readEach}
 use Rattle.record.proofs.Reading.{length-each, first-read}
 use Rattle.record.proofs.RoundTrip.{many, number-back, each-back, numbers-again, all-again}
@@ -78,7 +79,7 @@ marks-fit : (marks : List ℕ) → every validMark marks ≡ true → (mark : �
 unfolding every many
 marks-fit [] valid mark among = absurd (List·Memᴰ·not-nil among)
 marks-fit (first ∷ later) valid mark among =
-    let here = ltb-true first 0x80 (both valid .0) in
+    let here = valid-mark first (both valid .0) .0 in
     ⊎-elim (λ is. omega arith) (λ after. marks-fit later (both valid .1) mark after) (List·Memᴰ·cases-cons among)
 
 pub marks-back : (cells : ℕ) (marks : List ℕ) → every validMark marks ≡ true → cells ≤ 7680 → length marks ≡ cells → marksIn cells (markBytes marks) ≡ marks

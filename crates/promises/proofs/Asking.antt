@@ -12,7 +12,7 @@ use Rattle.steps.specs.Seen.{blockHere}
 use Rattle.sending.specs.Sending.{sendBlock}
 use Rattle.commands.specs.Commands.{escStep}
 use Rattle.commands.specs.Host.{eventStep}
-use Rattle.keys.specs.Keys.{isTyping, keyStep}
+use Rattle.keys.specs.Keys.{isTyping, isNotTaken, takenStep, keyStep}
 use Rattle.commands.proofs.Theorems.{step-sends-full, step-sends-no-changed}
 use Rattle.keys.proofs.Theorems.{key-sends-full, key-sends-changed}
 use Rattle.promises.specs.Rules.{ourRules, Input, byte, press, stepOf}
@@ -26,7 +26,7 @@ s-event half after-esc = rw after-esc
 
 module _ (t : Terminal) where
   pub block-asked : (full : Bool) (input : Input) → Asks t full input → stepOf ourRules input t .transmission ≡ blockTransmission full (blockHere full t)
-  unfolding stepOf keyStep isTyping eventStep escStep sendBlock if_then_else_ _is_to_ _and_
+  unfolding stepOf keyStep isNotTaken takenStep isTyping eventStep escStep sendBlock if_then_else_ _is_to_ _and_
   block-asked _ _ changed-by-266 = refl
   block-asked _ _ full-by-267 = refl
   block-asked _ _ (full-by-esc-s after-esc) = ap (λ (s : Stepped). s .transmission) (step-is t 0x53 (s-event (t .state .half) after-esc) refl)

@@ -21,6 +21,7 @@ use Rattle.state.proofs.Keeping.{parts}
 use Rattle.steps.specs.Steps.{Terminal, Stepped, Valid, refusing}
 use Rattle.table.specs.Table.{allowed}
 use Rattle.sending.specs.Sending.{sendBlock}
+use Rattle.table.specs.Settings.{areaSet}
 use Rattle.commands.specs.Text.{textStep, lineDown, lineUp, nextLine, controlStep}
 use Rattle.commands.specs.Commands.{freshStep, escStep, bracketStep}
 use Rattle.commands.specs.Host.{eventStep, hostStep}
@@ -169,7 +170,7 @@ module _ (t : Terminal) (valid : Valid t) (byte : ℕ) (low : byte < 0x80) where
       known listed accepts = by-none low (none-after-esc (λ _. listed)) accepts
 
       esc-judged : 0x30 ≤ byte → eqb byte 0x5B ≡ false → Judged t byte (escStep byte (reading t nothingRead))
-      unfolding escStep freshStep sendBlock NoneOf messageOf
+      unfolding escStep areaSet freshStep sendBlock NoneOf messageOf
       esc-judged enough bracket =
           let Fine : Stepped → Type 0 = Judged t byte in
           either-line Fine _ _ _ (λ e. known (λ none. none .1 .0 (eqb-true byte 0x44 e)) (line-down-accepts _))

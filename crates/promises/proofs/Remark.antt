@@ -52,7 +52,7 @@ full-block = block-amid 78 (bytes "ABC.D") noTag (omega arith) refl refl true �
 call-267 : keyCall sender 267 (replicate 18 0) ≡ leaves 0 0 0 fullBytes sender
 unfolding validity keySteps calls
 call-267 =
-    sends-known sender 267 fullBytes (replicate 18 0) (record { valid = sender-valid; known = refl; not-locked-out = refl; has-cell = refl })
+    sends-known sender 267 fullBytes (replicate 18 0) (record { valid = sender-valid; known = refl; not-locked-out = refl; has-cell = refl; taken = refl })
     full-block refl refl refl refl refl
 
 -- Fed back: all 18 bytes are taken, four cells stored, nothing sent or refused, and the second terminal has the
@@ -88,7 +88,7 @@ changed-block = block-amid 78 (bytes "AC .D") carriedTags (omega arith) refl ref
 call-266 : keyCall (carried carriedTags) 266 (replicate 11 0) ≡ leaves 0 0 0 changedBytes (carried noTag)
 unfolding validity keySteps calls
 call-266 =
-    sends-known (carried carriedTags) 266 changedBytes (replicate 11 0) (record { valid = carried-valid; known = refl; not-locked-out = refl; has-cell = refl })
+    sends-known (carried carriedTags) 266 changedBytes (replicate 11 0) (record { valid = carried-valid; known = refl; not-locked-out = refl; has-cell = refl; taken = refl })
     changed-block refl refl refl refl refl
 
 -- The copy after it, worked out from the bytes of the two alone, is the full block of the page as it stands.

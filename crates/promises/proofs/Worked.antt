@@ -198,7 +198,7 @@ sends-known t key sent lent passes is no-cell not-refused kept room all =
 pub call-267 : keyCall start 267 (replicate 17 0) ≡ leaves 0 0 0 (fullBytes "A" "C") start
 unfolding validity keySteps calls
 call-267 =
-    sends-known start 267 (fullBytes "A" "C") (replicate 17 0) (record { valid = start-valid; known = refl; not-locked-out = refl; has-cell = refl })
+    sends-known start 267 (fullBytes "A" "C") (replicate 17 0) (record { valid = start-valid; known = refl; not-locked-out = refl; has-cell = refl; taken = refl })
     (full-noTag "A" "C") refl refl refl refl refl
 
 typedX-valid : Valid typedX
@@ -222,7 +222,7 @@ typedY-valid = record { size = refl; state = refl; page = refl }
 call-266 : keyCall typedY 266 (replicate 9 0) ≡ leaves 0 0 0 changedBytes end
 unfolding validity keySteps calls
 call-266 =
-    sends-known typedY 266 changedBytes (replicate 9 0) (record { valid = typedY-valid; known = refl; not-locked-out = refl; has-cell = refl })
+    sends-known typedY 266 changedBytes (replicate 9 0) (record { valid = typedY-valid; known = refl; not-locked-out = refl; has-cell = refl; taken = refl })
     changed-secondTagged refl refl refl refl refl
 
 -- All that is seen, call by call; and the inputs that these calls did are those above.

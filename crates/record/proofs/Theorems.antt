@@ -17,6 +17,7 @@ use Rattle.sequence.specs.Record.{largestArgument, argumentsFit, validHalfRead}
 use Rattle.state.specs.declared.State.{State}
 use Rattle.state.specs.State.{Arrays, zeroState}
 use Rattle.state.specs.Tests.{listedSize, validState}
+use Rattle.page.proofs.Valid.{valid-mark}
 use Rattle.state.proofs.Keeping.{size-bounds, on-page, parts, pen-range}
 use Rattle.record.specs.Bytes.{numberBytes, numberAt, flagByte, flagBytes, flagAt, readEach}
 use Rattle.record.specs.Record.{firstBytes, argumentBytes, stopBytes, recordOf, stateIn, Good, isGood}
@@ -83,7 +84,7 @@ module _ (s : State) (listed : listedSize (s .size) ≡ true) (valid : validStat
   reads-back =
       let bounds = size-bounds (s .size) listed in
       let cursor = on-page s listed valid in
-      let pen = pen-range (s .modes .pen) (parts s valid .pen) .0 in
+      let pen = valid-mark (s .modes .pen) (pen-range (s .modes .pen) (parts s valid .pen) .0) .0 in
       (λ i. record {
         size = record { rows = two-back (s .size .rows) (omega arith) i; columns = two-back (s .size .columns) (omega arith) i };
         cursor = record { row = two-back (s .cursor .row) (omega arith) i; column = two-back (s .cursor .column) (omega arith) i };
