@@ -24,7 +24,7 @@ abbrev withKey : (Lent → ℕ → Left) → Panel
 withKey key = record { start = panelStart; host = panelHost; key = key }
 
 -- What a call leaves, with another record; with another result slice.
-abbrev withRecord : List ℕ → Left → Left
+abbrev pub withRecord : List ℕ → Left → Left
 withRecord packed left =
     let lent = left .lent in
     untouched (left .number) (lentOf packed (lent .characters) (lent .marks) (lent .output) (lent .result))
@@ -40,7 +40,7 @@ ownNumber lent = wrongLength (lent .packed) (lent .result)
 
 -- One record. The erasure mode's flag may be any byte: those other than 0 are read as true, and are taken.
 abbrev anyFlag : List ℕ → List ℕ
-anyFlag bytes = set bytes 9 (flagByte (not (eqb (getD bytes 9 0) 0)))
+anyFlag bytes = set bytes 10 (flagByte (not (eqb (getD bytes 10 0) 0)))
 
 abbrev pub takesAnyFlag : Coding
 takesAnyFlag = record {
@@ -51,7 +51,7 @@ takesAnyFlag = record {
 
 -- The tab stop of column 160 is written as 0.
 abbrev pub losesLastStop : Coding
-losesLastStop = record { write = λ s. set (recordOf s) 192 0; read = stateIn; takes = isGood }
+losesLastStop = record { write = λ s. set (recordOf s) 193 0; read = stateIn; takes = isGood }
 
 -- The rows are written with the high byte first, and read with the low one first.
 abbrev rowsSwapped : List ℕ → List ℕ
@@ -66,7 +66,7 @@ takesBadContent = withHost (λ lent bytes.
     let wrong = ownNumber lent in
     if ltb 0 wrong then untouched wrong lent
     else if not (sizeFits (stateIn (lent .packed) .size) (pageIn lent)) then refusedWith 1 lent
-    else leftBy (hostCall (terminalIn lent) bytes (lent .output)))
+    else leftBy lent (hostCall (terminalIn lent) bytes (lent .output)))
 
 -- The record's length is tested before the result slice's.
 abbrev pub recordBeforeResult : Panel
@@ -101,7 +101,7 @@ abbrev pub forgetsTheRecord : Panel
 forgetsTheRecord = withHost (λ lent bytes. withRecord (lent .packed) (panelHost lent bytes))
 
 -- The counts in the result slice have the high byte first.
-abbrev countsReversed : List ℕ → List ℕ
+abbrev pub countsReversed : List ℕ → List ℕ
 countsReversed result =
     take 1 result
     ++ reverse (take 4 (drop 1 result))
@@ -118,7 +118,7 @@ countsHighByteFirst = withHost (λ lent bytes.
 abbrev pub leavesFlag2 : Panel
 leavesFlag2 = withHost (λ lent bytes.
     let left = panelHost lent bytes in
-    if eqb (left .number) 0 then withRecord (set (left .lent .packed) 9 2) left
+    if eqb (left .number) 0 then withRecord (set (left .lent .packed) 10 2) left
     else left)
 
 -- A key leaves a record of zeros.
