@@ -9,6 +9,7 @@ use borrow.Author.Tests.{eqb-false, eq-eqb}
 use lib.Dec.{ltb}
 use lib.ListN.{length, getD, set, replicate}
 use Rattle.words.specs.Choice.{if_then_else_}
+use Rattle.words.specs.Output.{placed}
 use Rattle.words.specs.Lists.{exactly}
 use Rattle.words.proofs.Choosing.{true-is-not-false, not-both, both, then-case, else-case}
 use Rattle.page.specs.Page.{Page}
@@ -24,11 +25,11 @@ use Rattle.terminal.specs.Lines.{this-holds, not-this}
 use Rattle.terminal.proofs.Matching.{decides-one}
 use Rattle.record.specs.Bytes.{numberBytes, numberAt, flagByte, readEach, sameBytes}
 use Rattle.record.specs.Record.{firstBytes, recordOf, stateIn, Good, isGood}
-use Rattle.panel.specs.Panel.{Lent, Left, lentOf, resultBytes, marksSaid, pageIn, untouched, refusedWith, leftBy, wrongLength, wrongContent, panelStart, onTerminal, panelHost, panelKey}
+use Rattle.panel.specs.Panel.{Lent, Left, lentOf, resultBytes, marksSaid, markBytes, pageIn, untouched, refusedWith, leftBy, wrongLength, wrongContent, panelStart, onTerminal, panelHost, panelKey}
 use Rattle.promises.specs.Rules.{ourRules}
 use Rattle.promises.specs.Entries.{ourEntries, read}
-use Rattle.promises.specs.Panel.{rows-not-listed, ValidState, OneRecord, PanelNumbers, PanelRefusals, Shown, lentFor, AsCalled, leftOf, leftAll, AllShown, next-shown, AsCalledOn, LeavesValid}
-use Rattle.wrong.specs.Panels.{withRecord, countsReversed, takesAnyFlag, losesLastStop, highByteFirst, takesBadContent, recordBeforeResult, contentBeforeSize, zeroesResults, refusedStartKeepsRecord, forgetsTheRecord, countsHighByteFirst, leavesFlag2, leavesNoSize}
+use Rattle.promises.specs.Panel.{rows-not-listed, marks-not-twice-as-long, ValidState, OneRecord, PanelNumbers, PanelRefusals, Shown, lentFor, AsCalled, leftOf, leftAll, AllShown, next-shown, AsCalledOn, LeavesValid}
+use Rattle.wrong.specs.Panels.{withRecord, firstTwoSwapped, countsReversed, takesAnyFlag, losesLastStop, highByteFirst, takesBadContent, takesOneByteMarks, recordBeforeResult, contentBeforeSize, zeroesResults, refusedStartKeepsRecord, forgetsTheRecord, marksHighByteFirst, countsHighByteFirst, leavesFlag2, leavesNoSize}
 use Rattle.promises.proofs.PanelPages.{panel-line-1, page-back}
 use Rattle.promises.proofs.Theorems.{panel-kept}
 use Rattle.promises.proofs.Computing.{tests, validity, hostSteps, keySteps, calls, streams}
@@ -164,6 +165,23 @@ contentBeforeSize-breaks-numbers kept =
     (not-this _ _ 1 (λ other. other refl)
     (this-holds _ _ (rows-not-listed (eqb-false 0 24 refl) (eqb-false 0 27 refl) (eqb-false 0 48 refl))))))
 
+-- A page whose marks have one byte a cell is given 1.
+abbrev oneByteLent : Lent
+oneByteLent = lentOf (recordOf (oneField .state)) (oneField .page .characters) (oneField .page .marks) [] (replicate 13 0)
+
+one-byte-done : takesOneByteMarks .host oneByteLent [] .number ≡ 0
+unfolding records calls
+one-byte-done = refl
+
+pub takesOneByteMarks-breaks-numbers : PanelNumbers ourRules takesOneByteMarks → ⊥
+unfolding records
+takesOneByteMarks-breaks-numbers kept =
+    eqb-false 0 1 refl
+    (decides-one (kept .of-host oneByteLent [] 0 .0 one-byte-done)
+    (not-this _ _ 1 (λ other. other refl)
+    (not-this _ _ 1 (λ other. other refl)
+    (this-holds _ _ (marks-not-twice-as-long (eqb-false 1920 3840 refl))))))
+
 -- A result slice of one byte.
 abbrev shortResult : Lent
 shortResult = lentOf (replicate 194 0) [] [] [] (7 ∷ [])
@@ -203,6 +221,30 @@ unfolding streams leftOf leftAll
 forgetsTheRecord-breaks-as-called-on kept =
     let shown = kept oneField one-field-valid one-field-arrays (read esc [] ∷ []) [] (replicate 13 0) refl in
     half-is-told (first-shown shown .packed)
+
+-- The first cell's marks are 2, modified, and would be read as 512.
+abbrev marksLeft : List ℕ
+marksLeft = placed 0 (markBytes (hostCall oneField [] [] .terminal .page .marks)) (formLent .marks)
+
+first-mark : (getD marksLeft 0 0 ≡ 2) × (getD (firstTwoSwapped marksLeft) 0 0 ≡ 0)
+unfolding records calls
+first-mark = (refl, refl)
+
+marks-break : Shown (formLent .marks) (hostCall oneField [] []) (marksHighByteFirst .host formLent []) → ⊥
+marks-break shown =
+    eqb-false 0 2 refl
+    (sym (first-mark .1)
+    ∙ ap (λ (marks : List ℕ). getD (firstTwoSwapped marks) 0 0) (sym (host-shown [] .marks))
+    ∙ ap (λ (marks : List ℕ). getD marks 0 0) (shown .marks)
+    ∙ first-mark .0)
+
+pub marksHighByteFirst-breaks-as-called : AsCalled ourEntries marksHighByteFirst → ⊥
+marksHighByteFirst-breaks-as-called kept = marks-break (kept .of-host oneField one-field-valid one-field-arrays [] [] (replicate 13 0) refl)
+
+pub marksHighByteFirst-breaks-as-called-on : AsCalledOn ourEntries marksHighByteFirst → ⊥
+unfolding streams leftOf leftAll
+marksHighByteFirst-breaks-as-called-on kept =
+    marks-break (first-shown (kept oneField one-field-valid one-field-arrays (read [] [] ∷ []) [] (replicate 13 0) refl))
 
 -- One byte taken is told as 16,777,216.
 form-lengths : wrongLength (formLent .packed) (formLent .result) ≡ 0
