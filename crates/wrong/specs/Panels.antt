@@ -5,6 +5,7 @@ use Prim.Native.Nat.{ℕ}
 use lib.Dec.{eqb, ltb}
 use lib.ListN.{length, take, drop, getD, set, replicate}
 use Rattle.words.specs.Choice.{if_then_else_}
+use Rattle.page.specs.Page.{pageOf}
 use Rattle.state.specs.Tests.{sizeFits}
 use Rattle.terminal.specs.Calls.{hostCall}
 use Rattle.record.specs.Bytes.{flagByte}
@@ -23,11 +24,16 @@ withHost host = record { start = panelStart; host = host; key = panelKey }
 abbrev withKey : (Lent → ℕ → Left) → Panel
 withKey key = record { start = panelStart; host = panelHost; key = key }
 
--- What a call leaves, with another record; with another result slice.
-abbrev withRecord : List ℕ → Left → Left
+-- What a call leaves, with another record; with other marks; with another result slice.
+abbrev pub withRecord : List ℕ → Left → Left
 withRecord packed left =
     let lent = left .lent in
     untouched (left .number) (lentOf packed (lent .characters) (lent .marks) (lent .output) (lent .result))
+
+abbrev withMarks : List ℕ → Left → Left
+withMarks marks left =
+    let lent = left .lent in
+    untouched (left .number) (lentOf (lent .packed) (lent .characters) marks (lent .output) (lent .result))
 
 abbrev withResult : List ℕ → Left → Left
 withResult result left =
@@ -40,7 +46,7 @@ ownNumber lent = wrongLength (lent .packed) (lent .result)
 
 -- One record. The erasure mode's flag may be any byte: those other than 0 are read as true, and are taken.
 abbrev anyFlag : List ℕ → List ℕ
-anyFlag bytes = set bytes 9 (flagByte (not (eqb (getD bytes 9 0) 0)))
+anyFlag bytes = set bytes 10 (flagByte (not (eqb (getD bytes 10 0) 0)))
 
 abbrev pub takesAnyFlag : Coding
 takesAnyFlag = record {
@@ -51,14 +57,14 @@ takesAnyFlag = record {
 
 -- The tab stop of column 160 is written as 0.
 abbrev pub losesLastStop : Coding
-losesLastStop = record { write = λ s. set (recordOf s) 192 0; read = stateIn; takes = isGood }
+losesLastStop = record { write = λ s. set (recordOf s) 193 0; read = stateIn; takes = isGood }
 
 -- The rows are written with the high byte first, and read with the low one first.
-abbrev rowsSwapped : List ℕ → List ℕ
-rowsSwapped bytes = set (set bytes 0 (getD bytes 1 0)) 1 (getD bytes 0 0)
+abbrev pub firstTwoSwapped : List ℕ → List ℕ
+firstTwoSwapped bytes = set (set bytes 0 (getD bytes 1 0)) 1 (getD bytes 0 0)
 
 abbrev pub highByteFirst : Coding
-highByteFirst = record { write = λ s. rowsSwapped (recordOf s); read = stateIn; takes = isGood }
+highByteFirst = record { write = λ s. firstTwoSwapped (recordOf s); read = stateIn; takes = isGood }
 
 -- Numbers. Host bytes are read with bad content too: it gives what the entry gives.
 abbrev pub takesBadContent : Panel
@@ -66,7 +72,7 @@ takesBadContent = withHost (λ lent bytes.
     let wrong = ownNumber lent in
     if ltb 0 wrong then untouched wrong lent
     else if not (sizeFits (stateIn (lent .packed) .size) (pageIn lent)) then refusedWith 1 lent
-    else leftBy (hostCall (terminalIn lent) bytes (lent .output)))
+    else leftBy lent (hostCall (terminalIn lent) bytes (lent .output)))
 
 -- The record's length is tested before the result slice's.
 abbrev pub recordBeforeResult : Panel
@@ -80,6 +86,14 @@ contentBeforeSize = withHost (λ lent bytes.
     let wrong = ownNumber lent in
     if ltb 0 wrong then untouched wrong lent
     else if not (isGood (lent .packed)) then refusedWith 2 lent
+    else panelHost lent bytes)
+
+-- Marks of one byte a cell are taken as they are.
+abbrev pub takesOneByteMarks : Panel
+takesOneByteMarks = withHost (λ lent bytes.
+    let page = pageOf (lent .characters) (lent .marks) in
+    if eqb (length (lent .marks)) (length (lent .characters))
+    then leftBy lent (hostCall (record { state = stateIn (lent .packed); page = page }) bytes (lent .output))
     else panelHost lent bytes)
 
 -- Refusals. One of M-100's own fills the result slice with zeros.
@@ -100,8 +114,14 @@ refusedStartKeepsRecord = withStart (λ rows columns lent.
 abbrev pub forgetsTheRecord : Panel
 forgetsTheRecord = withHost (λ lent bytes. withRecord (lent .packed) (panelHost lent bytes))
 
+-- The first cell's marks are left with the high byte first.
+abbrev pub marksHighByteFirst : Panel
+marksHighByteFirst = withHost (λ lent bytes.
+    let left = panelHost lent bytes in
+    withMarks (firstTwoSwapped (left .lent .marks)) left)
+
 -- The counts in the result slice have the high byte first.
-abbrev countsReversed : List ℕ → List ℕ
+abbrev pub countsReversed : List ℕ → List ℕ
 countsReversed result =
     take 1 result
     ++ reverse (take 4 (drop 1 result))
@@ -118,7 +138,7 @@ countsHighByteFirst = withHost (λ lent bytes.
 abbrev pub leavesFlag2 : Panel
 leavesFlag2 = withHost (λ lent bytes.
     let left = panelHost lent bytes in
-    if eqb (left .number) 0 then withRecord (set (left .lent .packed) 9 2) left
+    if eqb (left .number) 0 then withRecord (set (left .lent .packed) 10 2) left
     else left)
 
 -- A key leaves a record of zeros.
