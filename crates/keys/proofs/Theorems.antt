@@ -77,13 +77,13 @@ module _ (key : ℕ) (t : Terminal) where
   pub key-never-refuses : keyStep key t .wasRefused ≡ false
   key-never-refuses = key-always key t .not-refused
 
+  -- No key changes a mark but modified.
+  pub no-key-changes-bits : (k : ℕ) → (k ≡ 1 → ⊥) → (cell : ℕ) → hasBit k (getD (keyStep key t .terminal .page .marks) cell 0) ≡ hasBit k (getD (t .page .marks) cell 0)
+  no-key-changes-bits = key-always key t .bits
+
   -- No key changes what a protected cell has, nor which cells are protected.
   pub no-key-changes-protected : (cell : ℕ) → unprotected (t .page .marks) cell ≡ false → ProtectedKept (t .page) (keyStep key t .terminal .page) cell
   no-key-changes-protected = key-always key t .protected
-
-  -- It leaves every mark but modified.
-  pub no-key-changes-bits : (k : ℕ) → (k ≡ 1 → ⊥) → (cell : ℕ) → hasBit k (getD (keyStep key t .terminal .page .marks) cell 0) ≡ hasBit k (getD (t .page .marks) cell 0)
-  no-key-changes-bits = key-always key t .bits
 
   pub no-key-changes-protection : (cell : ℕ) → unprotected (keyStep key t .terminal .page .marks) cell ≡ unprotected (t .page .marks) cell
   unfolding unprotected

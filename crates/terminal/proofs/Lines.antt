@@ -7,11 +7,9 @@ use Prim.Native.Nat.{ℕ, _+_, _-_, _<_, _≤_}
 use native.Mathlib.Omega.{arith}
 use borrow.Author.Tests.{eqb-true, eqb-false, not-true, ne-eqb}
 use lib.Dec.{eqb}
-use lib.ListN.{getD}
 use Rattle.words.specs.Choice.{if_then_else_, _and_, _or_, _is_to_}
 use Rattle.words.proofs.Choosing.{true-is-not-false, not-both, either-way, then-case, else-case, both, both-hold, neither, one-holds, first-holds, second-decides, range-holds, range-is, refuted}
 use Rattle.words.proofs.Ranges.{in-range, some-place-fails}
-use Rattle.page.specs.Marks.{takes}
 use Rattle.page.specs.Page.{takesFromRight, takesFromLeft}
 use Rattle.fields.specs.Fields.{Field}
 use Rattle.state.specs.declared.State.{State}
