@@ -165,7 +165,13 @@ fn put_mark_row(text: &mut [u8], at: usize, row: &[Mark]) -> usize
 }
 
 // A page's rows, as characters.
-fn put_character_rows(text: &mut [u8], at: usize, cells: &[u8], rows: usize, columns: usize) -> usize
+fn put_character_rows(
+    text: &mut [u8],
+    at: usize,
+    cells: &[u8],
+    rows: usize,
+    columns: usize,
+) -> usize
     requires { ⌜ length (now cells) ≡ rows * columns ⌝ }
     requires { ⌜ at + length (rowLines characterLine rows columns (now cells)) ≤ length (now text) ⌝ }
     ensures { λ r. ⌜ Wrote at (rowLines characterLine rows columns (now (cells .entry)))

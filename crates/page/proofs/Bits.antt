@@ -80,10 +80,10 @@ module _ (n m mark : ℕ) (order : n ≤ m) where
   cleared-inside k from less =
       let short : mark % 2 ^ n / 2 ^ k ≡ 0 = div-eq-of-lt (lt-of-lt-of-le (mod-lt mark (pow-pos n)) (pow-mono from)) in
       let bit : withoutBits n m mark / 2 ^ k % 2 ≡ 0 =
-          bit-from-below k m (withoutBits n m mark) less
-          ∙ ap (λ (rest : ℕ). rest % 2 ^ (1 + k) / 2 ^ k) cleared-rest
-          ∙ field (mark % 2 ^ n) 1 k
-          ∙ rw short in
+      bit-from-below k m (withoutBits n m mark) less
+      ∙ ap (λ (rest : ℕ). rest % 2 ^ (1 + k) / 2 ^ k) cleared-rest
+      ∙ field (mark % 2 ^ n) 1 k
+      ∙ rw short in
       ne-eqb (withoutBits n m mark / 2 ^ k % 2) 1 (omega (arith, bit))
 
 -- What setting bit n leaves, and clearing it.

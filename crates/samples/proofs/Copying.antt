@@ -19,7 +19,7 @@ use Rattle.steps.specs.Seen.{blockHere}
 use Rattle.sending.specs.Sending.{sendBlock}
 use Rattle.keys.specs.Keys.{isTyping, keyStep}
 use Rattle.terminal.specs.declared.Answer.{Answer}
-use Rattle.terminal.specs.declared.Answer.the-variants.{Done, WrongSize, WrongState, NoRoom, UnknownKey, Locked, TooLong, NoCell}
+use Rattle.terminal.specs.declared.Answer.the-variants.{Done, WrongSize, WrongState, NoRoom, UnknownKey, Locked, TooLong, NoCell, NotTaken}
 use Rattle.terminal.specs.declared.Reply.{Reply}
 use Rattle.terminal.specs.Runs.{after, bytesSentBy}
 use Rattle.terminal.specs.Answers.{Outcome, numberOf, given, bytesSent}
@@ -50,6 +50,7 @@ not-done UnknownKey others = refl
 not-done Locked others = refl
 not-done TooLong others = refl
 not-done NoCell others = refl
+not-done NotTaken others = refl
 
 -- The three calls, each on what the one before left.
 module _ (t : Terminal) (key : ℕ) (lentFull lentTyped lentChanged : List ℕ) where
