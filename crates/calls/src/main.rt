@@ -111,6 +111,10 @@ fn print_marks(marks: &[Mark]) {
         print_marks_piece(&marks[from..to]);
         from = to;
     }
+}
+
+fn print_marks_line(marks: &[Mark]) {
+    print_marks(marks);
     io::write_all(STDOUT_FILENO, b"\n");
 }
 
@@ -187,7 +191,7 @@ fn print_call(reply: Reply, out: &[u8], characters: &[u8], marks: &[Mark])
     print_changed(count_changed(&out[sent..]));
     print_state(reply.state);
     print_line(characters);
-    print_marks(marks);
+    print_marks_line(marks);
 }
 
 fn refuse() {
