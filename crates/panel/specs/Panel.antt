@@ -76,7 +76,7 @@ refusedWith number lent =
     let left = lentOf (lent .packed) (lent .characters) (lent .marks) (lent .output) (resultBytes number 0 0 0) in
     record { number = number; lent = left }
 
--- What an entry gave and left. (Marks of another length than the cells' are left as they were lent: none are written.)
+-- What an entry gave and left. (A marks slice that is not two bytes a cell stays as it was: no marks are written.)
 abbrev pub leftBy : Lent → Outcome → Left
 leftBy lent outcome =
     record {

@@ -37,7 +37,7 @@ unfoldable pub readEach : {A : Type 0} → (ℕ → A) → ℕ → ℕ → ℕ �
 readEach read width at zero = []
 readEach read width at (suc n) = read at ∷ readEach read width (at + width) n
 
--- Two lists of bytes are the same.
+-- Two lists of bytes, or of other numbers, are the same.
 unfoldable pub sameBytes : List ℕ → List ℕ → Bool
 sameBytes [] [] = true
 sameBytes [] (y ∷ other) = false
