@@ -131,7 +131,7 @@ examples =
     ∷ gives (esc "[4m" ++ esc "V" ++ esc "[1;99m") 1 1 (refusedAs 2 (code "m")) 9 0 []
     ∷ gives (esc "[4m" ++ esc "V" ++ esc "[0m") 1 1 accepted 1 0 []
     ∷ gives (esc "[4m" ++ esc "V" ++ esc "W") 1 1 accepted 8 0 []
-    -- M-103: 3 o is numeric and 4 o alphabetic, in place of what was; 0 m keeps it; ESC V and 1 o protect, ESC W, 0 o and
+    -- M-103: 3 o is numeric and 4 o alphabetic, in place of what was; 0 m keeps it; ESC V and 1 o protect, ESC W and
     -- o alone do not, and each takes the kind off; 2 o, 5 o and two arguments are refused and leave the pen
     ∷ gives (esc "[4m" ++ esc "[3o") 1 1 accepted 0x88 0 []
     ∷ gives (esc "[4m" ++ esc "[3o" ++ esc "[004o") 1 1 accepted 0x108 0 []

@@ -45,7 +45,7 @@ partOf s part =
     else if eqb part 180 then s .locks .byte
     else 0
 
--- What a part of this number becomes where a part is set: only that one changes. A part that is a byte takes the value's
+-- What a part of this number becomes where a part is set: only that one changes. One that is a byte takes the value's
 -- low byte.
 unfoldable pub chosen : {A : Type 0} → ℕ → ℕ → A → A → A
 chosen this part new old =

@@ -4,7 +4,7 @@ use mathlib.Core.Bool.{Bool, true, false}
 use mathlib.Core.List.{List}
 use Prim.Native.Nat.{ℕ, _+_, _<_, _≤_}
 use native.Mathlib.Omega.{arith}
-use borrow.Author.Tests.{lt-ltb, le-leb, ltb-true, ltb-false, leb-true}
+use borrow.Author.Tests.{le-leb, ltb-true, ltb-false, leb-true}
 use lib.Dec.{ltb, leb}
 use lib.ListN.{length, drop, getD}
 use Rattle.words.specs.Choice.{if_then_else_, _and_}
@@ -50,14 +50,8 @@ module _ (test : ℕ → Bool) (a b : ℕ) where
       (λ p. rw (then-case t b a p) (tells-of-both (taken p)))
       (λ p. rw (else-case t b a p) (tells-too (left p)))
 
--- The larger of two numbers is below a limit, or no more than it, if both are; the smaller one reaches it if both do.
+-- The larger of two numbers is no more than a limit if both are; the smaller one reaches it if both do.
 module _ (a b limit : ℕ) where
-  pub larger-below : ltb (if ltb a b then b else a) limit ≡ (ltb a limit and ltb b limit)
-  larger-below =
-      one-tells (λ n. ltb n limit) a b (ltb a b)
-      (λ t p. lt-ltb a limit (omega (arith, ltb-true a b t, ltb-true b limit p)))
-      (λ t p. lt-ltb b limit (omega (arith, ltb-false a b t, ltb-true a limit p)))
-
   pub larger-within : leb (if ltb a b then b else a) limit ≡ (leb a limit and leb b limit)
   larger-within =
       one-tells (λ n. leb n limit) a b (ltb a b)

@@ -69,10 +69,6 @@ module _ (from to : ℕ) (marks : List ℕ) (cell : ℕ) where
 
 -- Marks that were sent.
 module _ (marks : List ℕ) (cell : ℕ) where
-  pub cleared-protection : unprotected (modifiedCleared marks) cell ≡ unprotected marks cell
-  unfolding unprotected
-  cleared-protection = ap not (cleared-marks-bit 0 (λ same. omega arith) marks cell)
-
   pub protected-uncleared : unprotected marks cell ≡ false → getD (modifiedCleared marks) cell 0 ≡ getD marks cell 0
   unfolding modifiedCleared
   protected-uncleared protected = each-keeps _ marks cell (λ (mark : ℕ). mark) (sent-protected marks cell protected)

@@ -1,4 +1,4 @@
--- Document 01, "The terminal and its sources", and document 02, M-103: what a cell has, a character and 16 bits of marks.
+-- Document 01, "The terminal and its sources", and document 02, M-103: what a cell has, a character and its marks.
 use mathlib.Core.Bool.{Bool, true, not}
 use mathlib.Core.List.{List}
 use Prim.Native.Char.{code}

@@ -6,7 +6,8 @@ use Prim.Native.Nat.{ℕ, _+_, _-_}
 use lib.ListN.{length, take, drop, getD, set, replicate}
 use Rattle.words.specs.Choice.{if_then_else_, _and_, _or_}
 use Rattle.words.specs.Lists.{within, every, allFrom, each, numbersFrom, onPart}
-use Rattle.page.specs.Marks.{isProtected, withModified, withoutModified, validCharacter, validMark, takes, unprotected}
+use Rattle.page.specs.Marks.{isProtected, withModified, withoutModified, validCharacter, validMark}
+use Rattle.page.specs.Marks.{takes, unprotected}
 
 -- The two lent slices. A cell's number is its place in them, counted from 0.
 pub record Page : Type 0 where

@@ -1,5 +1,5 @@
--- The page that C lends, its marks two bytes a cell: when it has the size that the state says, and that what is left there
--- is read as the page that an entry left.
+-- The page that C lends, its marks two bytes a cell: when it has the size that the state says, and that what is left
+-- there is read as the page that an entry left.
 use mathlib.Core.Path.{_≡_, refl, sym, ap, _∙_}
 use mathlib.Core.Bool.{true, false}
 use mathlib.Core.List.{List}

@@ -1,4 +1,4 @@
--- What was written as bytes, wherever it stands, is read back; and numbers that were read are written again as they were.
+-- What was written as bytes, wherever it stands, is read back; numbers that were read are written again as they were.
 use mathlib.Core.Path.{_≡_, refl, sym, ap, _∙_}
 use mathlib.Core.Bool.{Bool, true, false}
 use mathlib.Core.List.{List, [], _∷_, _++_, append-assoc, flatMap, List·Memᴰ, List·Memᴰ·head, List·Memᴰ·tail}

@@ -16,6 +16,7 @@ fn put_number(bytes: &mut [u8], at: usize, number: u16) -> usize
     output::put_byte(bytes, high, low_byte(wide / 256))
 }
 
+// Numbers one after another.
 pub fn put_numbers(bytes: &mut [u8], at: usize, numbers: &[u16]) -> usize
     requires { ⌜ at + length (now numbers) * 2 ≤ length (now bytes) ⌝ }
     ensures { λ r. ⌜ Wrote at (flatMap (numberBytes 2) (now (numbers .entry)))

@@ -5,7 +5,7 @@ use mathlib.Core.List.{List, [], _∷_}
 use mathlib.Core.Logic.{⊎-elim, _↔_}
 use Prim.Native.Nat.{ℕ, zero, suc, _+_, _-_, _<_, _≤_}
 use native.Mathlib.Omega.{arith}
-use borrow.Author.Tests.{ltb-true, ltb-false, leb-true, leb-false, eqb-true, eqb-false, not-true, not-false}
+use borrow.Author.Tests.{ltb-false, leb-true, leb-false, eqb-true, eqb-false, not-true, not-false}
 use lib.Dec.{eqb}
 use lib.ListN.{length, getD, drop}
 use lib.Seq.{getD-drop}
@@ -15,7 +15,7 @@ use Rattle.words.proofs.Choosing.{true-is-not-false, both, neither, one-fails, 
 use Rattle.words.proofs.Passing.{passes}
 use Rattle.sequence.specs.Record.{validHalfRead}
 use Rattle.sequence.proofs.Range.{out-of-range}
-use Rattle.page.specs.Marks.{isProtected, isModified, isNumeric, isAlphabetic, validCharacter, validMark}
+use Rattle.page.specs.Marks.{isModified, validCharacter, validMark}
 use Rattle.page.specs.Page.{Page, validPage}
 use Rattle.page.proofs.Valid.{protected-alone, numeric-alone, valid-mark}
 use Rattle.state.specs.declared.Size.{Size}

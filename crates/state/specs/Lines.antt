@@ -35,7 +35,8 @@ pub data Line2 (s : State) (page : Page) : Type 0 where
   -- what a cell has
   cell-too-low : (cell : ℕ) → cell < cells page → getD (page .characters) cell 0 < 0x20 → Line2 s page
   cell-too-high : (cell : ℕ) → cell < cells page → 0x7E < getD (page .characters) cell 0 → Line2 s page
-  marks-out-of-range : (cell : ℕ) → cell < length (page .marks) → MarkOutOfRange (getD (page .marks) cell 0) → Line2 s page
+  marks-out-of-range : (cell : ℕ) → cell < length (page .marks) → MarkOutOfRange (getD (page .marks) cell 0) →
+      Line2 s page
   -- a tab stop off the page
   stop-past-last-column : (column : ℕ) → s .size .columns < column → stopAt (s .stops) column ≡ true → Line2 s page
   -- the other ranges
