@@ -17,7 +17,7 @@ use Rattle.blocks.proofs.Pages.{valid-entries}
 use Rattle.steps.specs.Steps.{Terminal, Transmission, silent, report, fullBlock, changedBlock, Stepped, bytesOf, blockTransmission, Valid}
 use Rattle.steps.specs.Seen.{blockHere}
 use Rattle.sending.specs.Sending.{sendBlock}
-use Rattle.keys.specs.Keys.{isTyping, keyStep}
+use Rattle.keys.specs.Keys.{isTyping, isNotTaken, takenStep, keyStep}
 use Rattle.terminal.specs.declared.Answer.{Answer}
 use Rattle.terminal.specs.declared.Answer.the-variants.{Done, WrongSize, WrongState, NoRoom, UnknownKey, Locked, TooLong, NoCell, NotTaken}
 use Rattle.terminal.specs.declared.Reply.{Reply}
@@ -40,9 +40,9 @@ use Rattle.samples.specs.Samples.{fullCall, typedCall, changedCall, Thre
 use Rattle.samples.proofs.Laws.{sent-fits}
 
 -- Every answer but the first has another number than 0.
-pub not-done : (answer : Answer) → Run.OneOf (1 ∷ 2 ∷ 3 ∷ 4 ∷ 5 ∷ 6 ∷ 7 ∷ []) (Declared.tagOf the-type answer) → false ≡ eqb (numberOf answer) 0
+pub not-done : (answer : Answer) → Run.OneOf (1 ∷ 2 ∷ 3 ∷ 4 ∷ 5 ∷ 6 ∷ 7 ∷ 8 ∷ []) (Declared.tagOf the-type answer) → false ≡ eqb (numberOf answer) 0
 unfolding numberOf
-not-done Done others = absurd (Run.miss (1 ∷ 2 ∷ 3 ∷ 4 ∷ 5 ∷ 6 ∷ 7 ∷ []) 0 tt others)
+not-done Done others = absurd (Run.miss (1 ∷ 2 ∷ 3 ∷ 4 ∷ 5 ∷ 6 ∷ 7 ∷ 8 ∷ []) 0 tt others)
 not-done WrongSize others = refl
 not-done WrongState others = refl
 not-done NoRoom others = refl
@@ -75,11 +75,11 @@ module _ (t : Terminal) where
   blockOf full = block full (t .state .size .columns) (t .page)
 
   full-sent : keyStep 267 t .transmission ≡ fullBlock (blockOf true)
-  unfolding keyStep isTyping sendBlock blockTransmission if_then_else_ _is_to_ _and_
+  unfolding keyStep isNotTaken takenStep isTyping sendBlock blockTransmission if_then_else_ _is_to_ _and_
   full-sent = refl
 
   changed-sent : keyStep 266 t .transmission ≡ changedBlock (blockOf false)
-  unfolding keyStep isTyping sendBlock blockTransmission if_then_else_ _is_to_ _and_
+  unfolding keyStep isNotTaken takenStep isTyping sendBlock blockTransmission if_then_else_ _is_to_ _and_
   changed-sent = refl
 
   block-is-block : Valid t → (full : Bool) → IsBlock (blockOf full)
