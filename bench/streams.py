@@ -180,9 +180,8 @@ class Text(Stream):
                 self.put(b"\r\n")
 
 
-class Areas(Stream):
+class Areas(Dense):
     AREAS = (0, 1, 3, 4)
-    VISUAL = (0, 1, 4, 5, 7, 8)
     OTHERS = b"\x1b[o \x1b[03o \x1b[2o \x1b[5o \x1b[20o \x1b[3;4o \x1b[?3o \x1b[3!o \x1b[3\x0bo \x1b3o".split(b" ")
 
     def one(self):
@@ -202,10 +201,6 @@ class Areas(Stream):
             self.put(numbers.pick((b"\x1b[K", b"\x1b[1K", b"\x1b[6h", b"\x1b[6l", b"\x1bD", b"\x1bM")))
         else:
             self.text(numbers.between(1, 12))
-
-    def write(self, length):
-        while len(self.bytes) < length:
-            self.one()
 
 
 KINDS = {"form": (Form, 1), "dense": (Dense, 2), "text": (Text, 3), "areas": (Areas, 4)}
