@@ -48,13 +48,17 @@ pub record Arrays (s : State) : Type 0 where
 abbrev pub noLocks : Locks
 noLocks = record { manual = false; soft = false; message = 0; byte = 0 }
 
+-- A plain pen, and erasure mode reset.
+abbrev pub freshModes : Modes
+freshModes = record { pen = 0; erasure = false }
+
 -- A fresh page's state: cursor 1;1, plain pen, erasure mode reset, no lock or message, no tab stops, nothing half read.
 abbrev pub freshState : Size → State
 freshState size =
     record {
       size = size;
       cursor = record { row = 1; column = 1 };
-      modes = record { pen = 0; erasure = false };
+      modes = freshModes;
       locks = noLocks;
       stops = replicate 160 false;
       half = nothingRead;
@@ -66,7 +70,7 @@ zeroState =
     record {
       size = record { rows = 0; columns = 0 };
       cursor = record { row = 0; column = 0 };
-      modes = record { pen = 0; erasure = false };
+      modes = freshModes;
       locks = noLocks;
       stops = replicate 160 false;
       half = nothingRead;
