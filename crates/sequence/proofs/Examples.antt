@@ -10,9 +10,9 @@ use Rattle.words.specs.Text.{bytes}
 use Rattle.sequence.specs.declared.HalfRead.{HalfRead}
 use Rattle.sequence.specs.declared.Reason.the-variants.{UnknownCommand, BrokenSequence, HighByte}
 use Rattle.sequence.specs.declared.Event.{Event}
-use Rattle.sequence.specs.declared.Event.the-variants.{Nothing, Text, Control, EscCommand, BracketCommand, Refused}
-use Rattle.sequence.specs.Record.{nothingRead, escRead, intermediateRead, bracketRead, spoiltRead, largestArgument, argumentsFit, validHalfRead, withDigit, withNextArgument}
-use Rattle.sequence.specs.Reading.{isControl, isCancel, outsideSequence, afterEsc, afterIntermediate, afterBracket, insideSequence, advanceOf}
+use Rattle.sequence.specs.declared.Event.the-variants.{Nothing, Text, Control, EscCommand, BracketCommand, PrivateCommand, Refused}
+use Rattle.sequence.specs.Record.{nothingRead, escRead, intermediateRead, argumentRead, bracketRead, privateMarkRead, spoiltRead, largestArgument, argumentsFit, validHalfRead, withDigit, withNextArgument}
+use Rattle.sequence.specs.Reading.{isControl, isCancel, outsideSequence, afterEsc, afterIntermediate, afterBracket, rightAfterBracket, afterPrivateMark, sequenceReadOn, insideSequence, advanceOf}
 
 record Read : Type 0 where
   events : List Event
@@ -25,6 +25,7 @@ noted (Text byte) later = Text byte ∷ later
 noted (Control byte) later = Control byte ∷ later
 noted (EscCommand byte) later = EscCommand byte ∷ later
 noted (BracketCommand byte) later = BracketCommand byte ∷ later
+noted (PrivateCommand byte) later = PrivateCommand byte ∷ later
 noted (Refused reason byte) later = Refused reason byte ∷ later
 
 reading : HalfRead → List ℕ → Read
@@ -43,6 +44,9 @@ gives stream events left = record { stream = stream; read = record { events = ev
 
 bracket : List ℕ → ℕ → HalfRead
 bracket arguments count = record { kind = 3; arguments = arguments; count = count; spoilt = false }
+
+private : ℕ → HalfRead
+private argument = record { kind = 5; arguments = argument ∷ 0 ∷ 0 ∷ 0 ∷ 0 ∷ 0 ∷ 0 ∷ 0 ∷ []; count = 1; spoilt = false }
 
 examples : List Example
 examples =
@@ -73,16 +77,28 @@ examples =
     ∷ gives (0x1B ∷ bytes "[;;;;;;;;m") (Refused BrokenSequence (code "m") ∷ []) nothingRead
     -- spoilt, and nothing adds to it
     ∷ gives (0x1B ∷ bytes "[?5;6") [] spoiltRead
+    -- ESC [ alone is told from ESC [ 0; > counts right after ESC [ only
+    ∷ gives (0x1B ∷ bytes "[0") [] argumentRead
+    ∷ gives (0x1B ∷ bytes "[>") [] privateMarkRead
+    ∷ gives (0x1B ∷ bytes "[>h") (PrivateCommand (code "h") ∷ []) nothingRead
+    ∷ gives (0x1B ∷ bytes "[>06") [] (private 6)
+    ∷ gives (0x1B ∷ bytes "[>6l") (PrivateCommand (code "l") ∷ []) nothingRead
+    ∷ gives (0x1B ∷ bytes "[>10000") [] spoiltRead
+    ∷ gives (0x1B ∷ bytes "[>6;") [] spoiltRead
+    ∷ gives (0x1B ∷ bytes "[>>6") [] spoiltRead
+    ∷ gives (0x1B ∷ bytes "[0>6h") (Refused BrokenSequence (code "h") ∷ []) nothingRead
+    ∷ gives (0x1B ∷ bytes "[;>6h") (Refused BrokenSequence (code "h") ∷ []) nothingRead
+    ∷ gives (0x1B ∷ bytes "[>6" ++ (0x0A ∷ [])) (Refused BrokenSequence 0x0A ∷ []) nothingRead
     ∷ gives (0x1B ∷ bytes "[1 mm") (Refused BrokenSequence (code "m") ∷ Text (code "m") ∷ []) nothingRead
     ∷ []
 
 -- Each of the examples reads as it says.
 as-worked-out : map (λ (e : Example). reading nothingRead (e .stream)) examples ≡ map (λ (e : Example). e .read) examples
-unfolding if_then_else_ _and_ _or_ _is_to_ withDigit withNextArgument isControl isCancel outsideSequence afterEsc afterIntermediate afterBracket insideSequence advanceOf noted reading gives bracket examples
+unfolding if_then_else_ _and_ _or_ _is_to_ withDigit withNextArgument isControl isCancel outsideSequence afterEsc afterIntermediate afterBracket rightAfterBracket afterPrivateMark sequenceReadOn insideSequence advanceOf noted reading gives bracket private examples
 as-worked-out = refl
 
 -- Records in range: one of each of the first three kinds, eight arguments of 9,999, an argument being read,
--- a spoilt one.
+-- a spoilt one, one after ESC [ 0, one right after ESC [, one after ESC [ >.
 record-of : ℕ → List ℕ → ℕ → Bool → HalfRead
 record-of kind arguments count spoilt = record { kind = kind; arguments = arguments; count = count; spoilt = spoilt }
 
@@ -97,19 +113,24 @@ inRange =
     ∷ record-of 3 (9999 ∷ 9999 ∷ 9999 ∷ 9999 ∷ 9999 ∷ 9999 ∷ 9999 ∷ 9999 ∷ []) 8 false
     ∷ record-of 3 (24 ∷ 8 ∷ 0 ∷ 0 ∷ 0 ∷ 0 ∷ 0 ∷ 0 ∷ []) 2 false
     ∷ record-of 3 zeros 1 true
+    ∷ record-of 3 zeros 1 false
+    ∷ record-of 4 zeros 1 false
+    ∷ record-of 5 (9999 ∷ 0 ∷ 0 ∷ 0 ∷ 0 ∷ 0 ∷ 0 ∷ 0 ∷ []) 1 false
     ∷ []
 
 -- And out of range, one for each clause of `HalfReadOutOfRange`, in its order.
 outOfRange : List HalfRead
 outOfRange =
-    record-of 4 zeros 0 false
+    record-of 6 zeros 0 false
     ∷ record-of 1 zeros 1 false
     ∷ record-of 2 (0 ∷ 0 ∷ 0 ∷ 0 ∷ 0 ∷ 0 ∷ 0 ∷ 1 ∷ []) 0 false
-    ∷ record-of 0 zeros 0 true
-    ∷ record-of 3 zeros 0 false
+    ∷ record-of 4 zeros 0 false
     ∷ record-of 3 zeros 9 false
-    ∷ record-of 3 (5 ∷ 10000 ∷ 0 ∷ 0 ∷ 0 ∷ 0 ∷ 0 ∷ 0 ∷ []) 2 false
+    ∷ record-of 5 zeros 2 false
+    ∷ record-of 4 (6 ∷ 0 ∷ 0 ∷ 0 ∷ 0 ∷ 0 ∷ 0 ∷ 0 ∷ []) 1 false
+    ∷ record-of 5 (10000 ∷ 0 ∷ 0 ∷ 0 ∷ 0 ∷ 0 ∷ 0 ∷ 0 ∷ []) 1 false
     ∷ record-of 3 (5 ∷ 6 ∷ 7 ∷ 0 ∷ 0 ∷ 0 ∷ 0 ∷ 0 ∷ []) 2 false
+    ∷ record-of 5 zeros 1 true
     ∷ record-of 3 zeros 2 true
     ∷ record-of 3 (5 ∷ 0 ∷ 0 ∷ 0 ∷ 0 ∷ 0 ∷ 0 ∷ 0 ∷ []) 1 true
     ∷ []

@@ -5,8 +5,8 @@ use lib.ListN.{length, length-set}
 use Rattle.words.proofs.Choosing.{either-line}
 use Rattle.sequence.specs.declared.HalfRead.{HalfRead}
 use Rattle.sequence.specs.declared.Advanced.{Advanced}
-use Rattle.sequence.specs.Record.{lastArgument, withDigit, withNextArgument}
-use Rattle.sequence.specs.Reading.{outsideSequence, afterEsc, afterIntermediate, afterBracket, insideSequence, advanceOf}
+use Rattle.sequence.specs.Record.{argumentRead, lastArgument, withDigit, withNextArgument}
+use Rattle.sequence.specs.Reading.{outsideSequence, afterEsc, afterIntermediate, afterBracket, rightAfterBracket, afterPrivateMark, sequenceReadOn, insideSequence, advanceOf}
 
 abbrev Eight : HalfRead → Type 0
 Eight half = length (half .arguments) ≡ 8
@@ -42,14 +42,27 @@ module _ (half : HalfRead) (eight : length (half .arguments) ≡ 8) where
       (λ _. either-line LeavesEight _ _ _ (λ _. refl)
       (λ _. either-line LeavesEight _ _ _ (λ _. refl) (λ _. refl))))
 
+  private-keeps : (byte : ℕ) → LeavesEight (afterPrivateMark half byte)
+  unfolding afterPrivateMark
+  private-keeps byte =
+      either-line LeavesEight _ _ _ (λ _. digit-keeps (byte - 0x30))
+      (λ _. either-line LeavesEight _ _ _ (λ _. refl) (λ _. refl))
+
+right-keeps : (byte : ℕ) → LeavesEight (rightAfterBracket byte)
+unfolding rightAfterBracket
+right-keeps byte = either-line LeavesEight _ _ _ (λ _. refl) (λ _. bracket-keeps argumentRead refl byte)
+
+module _ (half : HalfRead) (eight : length (half .arguments) ≡ 8) where
   inside-keeps : (byte : ℕ) → LeavesEight (insideSequence half byte)
-  unfolding insideSequence afterEsc afterIntermediate
+  unfolding insideSequence sequenceReadOn afterEsc afterIntermediate
   inside-keeps byte =
       either-line LeavesEight _ _ _ (λ _. refl)
       (λ _. either-line LeavesEight _ _ _ (λ _. refl)
       (λ _. either-line LeavesEight _ _ _
       (λ _. either-line LeavesEight _ _ _ (λ _. either-line LeavesEight _ _ _ (λ _. refl) (λ _. either-line LeavesEight _ _ _ (λ _. refl) (λ _. refl)))
-      (λ _. either-line LeavesEight _ _ _ (λ _. either-line LeavesEight _ _ _ (λ _. refl) (λ _. refl)) (λ _. bracket-keeps byte)))
+      (λ _. either-line LeavesEight _ _ _ (λ _. either-line LeavesEight _ _ _ (λ _. refl) (λ _. refl))
+      (λ _. either-line LeavesEight _ _ _ (λ _. right-keeps byte)
+      (λ _. either-line LeavesEight _ _ _ (λ _. private-keeps half eight byte) (λ _. bracket-keeps half eight byte)))))
       (λ _. either-line LeavesEight _ _ _ (λ _. refl) (λ _. refl))))
 
 pub advance-keeps-eight : (half : HalfRead) (byte : ℕ) → length (half .arguments) ≡ 8 → length (advanceOf half byte .half .arguments) ≡ 8

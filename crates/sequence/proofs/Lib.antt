@@ -1,4 +1,5 @@
 pub mod Laws
+pub mod Cases
 pub mod Keeping
 pub mod Lengths
 pub mod Events

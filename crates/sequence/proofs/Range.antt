@@ -12,7 +12,9 @@ use Rattle.words.specs.Choice.{_and_, _is_to_}
 use Rattle.words.proofs.Choosing.{true-is-not-false, either-line, both, one-fails, range-holds, range-fails, refuted, le-or-lt, not-both}
 use Rattle.sequence.specs.declared.HalfRead.{HalfRead}
 use Rattle.sequence.specs.Record.{largestArgument, argumentsFit, validHalfRead}
-use Rattle.sequence.specs.Range.{argumentOf, HalfReadOutOfRange, no-such-kind, count-unused, argument-unused, spoilt-unused, no-argument, more-than-eight, argument-above-9999, argument-not-reached, spoilt-not-one, spoilt-not-0}
+use Rattle.sequence.proofs.Cases.{one-of-five}
+use Rattle.sequence.proofs.Keeping.{arguments-counted, eight-at-most}
+use Rattle.sequence.specs.Range.{argumentOf, HalfReadOutOfRange, no-such-kind, count-unused, argument-unused, spoilt-unused, no-argument, more-than-eight, more-than-one, argument-not-begun, argument-above-9999, argument-not-reached, spoilt-not-one, spoilt-not-0}
 
 -- The largest that an argument may be, as a bound: at most 9,999, and 0 where it isn't reached.
 largest-at-most : (i reached : ℕ) → largestArgument i reached ≤ 9999
@@ -73,22 +75,45 @@ module _ (half : HalfRead) where
   bracket-out : half .kind ≡ 3 → (half .count is 1 to 8 and argumentsFit (half .count) 0 (half .arguments)) ≡ false → HalfReadOutOfRange half
   bracket-out k p =
       ⊎-elim
-      (λ q. ⊎-elim (no-argument k) (more-than-eight k) (range-fails _ _ _ q))
+      (λ q. ⊎-elim (no-argument (omega arith)) (more-than-eight k) (range-fails _ _ _ q))
       argument-out
       (one-fails p)
 
-  bare-out : (half .kind ≡ 3 → ⊥) → (leb (half .kind) 2 and eqb (half .count) 0 and argumentsFit 0 0 (half .arguments)) ≡ false → HalfReadOutOfRange half
-  bare-out k p =
-      ⊎-elim
-      (λ q. no-such-kind (past-2 (half .kind) (leb-false (half .kind) 2 q) k))
-      (λ q. ⊎-elim
-      (λ r. count-unused k (eqb-false _ _ r))
-      (λ r. let found = one-too-large 0 0 (half .arguments) r in argument-unused k (found .0) (λ e. omega arith))
-      (one-fails q))
-      (one-fails p)
+  -- Where one argument is reached, not none or more.
+  count-out : 4 ≤ half .kind → (half .count ≡ 1 → ⊥) → HalfReadOutOfRange half
+  count-out high other = ⊎-elim (λ none. no-argument (omega arith) (omega arith)) (λ some. more-than-one high (above-1 (half .count) some other)) (le-or-lt (half .count) 0)
     where
-      past-2 : (n : ℕ) → 2 < n → (n ≡ 3 → ⊥) → 3 < n
-      past-2 n h not-3 = ⊎-elim (λ low. absurd (not-3 (omega arith))) (λ high. high) (le-or-lt n 3)
+      above-1 : (n : ℕ) → 0 < n → (n ≡ 1 → ⊥) → 1 < n
+      above-1 n h not-1 = ⊎-elim (λ low. absurd (not-1 (omega arith))) (λ high. high) (le-or-lt n 1)
+
+  alone-out : half .kind ≡ 4 → (eqb (half .count) 1 and argumentsFit 0 0 (half .arguments)) ≡ false → HalfReadOutOfRange half
+  alone-out k p =
+      ⊎-elim
+      (λ q. count-out (omega arith) (eqb-false _ _ q))
+      (λ q. let found = one-too-large 0 0 (half .arguments) q in argument-not-begun k (found .0) (λ e. omega arith))
+      (one-fails p)
+
+  private-out : half .kind ≡ 5 → (eqb (half .count) 1 and argumentsFit (half .count) 0 (half .arguments)) ≡ false → HalfReadOutOfRange half
+  private-out k p = ⊎-elim (λ q. count-out (omega arith) (eqb-false _ _ q)) argument-out (one-fails p)
+
+  bare-out : (half .kind ≡ 3 → ⊥) → (half .kind ≡ 4 → ⊥) → (half .kind ≡ 5 → ⊥) → (leb (half .kind) 2 and eqb (half .count) 0 and argumentsFit 0 0 (half .arguments)) ≡ false → HalfReadOutOfRange half
+  bare-out not-3 not-4 not-5 p =
+      ⊎-elim
+      (λ low. ⊎-elim
+      (λ q. let high = leb-false (half .kind) 2 q in absurd (omega arith))
+      (λ q. ⊎-elim
+      (λ r. count-unused (omega arith) (eqb-false _ _ r))
+      (λ r. let found = one-too-large 0 0 (half .arguments) r in argument-unused (omega arith) (found .0) (λ e. omega arith))
+      (one-fails q))
+      (one-fails p))
+      (λ high. no-such-kind (past-5 (half .kind) high not-3 not-4 not-5))
+      (le-or-lt (half .kind) 2)
+    where
+      past-5 : (n : ℕ) → 2 < n → (n ≡ 3 → ⊥) → (n ≡ 4 → ⊥) → (n ≡ 5 → ⊥) → 5 < n
+      past-5 n h n3 n4 n5 =
+          ⊎-elim (λ low. absurd (n3 (omega arith)))
+          (λ a. ⊎-elim (λ low. absurd (n4 (omega arith)))
+          (λ b. ⊎-elim (λ low. absurd (n5 (omega arith))) (λ c. c) (le-or-lt n 5)) (le-or-lt n 4)) (le-or-lt n 3)
 
   out-holds : validHalfRead half ≡ false → HalfReadOutOfRange half
   unfolding validHalfRead
@@ -96,82 +121,65 @@ module _ (half : HalfRead) where
       either-line (λ (t : Bool). t ≡ false → HalfReadOutOfRange half) (half .spoilt) _ _ spoilt-out
       (λ _. either-line (λ (t : Bool). t ≡ false → HalfReadOutOfRange half) (eqb (half .kind) 3) _ _
       (λ k. bracket-out (eqb-true _ _ k))
-      (λ k. bare-out (eqb-false _ _ k)))
-
--- A record in range is spoilt, after ESC [, or of the first three kinds:
--- what each has, to something that follows from it.
-module _ (half : HalfRead) where
-  abbrev FromSpoilt : Type 0 → Type 0
-  FromSpoilt A = half .kind ≡ 3 → half .count ≡ 1 → ((i : ℕ) → argumentOf half i ≡ 0) → A
-
-  abbrev FromBracket : Type 0 → Type 0
-  FromBracket A =
-      half .spoilt ≡ false → half .kind ≡ 3 → 1 ≤ half .count → half .count ≤ 8
-      → ((i : ℕ) → argumentOf half i ≤ largestArgument i (half .count)) → A
-
-  abbrev FromBare : Type 0 → Type 0
-  FromBare A = half .spoilt ≡ false → half .kind ≤ 2 → half .count ≡ 0 → ((i : ℕ) → argumentOf half i ≡ 0) → A
+      (λ k. either-line (λ (t : Bool). t ≡ false → HalfReadOutOfRange half) (eqb (half .kind) 4) _ _
+      (λ l. alone-out (eqb-true _ _ l))
+      (λ l. either-line (λ (t : Bool). t ≡ false → HalfReadOutOfRange half) (eqb (half .kind) 5) _ _
+      (λ m. private-out (eqb-true _ _ m))
+      (λ m. bare-out (eqb-false _ _ k) (eqb-false _ _ l) (eqb-false _ _ m)))))
 
 -- The test holds: no clause does.
 module _ (half : HalfRead) (v : validHalfRead half ≡ true) where
-  one-of-three : {A : Type 0} → FromSpoilt half A → FromBracket half A → FromBare half A → A
-  unfolding validHalfRead
-  one-of-three {A = A} spoilt bracket bare =
-      either-line (λ (t : Bool). t ≡ true → A) (half .spoilt) _ _
-      (λ _ p. let later = both (both p .1) in spoilt (eqb-true _ _ (both p .0)) (eqb-true _ _ (later .0)) (all-0 (later .1)))
-      (λ s. either-line (λ (t : Bool). t ≡ true → A) (eqb (half .kind) 3) _ _
-      (λ k p.
-      let counted = range-holds _ _ _ (both p .0) in
-      bracket s (eqb-true _ _ k) (counted .0) (counted .1) (fits (both p .1)))
-      (λ _ p. let later = both (both p .1) in bare s (leb-true _ _ (both p .0)) (eqb-true _ _ (later .0)) (all-0 (later .1))))
-      v
-    where
-      all-0 : argumentsFit 0 0 (half .arguments) ≡ true → (i : ℕ) → argumentOf half i ≡ 0
-      all-0 p i =
-          let most = each-fits 0 0 (half .arguments) p i in
-          let none = largest-not-reached (0 + i) 0 (omega arith) in
-          omega arith
-
-      fits : argumentsFit (half .count) 0 (half .arguments) ≡ true → (i : ℕ) → argumentOf half i ≤ largestArgument i (half .count)
-      fits p i = let here : 0 + i ≡ i = omega arith in rw here at (each-fits (half .count) 0 (half .arguments) p i)
+  all-0 : argumentsFit 0 0 (half .arguments) ≡ true → (i : ℕ) → argumentOf half i ≡ 0
+  all-0 p i =
+      let most = each-fits 0 0 (half .arguments) p i in
+      let none = largest-not-reached (0 + i) 0 (omega arith) in
+      omega arith
 
   -- What that says of each part.
-  kind-known : half .kind ≤ 3
-  kind-known = one-of-three (λ k c a. omega arith) (λ s k l m a. omega arith) (λ s k c a. omega arith)
+  kind-known : half .kind ≤ 5
+  kind-known = one-of-five half v (λ k c f. omega arith) (λ s k l m f. omega arith) (λ s k c f. omega arith) (λ s k c f. omega arith) (λ s k c f. omega arith)
 
-  counts-none : (half .kind ≡ 3 → ⊥) → half .count ≡ 0
-  counts-none other = one-of-three (λ k c a. absurd (other k)) (λ s k l m a. absurd (other k)) (λ s k c a. c)
+  counts-none : half .kind < 3 → half .count ≡ 0
+  counts-none low = one-of-five half v (λ k c f. absurd (omega arith)) (λ s k l m f. absurd (omega arith)) (λ s k c f. absurd (omega arith)) (λ s k c f. absurd (omega arith)) (λ s k c f. c)
 
-  uses-none : (half .kind ≡ 3 → ⊥) → (i : ℕ) → argumentOf half i ≡ 0
-  uses-none other = one-of-three (λ k c a. absurd (other k)) (λ s k l m a. absurd (other k)) (λ s k c a. a)
+  uses-none : half .kind < 3 → (i : ℕ) → argumentOf half i ≡ 0
+  uses-none low = one-of-five half v (λ k c f. absurd (omega arith)) (λ s k l m f. absurd (omega arith)) (λ s k c f. absurd (omega arith)) (λ s k c f. absurd (omega arith)) (λ s k c f. all-0 f)
+
+  counts-one : 4 ≤ half .kind → half .count ≡ 1
+  counts-one high = one-of-five half v (λ k c f. c) (λ s k l m f. absurd (omega arith)) (λ s k c f. c) (λ s k c f. c) (λ s k c f. absurd (omega arith))
+
+  begins-with-0 : half .kind ≡ 4 → (i : ℕ) → argumentOf half i ≡ 0
+  begins-with-0 four = one-of-five half v (λ k c f. all-0 f) (λ s k l m f. absurd (omega arith)) (λ s k c f. all-0 f) (λ s k c f. absurd (omega arith)) (λ s k c f. all-0 f)
 
   unspoilt : (half .kind ≡ 3 → ⊥) → half .spoilt ≡ false
-  unspoilt other = one-of-three (λ k c a. absurd (other k)) (λ s k l m a. absurd (other k)) (λ s k c a. s)
-
-  one-to-eight : half .kind ≡ 3 → (1 ≤ half .count) × (half .count ≤ 8)
-  one-to-eight three = one-of-three (λ k c a. (omega arith, omega arith)) (λ s k l m a. (l, m)) (λ s k c a. absurd (omega arith))
+  unspoilt other = one-of-five half v (λ k c f. absurd (other k)) (λ s k l m f. s) (λ s k c f. s) (λ s k c f. s) (λ s k c f. s)
 
   argument-small : (i : ℕ) → argumentOf half i ≤ largestArgument i (half .count)
-  argument-small i = one-of-three (λ k c a. nothing (a i)) (λ s k l m a. a i) (λ s k c a. nothing (a i))
+  argument-small i = one-of-five half v (λ k c f. nothing f) (λ s k l m f. fits f) (λ s k c f. nothing f) (λ s k c f. fits f) (λ s k c f. nothing f)
     where
-      nothing : argumentOf half i ≡ 0 → argumentOf half i ≤ largestArgument i (half .count)
-      nothing e = omega arith
+      nothing : argumentsFit 0 0 (half .arguments) ≡ true → argumentOf half i ≤ largestArgument i (half .count)
+      nothing f = let none = all-0 f i in omega arith
+
+      fits : argumentsFit (half .count) 0 (half .arguments) ≡ true → argumentOf half i ≤ largestArgument i (half .count)
+      fits f = let here : 0 + i ≡ i = omega arith in rw here at (each-fits (half .count) 0 (half .arguments) f i)
 
   spoilt-one : half .spoilt ≡ true → half .count ≡ 1
-  spoilt-one t = one-of-three (λ k c a. c) (λ s k l m a. absurd (not-both t s)) (λ s k c a. absurd (not-both t s))
+  spoilt-one t = one-of-five half v (λ k c f. c) (λ s k l m f. absurd (not-both t s)) (λ s k c f. c) (λ s k c f. c) (λ s k c f. absurd (not-both t s))
 
   spoilt-0 : half .spoilt ≡ true → (i : ℕ) → argumentOf half i ≡ 0
-  spoilt-0 t = one-of-three (λ k c a. a) (λ s k l m a. absurd (not-both t s)) (λ s k c a. absurd (not-both t s))
+  spoilt-0 t = one-of-five half v (λ k c f. all-0 f) (λ s k l m f. absurd (not-both t s)) (λ s k c f. all-0 f) (λ s k c f. absurd (not-both t s)) (λ s k c f. all-0 f)
 
   not-out : HalfReadOutOfRange half → ⊥
   not-out (no-such-kind high) = omega (arith, kind-known)
-  not-out (count-unused other some) = some (counts-none other)
-  not-out (argument-unused other i some) = some (uses-none other i)
-  not-out (spoilt-unused other t) = not-both t (unspoilt other)
-  not-out (no-argument three none) = omega (arith, one-to-eight three .0)
-  not-out (more-than-eight three more) = omega (arith, one-to-eight three .1)
+  not-out (count-unused low some) = some (counts-none low)
+  not-out (argument-unused low i some) = some (uses-none low i)
+  not-out (no-argument high none) = omega (arith, arguments-counted half v high .0)
+  not-out (more-than-eight three more) = omega (arith, eight-at-most half v)
+  not-out (more-than-one high more) = omega (arith, counts-one high)
+  not-out (argument-not-begun four i some) = some (begins-with-0 four i)
   not-out (argument-above-9999 i high) = omega (arith, argument-small i, largest-at-most i (half .count))
   not-out (argument-not-reached i past some) = some (omega (arith, argument-small i, largest-not-reached i (half .count) past))
+  not-out (spoilt-unused other t) = not-both t (unspoilt other)
   not-out (spoilt-not-one t other) = other (spoilt-one t)
   not-out (spoilt-not-0 t i some) = some (spoilt-0 t i)
 

@@ -1,4 +1,4 @@
--- Document 01, "Reading host bytes", first paragraph: the half-read record.
+-- Document 01, "Reading host bytes", first paragraph, and document 02, M-106: the half-read record.
 use mathlib.Core.Bool.{Bool, true, false}
 use mathlib.Core.List.{List, [], _∷_}
 use Prim.Native.Nat.{ℕ, _+_, _-_, _*_}
@@ -7,7 +7,8 @@ use lib.Dec.{ltb, leb, eqb}
 use Rattle.words.specs.Choice.{if_then_else_, _and_, _is_to_}
 use Rattle.sequence.specs.declared.HalfRead.{HalfRead}
 
--- The kinds: 0 none, 1 after ESC, 2 after ESC and an intermediate, 3 after ESC [. The first three keep nothing else.
+-- The kinds: 0 none, 1 after ESC, 2 after ESC and an intermediate. These three keep nothing else. After ESC [ the kind
+-- tells 4 that nothing came yet, 5 that > came right away, and 3 all else.
 abbrev pub bare : ℕ → HalfRead
 bare kind = record { kind = kind; arguments = replicate 8 0; count = 0; spoilt = false }
 
@@ -21,8 +22,17 @@ abbrev pub intermediateRead : HalfRead
 intermediateRead = bare 2
 
 -- After ESC [ one argument is reached, and an omitted argument is 0.
+abbrev pub oneArgument : ℕ → HalfRead
+oneArgument kind = record { kind = kind; arguments = replicate 8 0; count = 1; spoilt = false }
+
+abbrev pub argumentRead : HalfRead
+argumentRead = oneArgument 3
+
 abbrev pub bracketRead : HalfRead
-bracketRead = record { kind = 3; arguments = replicate 8 0; count = 1; spoilt = false }
+bracketRead = oneArgument 4
+
+abbrev pub privateMarkRead : HalfRead
+privateMarkRead = oneArgument 5
 
 -- Spoiling leaves one argument of 0.
 abbrev pub spoiltRead : HalfRead
@@ -45,6 +55,8 @@ unfoldable pub validHalfRead : HalfRead → Bool
 validHalfRead half =
     if half .spoilt then eqb (half .kind) 3 and eqb (half .count) 1 and argumentsFit 0 0 (half .arguments)
     else if eqb (half .kind) 3 then half .count is 1 to 8 and argumentsFit (half .count) 0 (half .arguments)
+    else if eqb (half .kind) 4 then eqb (half .count) 1 and argumentsFit 0 0 (half .arguments)
+    else if eqb (half .kind) 5 then eqb (half .count) 1 and argumentsFit (half .count) 0 (half .arguments)
     else leb (half .kind) 2 and eqb (half .count) 0 and argumentsFit 0 0 (half .arguments)
 
 -- The argument being read, and the record with another value for it.

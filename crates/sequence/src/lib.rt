@@ -1,4 +1,4 @@
-// Document 01, "Reading host bytes": the half-read sequence, advanced by one byte.
+// Document 01, "Reading host bytes", and document 02, M-106: the half-read sequence, advanced by one byte.
 // Which record and which event a byte gives is defined in specs/Reading.antt.
 ghost use mathlib.Core.Path.{_≡_};
 ghost use mathlib.Core.Bool.{true};
@@ -7,7 +7,8 @@ ghost use Rattle.words.specs.Choice.{_is_to_};
 ghost use Rattle.sequence.specs.Record.{largestArgument, argumentsFit, validHalfRead};
 ghost use Rattle.sequence.specs.Record.{withDigit, withNextArgument};
 ghost use Rattle.sequence.specs.Reading.{isControl, isCancel, refuses, outsideSequence, afterEsc};
-ghost use Rattle.sequence.specs.Reading.{afterIntermediate, afterBracket, insideSequence, advanceOf};
+ghost use Rattle.sequence.specs.Reading.{afterIntermediate, afterBracket, rightAfterBracket, afterPrivateMark};
+ghost use Rattle.sequence.specs.Reading.{sequenceReadOn, insideSequence, advanceOf};
 
 // What is half read.
 pub const NONE: u8 = 0;
@@ -16,7 +17,12 @@ pub const AFTER_ESC: u8 = 1;
 
 pub const AFTER_INTERMEDIATE: u8 = 2;
 
+// ESC [ and more; ESC [ with nothing after it yet; ESC [ and > right after it.
 pub const AFTER_BRACKET: u8 = 3;
+
+pub const BRACKET_ALONE: u8 = 4;
+
+pub const AFTER_PRIVATE_MARK: u8 = 5;
 
 // A sequence of which some bytes have been read. The last of `count` arguments is still being read.
 pub struct HalfRead {
@@ -46,6 +52,8 @@ pub enum Event {
     EscCommand(u8),
     // ESC [ and the command's final byte; its arguments are those of the record before this byte.
     BracketCommand(u8),
+    // ESC [ > and the command's final byte; its argument is the record's too.
+    PrivateCommand(u8),
     // Why, and the byte at which it was refused.
     Refused(Reason, u8),
 }
@@ -76,8 +84,22 @@ const INTERMEDIATE_READ: HalfRead = HalfRead {
     spoilt: false,
 };
 
-const BRACKET_READ: HalfRead = HalfRead {
+const ARGUMENT_READ: HalfRead = HalfRead {
     kind: AFTER_BRACKET,
+    arguments: [0; 8],
+    count: 1,
+    spoilt: false,
+};
+
+const BRACKET_READ: HalfRead = HalfRead {
+    kind: BRACKET_ALONE,
+    arguments: [0; 8],
+    count: 1,
+    spoilt: false,
+};
+
+const PRIVATE_MARK_READ: HalfRead = HalfRead {
+    kind: AFTER_PRIVATE_MARK,
     arguments: [0; 8],
     count: 1,
     spoilt: false,
@@ -212,6 +234,19 @@ fn after_intermediate(byte: u8) -> Advanced
     refused(Reason::UnknownCommand, byte)
 }
 
+// 20 to 7E right after ESC [.
+fn right_after_bracket(byte: u8) -> Advanced
+    ensures { λ r. ⌜ r ≡ rightAfterBracket byte ⌝ }
+{
+    if byte == b'>' {
+        return Advanced {
+            half: PRIVATE_MARK_READ,
+            event: Event::Nothing,
+        };
+    }
+    ARGUMENT_READ.after_bracket(byte)
+}
+
 // The largest that argument `i`, counted from 0, may be where `reached` of them are reached.
 fn largest_argument(i: usize, reached: usize) -> u16
     ensures { λ r. ⌜ r ≡ largestArgument i reached ⌝ }
@@ -259,6 +294,18 @@ impl HalfRead {
             }
             return false;
         }
+        if self.kind == BRACKET_ALONE {
+            if count != 1 {
+                return false;
+            }
+            return arguments_fit(arguments, 0);
+        }
+        if self.kind == AFTER_PRIVATE_MARK {
+            if count != 1 {
+                return false;
+            }
+            return arguments_fit(arguments, count as usize);
+        }
         if AFTER_INTERMEDIATE < self.kind {
             return false;
         }
@@ -301,7 +348,7 @@ impl HalfRead {
         half
     }
 
-    // 20 to 7E after ESC [.
+    // 20 to 7E after ESC [ and more.
     fn after_bracket(self, byte: u8) -> Advanced
         requires { ⌜ (1 ≤ self .count) × (self .count ≤ 8) ⌝ }
         ensures { λ r. ⌜ r ≡ afterBracket self byte ⌝ }
@@ -333,6 +380,50 @@ impl HalfRead {
         }
     }
 
+    // 20 to 7E after ESC [ >.
+    fn after_private_mark(self, byte: u8) -> Advanced
+        requires { ⌜ (1 ≤ self .count) × (self .count ≤ 8) ⌝ }
+        ensures { λ r. ⌜ r ≡ afterPrivateMark self byte ⌝ }
+    {
+        if is_between(byte, b'0', b'9') {
+            return Advanced {
+                half: self.with_digit(byte - b'0'),
+                event: Event::Nothing,
+            };
+        }
+        if byte < 0x40 { // a semicolon too: there is one argument
+            return Advanced {
+                half: SPOILT,
+                event: Event::Nothing,
+            };
+        }
+        Advanced {
+            half: NOTHING_READ,
+            event: Event::PrivateCommand(byte),
+        }
+    }
+
+    // 20 to 7E inside a sequence.
+    fn sequence_read_on(self, byte: u8) -> Advanced
+        requires { ⌜ validHalfRead self ≡ true ⌝ }
+        requires { ⌜ (self .kind ≡ 0 → ⊥) ⌝ }
+        ensures { λ r. ⌜ r ≡ sequenceReadOn self byte ⌝ }
+    {
+        if self.kind == AFTER_ESC {
+            return after_esc(byte);
+        }
+        if self.kind == AFTER_INTERMEDIATE {
+            return after_intermediate(byte);
+        }
+        if self.kind == BRACKET_ALONE {
+            return right_after_bracket(byte);
+        }
+        if self.kind == AFTER_PRIVATE_MARK {
+            return self.after_private_mark(byte);
+        }
+        self.after_bracket(byte)
+    }
+
     // Any byte inside a sequence.
     fn inside_sequence(self, byte: u8) -> Advanced
         requires { ⌜ validHalfRead self ≡ true ⌝ }
@@ -346,13 +437,7 @@ impl HalfRead {
             return STARTED_ANEW; // and not refused
         }
         if is_text(byte) {
-            if self.kind == AFTER_ESC {
-                return after_esc(byte);
-            }
-            if self.kind == AFTER_INTERMEDIATE {
-                return after_intermediate(byte);
-            }
-            return self.after_bracket(byte);
+            return self.sequence_read_on(byte);
         }
         if 0x80 <= byte {
             return refused(Reason::HighByte, byte);

@@ -1,14 +1,8 @@
 use borrow.Author.Needs.{needs}
 use Rattle.sequence.specs.Reading.{insideSequence}
 use Rattle.sequence.proofs.Laws.{reading}
-use Rattle.sequence.proofs.Keeping.{arguments-counted}
 use Rattle.sequence.proofs.HalfRead.inside_sequence.Statement.{statement}
 use Rattle.sequence.proofs.HalfRead.inside_sequence.Tie as tie
-
-after-bracket-requires : tie.Need-after-bracket-requires
-after-bracket-requires c κs =
-    let start = c .before .before .before .before .before .before .before .before .before in
-    arguments-counted _ (start .pre .0) (start .pre .1) (c .before .before .if4 .left) (c .if5 .left)
 
 pub inside-sequence-spec : {M : Type 1} → statement M
 unfolding insideSequence
@@ -20,10 +14,6 @@ inside-sequence-spec =
     (λ c. search reading)
     (λ c κs. search needs)
     (λ c κs. search needs)
-    (λ c. search reading)
-    (λ c κs. search needs)
-    (λ c. search reading)
-    after-bracket-requires
     (λ c. search reading)
     (λ c κs. search needs)
     (λ c. rw (c .refused .ensures) (search reading))
