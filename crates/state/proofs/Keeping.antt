@@ -28,7 +28,7 @@ use Rattle.state.specs.declared.State.{State}
 use Rattle.state.specs.State.{OnPage, withCursor, cursorAt, withLocks, withStops, withHalf, noLocks, freshState, messageOf, refused, inputDisabled, inputEnabled, unlocked}
 use Rattle.state.specs.Moves.{backBy, onBy, upBy, downBy, rightBy, leftBy, toMargin, toNextCell}
 use Rattle.state.specs.Tabs.{stopSet, stopCleared, stopsCleared, stopsOn, stopsBack, tabbedOn, tabbedBack}
-use Rattle.state.specs.Pen.{penUnprotected, penProtected, penNumeric, penAlphabetic, penPlain, penBold, penUnderlined, penBlinking, penReversed, penConcealed, validPen, withPen, withErasure}
+use Rattle.state.specs.Pen.{penUnprotected, penProtected, penNumeric, penAlphabetic, penPlain, penBold, penUnderlined, penBlinking, penReversed, penConcealed, validPen, withPen, withErasure, withFull}
 use Rattle.state.specs.Tests.{listedRows, listedColumns, listedSize, cursorFits, stopsFit, validMessage, validState}
 use Rattle.state.proofs.Laws.{OneTo, right-within, left-within}
 use Rattle.state.proofs.Pens.{HasKind, plain-outside, unprotected-kind, protected-kind, numeric-kind, alphabetic-kind}
@@ -295,7 +295,7 @@ module _ (s : State) (valid : validState s ≡ true) where
   unfolding stopsCleared
   stops-cleared-keeps-valid = stops-keep-valid (replicate 160 false) (no-stops-fit (s .size .columns) 160)
 
-  -- pen and erasure mode
+  -- pen and modes
   pub pen-keeps-valid : (pen : ℕ) → validPen pen ≡ true → KeepsValid s (withPen s pen)
   pen-keeps-valid pen p = record {
     size = refl;
@@ -305,6 +305,10 @@ module _ (s : State) (valid : validState s ≡ true) where
   pub erasure-keeps-valid : (erasure : Bool) → KeepsValid s (withErasure s erasure)
   unfolding validState
   erasure-keeps-valid erasure = record { size = refl; valid = valid }
+
+  pub full-keeps-valid : (full : Bool) → KeepsValid s (withFull s full)
+  unfolding validState
+  full-keeps-valid full = record { size = refl; valid = valid }
 
   -- locks and message
   locks-keep-valid : (locks : Locks) → validMessage locks ≡ true → KeepsValid s (withLocks s locks)

@@ -43,8 +43,12 @@ unfoldable pub validPen : ℕ → Bool
 validPen pen = validMark pen and not (isModified pen)
 
 abbrev pub withPen : State → ℕ → State
-withPen s pen = withModes s (record { pen = pen; erasure = s .modes .erasure })
+withPen s pen = withModes s (record { pen = pen; erasure = s .modes .erasure; full = s .modes .full })
 
 -- SM and RM of mode 6.
 abbrev pub withErasure : State → Bool → State
-withErasure s erasure = withModes s (record { pen = s .modes .pen; erasure = erasure })
+withErasure s erasure = withModes s (record { pen = s .modes .pen; erasure = erasure; full = s .modes .full })
+
+-- SM and RM of mode >6 (M-106): `full` tells that the Unprotected/Modified mode is reset, so that 266 sends all fields.
+abbrev pub withFull : State → Bool → State
+withFull s full = withModes s (record { pen = s .modes .pen; erasure = s .modes .erasure; full = full })

@@ -48,11 +48,11 @@ pub record Arrays (s : State) : Type 0 where
 abbrev pub noLocks : Locks
 noLocks = record { manual = false; soft = false; message = 0; byte = 0 }
 
--- A plain pen, and erasure mode reset.
+-- A plain pen, erasure mode reset, and the Send key sends what changed (M-106).
 abbrev pub freshModes : Modes
-freshModes = record { pen = 0; erasure = false }
+freshModes = record { pen = 0; erasure = false; full = false }
 
--- A fresh page's state: cursor 1;1, plain pen, erasure mode reset, no lock or message, no tab stops, nothing half read.
+-- A fresh page's state: cursor 1;1, fresh pen and modes, no lock or message, no tab stops, nothing half read.
 abbrev pub freshState : Size → State
 freshState size =
     record {

@@ -33,10 +33,13 @@ pub struct Cursor {
     pub column: usize,
 }
 
-// The pen, and the one mode, erasure.
+// The pen, and the two modes.
 pub struct Modes {
     pub pen: Mark,
+    // set: erasing takes protected cells too
     pub erasure: bool,
+    // the Unprotected/Modified mode is reset: the Send key sends all fields, not those that changed
+    pub full: bool,
 }
 
 // Manual input disabled, the soft lock, and the message: 0 none, 1 to 4 why a command was refused (`message_of`).
@@ -67,9 +70,10 @@ const NOWHERE: Cursor = Cursor { row: 0, column: 0 };
 
 const HOME: Cursor = Cursor { row: 1, column: 1 };
 
-const PLAIN: Modes = Modes {
+const FRESH_MODES: Modes = Modes {
     pen: 0,
     erasure: false,
+    full: false,
 };
 
 const UNLOCKED: Locks = Locks {
@@ -99,7 +103,7 @@ impl State {
         State {
             size,
             cursor: HOME,
-            modes: PLAIN,
+            modes: FRESH_MODES,
             locks: UNLOCKED,
             stops: [false; 160],
             half: sequence::NOTHING_READ,
@@ -113,7 +117,7 @@ impl State {
         State {
             size: NO_SIZE,
             cursor: NOWHERE,
-            modes: PLAIN,
+            modes: FRESH_MODES,
             locks: UNLOCKED,
             stops: [false; 160],
             half: sequence::NOTHING_READ,

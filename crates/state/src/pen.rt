@@ -1,10 +1,12 @@
-// The pen and erasure mode; see specs/Pen.antt.
+// The pen and the modes; see specs/Pen.antt.
 use crate::Modes;
 use crate::State;
 use page::Mark;
 ghost use mathlib.Core.Path.{_≡_};
 ghost use Rattle.state.specs.Pen.{penUnprotected, penProtected, penNumeric, penAlphabetic, penPlain, penBold};
-ghost use Rattle.state.specs.Pen.{penUnderlined, penBlinking, penReversed, penConcealed, withPen, withErasure};
+ghost use Rattle.state.specs.Pen.{penUnderlined, penBlinking, penReversed, penConcealed};
+ghost use Rattle.state.specs.Pen.{withPen, withErasure, withFull};
+ghost use Rattle.state.specs.State.{withModes};
 
 // ESC W and o 0: what is written is unprotected, of no kind.
 pub fn pen_unprotected(pen: Mark) -> Mark
@@ -81,29 +83,45 @@ pub fn pen_concealed(pen: Mark) -> Mark
 }
 
 impl State {
+    // Another pen, or modes.
+    fn with_modes(self, modes: Modes) -> Self
+        ensures { λ r. ⌜ r ≡ withModes self modes ⌝ }
+    {
+        let mut next = self;
+        next.modes = modes;
+        next
+    }
+
     // Another pen.
     pub fn with_pen(self, pen: Mark) -> Self
         ensures { λ r. ⌜ r ≡ withPen self pen ⌝ }
     {
-        let modes = Modes {
+        self.with_modes(Modes {
             pen,
             erasure: self.modes.erasure,
-        };
-        let mut next = self;
-        next.modes = modes;
-        next
+            full: self.modes.full,
+        })
     }
 
     // Mode 6, erasure, set or reset.
     pub fn with_erasure(self, erasure: bool) -> Self
         ensures { λ r. ⌜ r ≡ withErasure self erasure ⌝ }
     {
-        let modes = Modes {
+        self.with_modes(Modes {
             pen: self.modes.pen,
             erasure,
-        };
-        let mut next = self;
-        next.modes = modes;
-        next
+            full: self.modes.full,
+        })
+    }
+
+    // Mode >6, reset (`full`) or set.
+    pub fn with_full(self, full: bool) -> Self
+        ensures { λ r. ⌜ r ≡ withFull self full ⌝ }
+    {
+        self.with_modes(Modes {
+            pen: self.modes.pen,
+            erasure: self.modes.erasure,
+            full,
+        })
     }
 }
