@@ -1,2 +1,3 @@
 pub mod Tables
 pub mod Walking
+pub mod PrivateForms

@@ -1,3 +1,4 @@
 pub mod Table
 pub mod Moves
 pub mod Settings
+pub mod PrivateForms

@@ -5,6 +5,7 @@ ghost use Prim.Native.Nat.{_≤_};
 ghost use Rattle.table.specs.Table.{allowed, valueOf};
 
 pub mod moves;
+pub mod private_forms;
 pub mod settings;
 
 // A digit for each final byte, 40 to 7E (`letter` in the code, as `final` is a word of the language).
