@@ -3,10 +3,12 @@ use mathlib.Core.Path.{_≡_}
 use Prim.Native.Nat.{ℕ, _≤_}
 use Rattle.sequence.specs.declared.HalfRead.{HalfRead}
 use Rattle.sequence.specs.declared.Event.{Event}
-use Rattle.sequence.specs.declared.Event.the-variants.{Nothing, Text, Control, EscCommand, BracketCommand, Refused}
+use Rattle.sequence.specs.declared.Event.the-variants.{Nothing, Text, Control, EscCommand, BracketCommand, PrivateCommand, Refused}
+use Rattle.sequence.specs.Range.{argumentOf}
 use Rattle.sequence.specs.Reading.{advanceOf}
 use Rattle.state.specs.State.{withHalf}
 use Rattle.steps.specs.Steps.{Terminal, Stepped, withState, goesTo, refusing}
+use Rattle.table.specs.PrivateForms.{privateStep}
 use Rattle.commands.specs.Text.{textStep, controlStep}
 use Rattle.commands.specs.Commands.{escStep, bracketStep}
 
@@ -17,6 +19,7 @@ eventStep half (Text byte) t = textStep byte t
 eventStep half (Control byte) t = controlStep byte t
 eventStep half (EscCommand byte) t = escStep byte t
 eventStep half (BracketCommand final) t = bracketStep final half t
+eventStep half (PrivateCommand final) t = privateStep final (argumentOf half 0) t
 eventStep half (Refused reason byte) t = refusing reason byte t
 
 -- The final byte of a command of ESC [ is one that the table by final byte has.

@@ -6,7 +6,7 @@ use Prim.Native.Nat.{ℕ}
 use lib.Dec.{ltb, eqb}
 use Rattle.words.specs.Choice.{if_then_else_, _or_}
 use Rattle.sequence.specs.declared.Event.{Event}
-use Rattle.sequence.specs.declared.Event.the-variants.{Nothing, Text, Control, EscCommand, BracketCommand, Refused}
+use Rattle.sequence.specs.declared.Event.the-variants.{Nothing, Text, Control, EscCommand, BracketCommand, PrivateCommand, Refused}
 use Rattle.state.specs.declared.Size.{Size}
 use Rattle.state.specs.declared.Cursor.{Cursor}
 use Rattle.table.specs.Moves.{isPlainMove}
@@ -37,4 +37,5 @@ isLight size cursor (Text byte) = false
 isLight size cursor (Control byte) = isLightControl size cursor byte
 isLight size cursor (EscCommand byte) = isLightLetter byte
 isLight size cursor (BracketCommand final) = isLightFinal final
+isLight size cursor (PrivateCommand final) = true
 isLight size cursor (Refused reason byte) = true

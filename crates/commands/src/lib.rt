@@ -307,6 +307,7 @@ pub fn heavy_step(
             at,
             letter,
         ),
-        Event::Refused(_, _) => steps::quiet(state), // nor does this
+        Event::PrivateCommand(_) => steps::quiet(state), // nor does this
+        Event::Refused(_, _) => steps::quiet(state), // or this
     }
 }

@@ -11,9 +11,11 @@ ghost use mathlib.Core.Path.{_≡_};
 ghost use mathlib.Core.Bool.{true};
 ghost use Prim.Native.Nat.{_≤_};
 ghost use Rattle.sequence.specs.declared.Event.the-variants.{Control, EscCommand, BracketCommand};
+ghost use Rattle.sequence.specs.Range.{argumentOf};
 ghost use Rattle.page.specs.Page.{Page};
 ghost use Rattle.state.specs.State.{OnPage};
 ghost use Rattle.steps.specs.Light.{lightStep};
+ghost use Rattle.table.specs.PrivateForms.{privateStep};
 ghost use Rattle.commands.specs.Text.{controlStep};
 ghost use Rattle.commands.specs.Commands.{escStep, bracketStep};
 ghost use Rattle.commands.specs.Host.{FinalInTable, eventStep};
@@ -69,6 +71,7 @@ pub fn is_light(size: Size, cursor: Cursor, event: Event) -> bool
         Event::Control(code) => is_light_control(size, cursor, code),
         Event::EscCommand(letter) => is_light_letter(letter),
         Event::BracketCommand(letter) => is_light_final(letter),
+        Event::PrivateCommand(_) => true,
         Event::Refused(_, _) => true,
     }
 }
@@ -125,6 +128,16 @@ fn light_final(state: State, half: HalfRead, letter: u8) -> Light
     }
 }
 
+// After ESC [ >.
+fn private_command(state: State, half: HalfRead, letter: u8) -> Light
+    ensures { λ r. ⌜ ((page : Page) →
+        lightStep r (record { state = state; page = page })
+        ≡ privateStep letter (argumentOf half 0) (record { state = state; page = page })) ⌝ }
+{
+    let arguments = half.arguments;
+    table::private_forms::private_command(state, letter, arguments[0])
+}
+
 // What a light event does. `half` is the half-read record before its byte, which has a command's arguments.
 pub fn light_step(state: State, half: HalfRead, event: Event) -> Light
     requires { ⌜ OnPage state ⌝ }
@@ -139,6 +152,7 @@ pub fn light_step(state: State, half: HalfRead, event: Event) -> Light
         Event::Control(code) => light_control(state, code),
         Event::EscCommand(letter) => light_letter(state, letter),
         Event::BracketCommand(letter) => light_final(state, half, letter),
+        Event::PrivateCommand(letter) => private_command(state, half, letter),
         Event::Refused(reason, byte) => Light::Refused(reason, byte),
     }
 }

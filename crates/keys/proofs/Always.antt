@@ -25,23 +25,23 @@ use Rattle.state.specs.State.{unlocked}
 use Rattle.state.specs.Moves.{upBy, downBy, rightBy, leftBy}
 use Rattle.blocks.specs.Blocks.{block}
 use Rattle.steps.specs.Steps.{Terminal, Stepped, goesTo, stores, cursorCell}
-use Rattle.sending.specs.Sending.{sendBlock}
+use Rattle.sending.specs.Sending.{sendsFull, sendBlock}
 use Rattle.keys.specs.Keys.{isTyping, cellsFrom, goneTo, typedStep, toNextField, toPreviousField, toFirstUnprotected, fieldBlanked, restShifted, takenStep, keyStep}
 use Rattle.steps.specs.Seen.{cellsHere, unprotectedAt, startHere, endHere}
 use Rattle.steps.proofs.Transmissions.{silent-is-no-full, silent-is-no-changed, silent-is-no-report, told-full, told-changed, block-is-no-report}
-use Rattle.keys.proofs.Claims.{KeyStores, no-cell, typed-cell, whole-field, rest-of-field, KeyAlways}
+use Rattle.keys.proofs.Claims.{KeyStores, no-cell, typed-cell, whole-field, rest-of-field, IsSendKey, KeyAlways}
 use Rattle.steps.specs.Claims.{ProtectedKept}
 
--- A move to what was found leaves the locks.
+-- A move to what was found leaves the locks, pen and modes.
 gone-keeps-locks : (sought : Sought) (s : State) → goneTo sought s .locks ≡ s .locks
 unfolding goneTo
 gone-keeps-locks (At place) s = refl
 gone-keeps-locks Nowhere s = refl
 
--- The key that asks for a full block, and for a changed one.
-abbrev blockKey : Bool → ℕ
-blockKey true = 267
-blockKey false = 266
+gone-keeps-modes : (sought : Sought) (s : State) → goneTo sought s .modes ≡ s .modes
+unfolding goneTo
+gone-keeps-modes (At place) s = refl
+gone-keeps-modes Nowhere s = refl
 
 -- The cursor's field, in any state.
 pub field-unprotected : (t : Terminal) → unprotectedAt t (cursorCell (t .state)) ≡ true → UnprotectedAround (unprotectedAt t) (cellsHere t) (cursorCell (t .state))
@@ -55,51 +55,54 @@ module _ (key : ℕ) (t : Terminal) where
   line {test} {a} {b} first rest = either-line Always test a b first (λ _. rest)
 
   -- The kinds of steps.
-  puts : {cells : List ℕ} (s : State) (page : Page) → KeyStores key t cells → ((key ≡ 268 → ⊥) → s .locks ≡ t .state .locks) → ((cell : ℕ) → unprotectedAt t cell ≡ false → ProtectedKept (t .page) page cell) → ((k : ℕ) → (k ≡ 1 → ⊥) → (cell : ℕ) → hasBit k (getD (page .marks) cell 0) ≡ hasBit k (getD (t .page .marks) cell 0)) → Always (stores cells false s page)
-  puts s page names locks protected bits = record {
+  puts : {cells : List ℕ} (s : State) (page : Page) → KeyStores key t cells → ((key ≡ 268 → ⊥) → s .locks ≡ t .state .locks) → s .modes ≡ t .state .modes → ((cell : ℕ) → unprotectedAt t cell ≡ false → ProtectedKept (t .page) page cell) → ((k : ℕ) → (k ≡ 1 → ⊥) → (cell : ℕ) → hasBit k (getD (page .marks) cell 0) ≡ hasBit k (getD (t .page .marks) cell 0)) → Always (stores cells false s page)
+  puts s page names locks modes protected bits = record {
     stored = names;
     full-block = λ bytes e. absurd (silent-is-no-full bytes e);
     changed-block = λ bytes e. absurd (silent-is-no-changed bytes e);
     no-report = λ bytes e. silent-is-no-report bytes e;
     not-refused = refl;
     locks = locks;
+    modes = modes;
     protected = protected;
     bits = bits;
   }
 
-  goes : (s : State) → ((key ≡ 268 → ⊥) → s .locks ≡ t .state .locks) → Always (goesTo s t)
-  goes s locks = puts s (t .page) no-cell locks (λ cell p. record { character = λ _. refl; mark = refl }) (λ k other cell. refl)
+  goes : (s : State) → ((key ≡ 268 → ⊥) → s .locks ≡ t .state .locks) → s .modes ≡ t .state .modes → Always (goesTo s t)
+  goes s locks modes = puts s (t .page) no-cell locks modes (λ cell p. record { character = λ _. refl; mark = refl }) (λ k other cell. refl)
 
   goes-to : (sought : Sought) → Always (goesTo (goneTo sought (t .state)) t)
-  goes-to sought = goes (goneTo sought (t .state)) (λ _. gone-keeps-locks sought (t .state))
+  goes-to sought = goes (goneTo sought (t .state)) (λ _. gone-keeps-locks sought (t .state)) (gone-keeps-modes sought (t .state))
 
   stays : Always (goesTo (t .state) t)
-  stays = goes (t .state) (λ _. refl)
+  stays = goes (t .state) (λ _. refl) refl
 
-  clears : (full : Bool) → key ≡ blockKey full → Always (sendBlock full t)
+  clears : key ≡ 266 → Always (sendBlock (sendsFull (t .state)) t)
   unfolding sendBlock
-  clears full asked =
+  clears asked =
+      let full = sendsFull (t .state) in
       let columns = t .state .size .columns in
       let said = block full columns (t .page) in
       record {
         stored = no-cell;
         full-block = λ bytes e.
             let told = told-full said bytes full e in
-            record { asked = asked ∙ ap blockKey (told .0); of-page = told .1 ∙ ap (λ (f : Bool). block f columns (t .page)) (told .0); no-cell = refl };
+            record { asked = record { key-266 = asked; by-mode = told .0 }; of-page = told .1 ∙ ap (λ (f : Bool). block f columns (t .page)) (told .0); no-cell = refl };
         changed-block = λ bytes e.
             let told = told-changed said bytes full e in
-            record { asked = asked ∙ ap blockKey (told .0); of-page = told .1 ∙ ap (λ (f : Bool). block f columns (t .page)) (told .0); no-cell = refl };
+            record { asked = record { key-266 = asked; by-mode = told .0 }; of-page = told .1 ∙ ap (λ (f : Bool). block f columns (t .page)) (told .0); no-cell = refl };
         no-report = λ bytes e. block-is-no-report said bytes full e;
         not-refused = refl;
         locks = λ _. refl;
+        modes = refl;
         protected = λ cell p. record { character = λ _. refl; mark = protected-uncleared (t .page .marks) cell p };
         bits = λ k other cell. cleared-marks-bit k other (t .page .marks) cell;
       }
 
   -- Storing: no cell that is stored is protected.
-  puts-part : {change : List ℕ → List ℕ} → KeepsPart change → (from to : ℕ) → from < to → ((cell : ℕ) → from ≤ cell → cell < to → unprotectedAt t cell ≡ true) → KeyStores key t (cellsFrom from to) → (s : State) → s .locks ≡ t .state .locks → Always (stores (cellsFrom from to) false s (partStored change from to (t .page)))
-  puts-part {change} keeps from to some all-unprotected names s locks =
-      puts s (partStored change from to (t .page)) names (λ _. locks)
+  puts-part : {change : List ℕ → List ℕ} → KeepsPart change → (from to : ℕ) → from < to → ((cell : ℕ) → from ≤ cell → cell < to → unprotectedAt t cell ≡ true) → KeyStores key t (cellsFrom from to) → (s : State) → s .locks ≡ t .state .locks → s .modes ≡ t .state .modes → Always (stores (cellsFrom from to) false s (partStored change from to (t .page)))
+  puts-part {change} keeps from to some all-unprotected names s locks modes =
+      puts s (partStored change from to (t .page)) names (λ _. locks) modes
       (λ cell p.
       let outside : from ≤ cell → cell < to → ⊥ = λ low high. not-both (all-unprotected cell low high) p in
       record {
@@ -113,7 +116,7 @@ module _ (key : ℕ) (t : Terminal) where
   typed-always typing =
       line (λ here.
       let cursor = cursorCell (t .state) in
-      puts _ (typed cursor key (t .page)) (typed-cell here typing) (λ _. gone-keeps-locks _ (t .state))
+      puts _ (typed cursor key (t .page)) (typed-cell here typing) (λ _. gone-keeps-locks _ (t .state)) (gone-keeps-modes _ (t .state))
       (λ cell p.
       let other : cell ≡ cursor → ⊥ = λ e. not-both here (rw e at p) in
       record { character = λ _. getD-set-other (t .page .characters) cursor cell key 0 other; mark = getD-set-other (t .page .marks) cursor cell _ 0 other })
@@ -125,7 +128,7 @@ module _ (key : ℕ) (t : Terminal) where
   blanked-always asked =
       line (λ here.
       let field = field-unprotected t here in
-      puts-part blanked-keeps (startHere t) (endHere t) (omega arith) (field .all-unprotected) (whole-field here asked) _ (gone-keeps-locks _ (t .state)))
+      puts-part blanked-keeps (startHere t) (endHere t) (omega arith) (field .all-unprotected) (whole-field here asked) _ (gone-keeps-locks _ (t .state)) (gone-keeps-modes _ (t .state)))
       stays
 
   shifted-always : {change : List ℕ → List ℕ} → KeepsPart change → (key ≡ 264) ⊎ (key ≡ 265) → Always (restShifted change t)
@@ -133,24 +136,23 @@ module _ (key : ℕ) (t : Terminal) where
   shifted-always keeps asked =
       line (λ here.
       let field = field-unprotected t here in
-      puts-part keeps (cursorCell (t .state)) (endHere t) (field .high) (λ cell low high. field .all-unprotected cell (omega arith) high) (rest-of-field here asked) (t .state) refl)
+      puts-part keeps (cursorCell (t .state)) (endHere t) (field .high) (λ cell low high. field .all-unprotected cell (omega arith) high) (rest-of-field here asked) (t .state) refl refl)
       stays
 
   pub key-always : KeyAlways key t (keyStep key t)
-  unfolding keyStep takenStep upBy downBy leftBy rightBy toNextField toPreviousField toFirstUnprotected
+  unfolding keyStep takenStep upBy downBy leftBy rightBy unlocked toNextField toPreviousField toFirstUnprotected
   key-always =
       line (λ _. stays)
       (line typed-always
-      (line (λ _. goes _ (λ _. refl))
-      (line (λ _. goes _ (λ _. refl))
-      (line (λ _. goes _ (λ _. refl))
-      (line (λ _. goes _ (λ _. refl))
+      (line (λ _. goes _ (λ _. refl) refl)
+      (line (λ _. goes _ (λ _. refl) refl)
+      (line (λ _. goes _ (λ _. refl) refl)
+      (line (λ _. goes _ (λ _. refl) refl)
       (line (λ _. goes-to _)
       (line (λ _. goes-to _)
       (line (λ _. goes-to _)
       (line (λ e. blanked-always (eqb-true key 263 e))
       (line (λ e. shifted-always closed-up-keeps (inl (eqb-true key 264 e)))
       (line (λ e. shifted-always moved-right-keeps (inr (eqb-true key 265 e)))
-      (line (λ e. clears false (eqb-true key 266 e))
-      (line (λ e. clears true (eqb-true key 267 e))
-      (line (λ e. goes (unlocked (t .state)) (λ other. absurd (other (eqb-true key 268 e)))) stays))))))))))))))
+      (line (λ e. clears (eqb-true key 266 e))
+      (line (λ e. goes (unlocked (t .state)) (λ other. absurd (other (eqb-true key 268 e))) refl) stays)))))))))))))

@@ -46,5 +46,4 @@ key-keeps-arrays key t has =
     (line _ _ _ (shifted-keeps t has _)
     (line _ _ _ (shifted-keeps t has _)
     (line _ _ _ has
-    (line _ _ _ has
-    (line _ _ _ (locks-keep-arrays (t .state) has _) has))))))))))))))
+    (line _ _ _ (locks-keep-arrays (t .state) has _) has)))))))))))))

@@ -1,5 +1,5 @@
 -- What is claimed of a key's step beside what is claimed of every step.
-use mathlib.Core.Bool.{true, false}
+use mathlib.Core.Bool.{Bool, true, false}
 use mathlib.Core.List.{List, [], _∷_, List·Memᴰ}
 use mathlib.Core.Logic.{_⊎_}
 use mathlib.Core.Path.{_≡_}
@@ -11,6 +11,7 @@ use Rattle.steps.specs.Steps.{Terminal, report, fullBlock, changedBlock, Steppe
 use Rattle.steps.specs.Claims.{SendsBlock, ProtectedKept}
 use Rattle.steps.proofs.Soundness.{Sound}
 use Rattle.steps.specs.Seen.{unprotectedAt}
+use Rattle.sending.specs.Sending.{sendsFull}
 use Rattle.keys.specs.Keys.{isTyping, cellsFrom}
 use Rattle.steps.specs.Seen.{startHere, endHere}
 
@@ -22,14 +23,20 @@ pub data KeyStores (key : ℕ) (t : Terminal) : List ℕ → Type 0 where
   whole-field : unprotectedAt t (cursorCell (t .state)) ≡ true → key ≡ 263 → KeyStores key t (cellsFrom (startHere t) (endHere t))
   rest-of-field : unprotectedAt t (cursorCell (t .state)) ≡ true → (key ≡ 264) ⊎ (key ≡ 265) → KeyStores key t (cellsFrom (cursorCell (t .state)) (endHere t))
 
+-- The key is 266, and its mode has it send a full block, or a changed one.
+pub record IsSendKey (key : ℕ) (t : Terminal) (full : Bool) : Type 0 where
+  pub key-266 : key ≡ 266
+  pub by-mode : sendsFull (t .state) ≡ full
+
 -- In any state, valid or not, whatever the lengths of the two slices. Every cell keeps all its marks but modified.
 pub record KeyAlways (key : ℕ) (t : Terminal) (step : Stepped) : Type 0 where
   pub stored : KeyStores key t (step .cells)
-  pub full-block : (bytes : List ℕ) → step .transmission ≡ fullBlock bytes → SendsBlock true (key ≡ 267) t step bytes
-  pub changed-block : (bytes : List ℕ) → step .transmission ≡ changedBlock bytes → SendsBlock false (key ≡ 266) t step bytes
+  pub full-block : (bytes : List ℕ) → step .transmission ≡ fullBlock bytes → SendsBlock true (IsSendKey key t true) t step bytes
+  pub changed-block : (bytes : List ℕ) → step .transmission ≡ changedBlock bytes → SendsBlock false (IsSendKey key t false) t step bytes
   pub no-report : (bytes : List ℕ) → step .transmission ≡ report bytes → ⊥
   pub not-refused : step .wasRefused ≡ false
   pub locks : (key ≡ 268 → ⊥) → step .terminal .state .locks ≡ t .state .locks
+  pub modes : step .terminal .state .modes ≡ t .state .modes
   pub protected : (cell : ℕ) → unprotected (t .page .marks) cell ≡ false → ProtectedKept (t .page) (step .terminal .page) cell
   pub bits : (k : ℕ) → (k ≡ 1 → ⊥) → (cell : ℕ) → hasBit k (getD (step .terminal .page .marks) cell 0) ≡ hasBit k (getD (t .page .marks) cell 0)
 

@@ -17,7 +17,8 @@ use Rattle.fields.specs.Searches.{orElse, firstField, lastField, firstAfter, la
 use Rattle.blocks.specs.Blocks.{entryBytes, encode, entryOf, someModified, isInBlock, entriesSent, block}
 use Rattle.state.specs.State.{freshState, withCursor, cursorAt, withLocks, unlocked}
 use Rattle.state.specs.Moves.{backBy, onBy, upBy, downBy, rightBy, leftBy}
-use Rattle.steps.specs.Steps.{Terminal, bytesOf, blockTransmission}
+use Rattle.state.specs.Pen.{withFull}
+use Rattle.steps.specs.Steps.{Terminal, withState, bytesOf, blockTransmission}
 use Rattle.sending.specs.Sending.{sendBlock}
 use Rattle.keys.specs.Keys.{isTyping, isEditing, isFieldMove, isKnown, isLocked, isLockedOut, noField, lacksCell, isNotTaken, goneTo, typedStep, toNextField, toPreviousField, toFirstUnprotected, fieldBlanked, restShifted, takenStep, keyStep}
 
@@ -90,6 +91,18 @@ sentOn page row column key bytes marksAfter =
       seen = record { row = row; column = column; count = 0; sent = bytes; page = pageOf (page .characters) marksAfter };
     }
 
+-- The same with the Unprotected/Modified mode reset: 266 sends a full block.
+inFull : Terminal → Terminal
+inFull t = withState t (withFull (t .state) true)
+
+allSentOn : Page → ℕ → ℕ → List ℕ → List ℕ → Example
+allSentOn page row column bytes marksAfter =
+    record {
+      start = inFull (on page row column);
+      key = 266;
+      seen = record { row = row; column = column; count = 0; sent = bytes; page = pageOf (page .characters) marksAfter };
+    }
+
 -- All that on the page above.
 goes : ℕ → ℕ → ℕ → ℕ → ℕ → Example
 goes = goesOn (pageOf characters marks)
@@ -99,6 +112,9 @@ stored = storedOn (pageOf characters marks)
 
 sent : ℕ → ℕ → ℕ → List ℕ → List ℕ → Example
 sent = sentOn (pageOf characters marks)
+
+allSent : ℕ → ℕ → List ℕ → List ℕ → Example
+allSent = allSentOn (pageOf characters marks)
 
 -- A page with no unprotected cell; three cells are enough.
 closed : Page
@@ -212,25 +228,25 @@ examples =
     ∷ sent 1 4 266
     (bytes "\u{1b}[1;8fFGH\u{3}")
     (1 ∷ 0 ∷ 4 ∷ 8 ∷ 32 ∷ 0 ∷ 3 ∷ 0 ∷ 0 ∷ 16 ∷ 1 ∷ 64 ∷ 1 ∷ 1 ∷ 1 ∷ 1 ∷ [])
-    -- 267 sends all three
-    ∷ sent 1 4 267
+    -- by its mode it sends all three
+    ∷ allSent 1 4
     (bytes "\u{1b}[1;2fABCDE\u{1b}[1;8fFGH\u{1b}[2;4fI\u{3}")
     (1 ∷ 0 ∷ 4 ∷ 8 ∷ 32 ∷ 0 ∷ 3 ∷ 0 ∷ 0 ∷ 16 ∷ 1 ∷ 64 ∷ 1 ∷ 1 ∷ 1 ∷ 1 ∷ [])
     -- the page's last cell is not joined to its first: 263 on C and 264 on D end with the page, 265 on A leaves C and
-    -- D, 260 on C and 261 on A go round it, and 267 sends two fields
+    -- D, 260 on C and 261 on A go round it, and 266 sends two fields, if all
     ∷ storedOn ends 2 7 263 2 7 2 (bytes "AB............  ") (0 ∷ 0 ∷ replicate 12 1 ++ (2 ∷ 2 ∷ []))
     ∷ storedOn ends 2 8 264 2 8 1 (bytes "AB............C ") (0 ∷ 0 ∷ replicate 12 1 ++ (0 ∷ 2 ∷ []))
     ∷ storedOn ends 1 1 265 1 1 2 (bytes " A............CD") (2 ∷ 2 ∷ replicate 12 1 ++ (0 ∷ 0 ∷ []))
     ∷ goesOn ends 2 7 260 1 1
     ∷ goesOn ends 1 1 261 2 7
-    ∷ sentOn ends 1 1 267 (bytes "\u{1b}[1;1fAB\u{1b}[2;7fCD\u{3}") (ends .marks)
-    -- one field of a whole page: 260 and 261 find its start, 265 moves what is behind the cursor, 263 blanks and 267
+    ∷ allSentOn ends 1 1 (bytes "\u{1b}[1;1fAB\u{1b}[2;7fCD\u{3}") (ends .marks)
+    -- one field of a whole page: 260 and 261 find its start, 265 moves what is behind the cursor, 263 blanks and 266
     -- sends all of it
     ∷ goesOn whole 2 8 260 1 1
     ∷ goesOn whole 2 8 261 1 1
     ∷ storedOn whole 1 8 265 1 8 9 (bytes "ABCDEFG HIJKLMNO") (replicate 7 0 ++ replicate 9 2)
     ∷ storedOn whole 2 3 263 1 1 16 (bytes "                ") (replicate 16 2)
-    ∷ sentOn whole 2 8 267 (bytes "\u{1b}[1;1fABCDEFGHIJKLMNOP\u{3}") (whole .marks)
+    ∷ allSentOn whole 2 8 (bytes "\u{1b}[1;1fABCDEFGHIJKLMNOP\u{3}") (whole .marks)
     -- M-103: O is not taken by a numeric cell, nor 5 by an alphabetic one; a blank is stored in any, and what a cell
     -- takes, whose kind stays; a plain cell takes all
     ∷ goesOn kinds 1 2 (code "O") 1 2
@@ -251,14 +267,15 @@ examples =
     -- 263 leaves the kinds, and so does a block
     ∷ storedOn kinds 1 5 263 1 2 6 (bytes "#      ##7X5####") (kindsAfter (130 ∷ 134 ∷ 258 ∷ 258 ∷ 2 ∷ 258 ∷ []) (0 ∷ 256 ∷ 130 ∷ []))
     ∷ sentOn kinds 1 1 266 (bytes "\u{1b}[2;2f7X5\u{3}") (kindsAfter (128 ∷ 132 ∷ 256 ∷ 256 ∷ 0 ∷ 256 ∷ []) (0 ∷ 256 ∷ 128 ∷ []))
-    -- 127 and 269 are no keys
+    -- 127, 267 and 269 are no keys
     ∷ goes 1 3 127 1 3
+    ∷ goes 1 3 267 1 3
     ∷ goes 1 3 269 1 3
     ∷ []
 
 -- Each key leaves what the example says.
 as-worked-out : map asRun examples ≡ map (λ (e : Example). e .seen) examples
-unfolding characters marks on asRun goesOn storedOn sentOn goes stored sent closed ends whole kinds kindsAfter examples if_then_else_ _and_ _or_ _is_to_ within eachFrom numbersFrom onPart selected unprotected typed tagged blanked closedUp movedRight markAfterBlock modifiedCleared placeOf decimal placeBytes joined startsField fieldStart endFrom fieldEnd fieldsFrom fieldsOf orElse firstField lastField firstAfter lastBefore nextField previousField firstUnprotectedFrom firstUnprotected nextUnprotected entryBytes encode entryOf someModified isInBlock entriesSent block unlocked backBy onBy upBy downBy rightBy leftBy bytesOf blockTransmission sendBlock isTyping goneTo typedStep toNextField toPreviousField toFirstUnprotected fieldBlanked restShifted isNotTaken takenStep keyStep numericTakes alphabeticTakes takes allFrom takesFromRight takesFromLeft
+unfolding characters marks on asRun goesOn storedOn sentOn inFull allSentOn goes stored sent allSent closed ends whole kinds kindsAfter examples if_then_else_ _and_ _or_ _is_to_ within eachFrom numbersFrom onPart selected unprotected typed tagged blanked closedUp movedRight markAfterBlock modifiedCleared placeOf decimal placeBytes joined startsField fieldStart endFrom fieldEnd fieldsFrom fieldsOf orElse firstField lastField firstAfter lastBefore nextField previousField firstUnprotectedFrom firstUnprotected nextUnprotected entryBytes encode entryOf someModified isInBlock entriesSent block unlocked backBy onBy upBy downBy rightBy leftBy bytesOf blockTransmission sendBlock isTyping goneTo typedStep toNextField toPreviousField toFirstUnprotected fieldBlanked restShifted isNotTaken takenStep keyStep numericTakes alphabeticTakes takes allFrom takesFromRight takesFromLeft
 as-worked-out = refl
 
 -- 268: soft lock, message and byte are cleared; the manual lock, and all else, stays. It is the one key that a lock
@@ -273,7 +290,7 @@ unfolding characters marks on locked if_then_else_ _and_ _is_to_ isTyping unlock
 unlocks = refl
 
 lockedOut : Terminal → List Bool
-lockedOut t = map (λ (key : ℕ). isLockedOut key (t .state)) (0x41 ∷ 256 ∷ 267 ∷ 268 ∷ [])
+lockedOut t = map (λ (key : ℕ). isLockedOut key (t .state)) (0x41 ∷ 256 ∷ 266 ∷ 268 ∷ [])
 
 -- Either lock keeps the other keys out.
 locks-out : map lockedOut (locked false true 1 0x42 ∷ locked true false 0 0 ∷ locked false false 0 0 ∷ []) ≡ ((true ∷ true ∷ true ∷ false ∷ []) ∷ (true ∷ true ∷ true ∷ false ∷ []) ∷ (false ∷ false ∷ false ∷ false ∷ []) ∷ [])
@@ -281,7 +298,7 @@ unfolding characters marks on locked lockedOut _and_ _or_ isLocked isLockedOut
 locks-out = refl
 
 -- Line 4: the numbers beside each edge of the known ones.
-known : map isKnown (31 ∷ 32 ∷ 126 ∷ 127 ∷ 255 ∷ 256 ∷ 268 ∷ 269 ∷ []) ≡ (false ∷ true ∷ true ∷ false ∷ false ∷ true ∷ true ∷ false ∷ [])
+known : map isKnown (31 ∷ 32 ∷ 126 ∷ 127 ∷ 255 ∷ 256 ∷ 266 ∷ 267 ∷ 268 ∷ 269 ∷ []) ≡ (false ∷ true ∷ true ∷ false ∷ false ∷ true ∷ true ∷ false ∷ true ∷ false ∷ [])
 unfolding _and_ _or_ _is_to_ isTyping isKnown
 known = refl
 

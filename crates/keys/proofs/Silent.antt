@@ -1,4 +1,4 @@
--- Which keys send nothing: all but 266 and 267.
+-- Which keys send nothing: all but 266.
 use mathlib.Core.Path.{_≡_, refl, sym, ap, _∙_}
 use mathlib.Core.Bool.{true, false}
 use mathlib.Core.List.{List}
@@ -13,9 +13,9 @@ use Rattle.steps.specs.Told.{told, tells, written}
 use Rattle.keys.specs.Keys.{isTyping, isNotTaken, typedStep, toNextField, toPreviousField, toFirstUnprotected, fieldBlanked, restShifted, takenStep, keyStep}
 use Rattle.steps.proofs.Writing.{Silent, told-silent}
 
-key-silent : (key : ℕ) (t : Terminal) → (key ≡ 266 → ⊥) → (key ≡ 267 → ⊥) → Silent (takenStep key t)
+key-silent : (key : ℕ) (t : Terminal) → (key ≡ 266 → ⊥) → Silent (takenStep key t)
 unfolding takenStep typedStep toNextField toPreviousField toFirstUnprotected fieldBlanked restShifted bytesOf
-key-silent key t not-266 not-267 =
+key-silent key t not-266 =
     either-line Silent _ _ _ (λ _. either-line Silent _ _ _ (λ _. refl) (λ _. refl))
     (λ _. either-line Silent _ _ _ (λ _. refl)
     (λ _. either-line Silent _ _ _ (λ _. refl)
@@ -28,8 +28,7 @@ key-silent key t not-266 not-267 =
     (λ _. either-line Silent _ _ _ (λ _. either-line Silent _ _ _ (λ _. refl) (λ _. refl))
     (λ _. either-line Silent _ _ _ (λ _. either-line Silent _ _ _ (λ _. refl) (λ _. refl))
     (λ _. either-line Silent _ _ _ (λ is. absurd (not-266 (eqb-true _ _ is)))
-    (λ _. either-line Silent _ _ _ (λ is. absurd (not-267 (eqb-true _ _ is)))
-    (λ _. either-line Silent _ _ _ (λ _. refl) (λ _. refl))))))))))))))
+    (λ _. either-line Silent _ _ _ (λ _. refl) (λ _. refl)))))))))))))
 
 -- The numbers of the keys that type.
 pub typing-range : (key : ℕ) → isTyping key ≡ true → (32 ≤ key) × (key ≤ 126)
@@ -43,13 +42,13 @@ taken-step key t taken = else-case _ _ _ taken
 
 -- Where the code tells what such a key does, it tells what is written.
 module _ (key : ℕ) (t : Terminal) (output : List ℕ) {step : Step} {page : Page} (taken : isNotTaken key t ≡ false) where
-  pub key-told : (key ≡ 266 → ⊥) → (key ≡ 267 → ⊥) → told step page ≡ tells (takenStep key t) → record { told = told step page; output = output } ≡ written 0 output t (keyStep key t)
-  key-told not-266 not-267 is =
-      told-silent 0 output t (takenStep key t) step page is (key-silent key t not-266 not-267)
+  pub key-told : (key ≡ 266 → ⊥) → told step page ≡ tells (takenStep key t) → record { told = told step page; output = output } ≡ written 0 output t (keyStep key t)
+  key-told not-266 is =
+      told-silent 0 output t (takenStep key t) step page is (key-silent key t not-266)
       ∙ ap (written 0 output t) (sym (taken-step key t taken))
 
   pub typing-told : isTyping key ≡ true → told step page ≡ tells (typedStep key t) → record { told = told step page; output = output } ≡ written 0 output t (keyStep key t)
   unfolding takenStep
   typing-told typing is =
       let range = typing-range key typing in
-      key-told (λ e. omega arith) (λ e. omega arith) (is ∙ ap tells (sym (then-case _ _ _ typing)))
+      key-told (λ e. omega arith) (is ∙ ap tells (sym (then-case _ _ _ typing)))

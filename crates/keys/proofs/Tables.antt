@@ -21,7 +21,7 @@ use Rattle.state.specs.declared.State.{State}
 use Rattle.state.proofs.Keeping.{KeepsValid, up-keeps-valid, down-keeps-valid, right-keeps-valid, left-keeps-valid, cursor-keeps-valid, unlocked-keeps-valid}
 use Rattle.steps.specs.Steps.{Terminal, blockTransmission, Stepped, goesTo, stores, cursorCell, Valid}
 use Rattle.steps.specs.Claims.{markLeft}
-use Rattle.sending.specs.Sending.{sendBlock}
+use Rattle.sending.specs.Sending.{sendsFull, sendBlock}
 use Rattle.keys.specs.Keys.{isTyping, cellsFrom, goneTo, typedStep, toNextField, toPreviousField, toFirstUnprotected, fieldBlanked, restShifted, takenStep, keyStep}
 use Rattle.steps.specs.Seen.{cellsHere, unprotectedAt, startHere, endHere}
 use Rattle.steps.proofs.Naming.{named-between, places-rise}
@@ -134,9 +134,8 @@ module _ (t : Terminal) (valid : Valid t) where
       (line (λ _. blanked-holds)
       (line (λ _. shifted-holds closed-up-keeps)
       (line (λ _. shifted-holds moved-right-keeps)
-      (line (λ _. clears false)
-      (line (λ _. clears true)
-      (line (λ _. goes _ (unlocked-keeps-valid s ok)) (goes s stays)))))))))))))))
+      (line (λ _. clears (sendsFull (t .state)))
+      (line (λ _. goes _ (unlocked-keeps-valid s ok)) (goes s stays))))))))))))))
 
 pub key-holds : (key : ℕ) (t : Terminal) → Valid t → KeySound key t (keyStep key t)
 key-holds key t valid = let holds = table-holds t valid key in record { always = key-always key t; sound = holds .0; tags = holds .1; takes = stored-taken t valid key }

@@ -14,7 +14,7 @@ use Rattle.page.specs.Marks.{takes}
 use Rattle.page.specs.Page.{typed, partStored, takesFromRight, takesFromLeft, blanked, closedUp, movedRight}
 use Rattle.page.proofs.Carrying.{blanked-at, closed-up-at, closed-up-last, moved-right-first, moved-right-at}
 use Rattle.steps.specs.Steps.{Terminal, Stepped, Valid, cursorCell}
-use Rattle.sending.specs.Sending.{sendBlock}
+use Rattle.sending.specs.Sending.{sendsFull, sendBlock}
 use Rattle.keys.specs.Keys.{isTyping, cellsFrom, carried, isNotTaken, typedStep, toNextField, toPreviousField, toFirstUnprotected, fieldBlanked, restShifted, takenStep, keyStep}
 use Rattle.steps.specs.Seen.{characterAt, takesAt, startHere, endHere}
 use Rattle.steps.proofs.Naming.{named-between, places-rise}
@@ -126,9 +126,8 @@ module _ (t : Terminal) (valid : Valid t) where
       (line _ _ _ (λ _. blanked-takes)
       (line _ _ _ (λ e. closed-up-takes (rw (eqb-true key 264 e) at taken))
       (line _ _ _ (λ e. moved-right-takes (rw (eqb-true key 265 e) at taken))
-      (line _ _ _ (λ _. clears false)
-      (line _ _ _ (λ _. clears true)
-      (line _ _ _ (λ _. stays) stays)))))))))))))
+      (line _ _ _ (λ _. clears (sendsFull (t .state)))
+      (line _ _ _ (λ _. stays) stays))))))))))))
 
   pub stored-taken : (key : ℕ) → Takes (t .page) (keyStep key t .cells) (keyStep key t .terminal .page)
   unfolding keyStep

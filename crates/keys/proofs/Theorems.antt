@@ -18,7 +18,7 @@ use Rattle.keys.specs.Keys.{isTyping, isEditing, isNotTaken, typedStep, 
 use Rattle.steps.specs.Seen.{startHere, endHere}
 use Rattle.steps.proofs.Naming.{named-between}
 use Rattle.steps.proofs.Soundness.{names-none}
-use Rattle.keys.proofs.Claims.{KeyStores, no-cell, typed-cell, whole-field, rest-of-field}
+use Rattle.keys.proofs.Claims.{KeyStores, no-cell, typed-cell, whole-field, rest-of-field, IsSendKey}
 use Rattle.keys.proofs.Silent.{taken-step}
 use Rattle.keys.proofs.Always.{key-always}
 use Rattle.keys.proofs.Tables.{key-holds}
@@ -62,11 +62,11 @@ module _ (key : ℕ) (t : Terminal) where
   pub key-stores : KeyStores key t (keyStep key t .cells)
   key-stores = key-always key t .stored
 
-  -- Only 267 sends a full block, and only 266 a changed one; either is that of the page as it was.
-  pub key-sends-full : (bytes : List ℕ) → keyStep key t .transmission ≡ fullBlock bytes → SendsBlock true (key ≡ 267) t (keyStep key t) bytes
+  -- Only 266 sends a block, full or changed by its mode; either is that of the page as it was.
+  pub key-sends-full : (bytes : List ℕ) → keyStep key t .transmission ≡ fullBlock bytes → SendsBlock true (IsSendKey key t true) t (keyStep key t) bytes
   key-sends-full = key-always key t .full-block
 
-  pub key-sends-changed : (bytes : List ℕ) → keyStep key t .transmission ≡ changedBlock bytes → SendsBlock false (key ≡ 266) t (keyStep key t) bytes
+  pub key-sends-changed : (bytes : List ℕ) → keyStep key t .transmission ≡ changedBlock bytes → SendsBlock false (IsSendKey key t false) t (keyStep key t) bytes
   key-sends-changed = key-always key t .changed-block
 
   -- No key sends a report.
@@ -95,6 +95,10 @@ module _ (key : ℕ) (t : Terminal) where
   -- Only 268 changes a lock, the message or its byte.
   pub only-268-unlocks : (key ≡ 268 → ⊥) → keyStep key t .terminal .state .locks ≡ t .state .locks
   only-268-unlocks = key-always key t .locks
+
+  -- No key changes the pen or a mode.
+  pub no-key-changes-modes : keyStep key t .terminal .state .modes ≡ t .state .modes
+  no-key-changes-modes = key-always key t .modes
 
 -- 268 clears the soft lock, the message and its byte, and does nothing else.
 pub unlocked-step : (t : Terminal) → keyStep 268 t ≡ goesTo (withLocks (t .state) (record { manual = t .state .locks .manual; soft = false; message = 0; byte = 0 })) t

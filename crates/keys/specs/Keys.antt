@@ -1,5 +1,5 @@
--- Document 01, "Fields, keys and blocks", and document 02, M-103: what the keys do. A key that finds no cell or field
--- does nothing, nor one that brings a character where it isn't taken: line 7 or 8 is then given.
+-- Document 01, "Fields, keys and blocks", and document 02, M-103 and M-106: what the keys do. A key that finds no cell or
+-- field does nothing, nor one that brings a character where it isn't taken: line 7 or 8 is then given.
 use mathlib.Core.Bool.{Bool, true, false, not}
 use mathlib.Core.List.{List, [], _∷_}
 use Prim.Native.Nat.{ℕ, _-_}
@@ -17,7 +17,7 @@ use Rattle.state.specs.Moves.{upBy, downBy, rightBy, leftBy}
 use Rattle.steps.specs.Steps.{Terminal, Stepped, goesTo, stores, cursorCell}
 use Rattle.steps.specs.Seen.{seen, unprotectedAt, takesAt, placeHere, fieldsHere, startHere, endHere}
 use Rattle.steps.specs.Seen.{nextFieldHere, previousFieldHere, firstUnprotectedHere, nextUnprotectedHere}
-use Rattle.sending.specs.Sending.{sendBlock}
+use Rattle.sending.specs.Sending.{sendsFull, sendBlock}
 
 -- The keys that type a character, those that store in the cursor's field, and those that look for a field.
 unfoldable pub isTyping : ℕ → Bool
@@ -31,7 +31,7 @@ isFieldMove key = key is 260 to 261
 
 -- Line 4 is given to every other number.
 unfoldable pub isKnown : ℕ → Bool
-isKnown key = isTyping key or key is 256 to 268
+isKnown key = isTyping key or key is 256 to 266 or eqb key 268
 
 -- Line 5: under either lock all known keys but 268.
 unfoldable pub isLocked : State → Bool
@@ -127,8 +127,7 @@ takenStep key t =
     else if eqb key 263 then fieldBlanked t
     else if eqb key 264 then restShifted closedUp t
     else if eqb key 265 then restShifted movedRight t
-    else if eqb key 266 then sendBlock false t
-    else if eqb key 267 then sendBlock true t
+    else if eqb key 266 then sendBlock (sendsFull (t .state)) t
     else if eqb key 268 then goesTo (unlocked (t .state)) t
     else goesTo (t .state) t
 

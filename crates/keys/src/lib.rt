@@ -58,7 +58,10 @@ pub fn is_known(key: usize) -> bool
     if key < 256 {
         return false;
     }
-    key <= 268
+    if key <= 266 {
+        return true;
+    }
+    key == 268
 }
 
 fn is_locked(state: State) -> bool
@@ -285,7 +288,7 @@ fn insert_here(state: State, characters: &mut [u8], marks: &mut [Mark]) -> Step
 // The keys from 256 on that send nothing; a number that is no key does nothing.
 fn act(state: State, characters: &mut [u8], marks: &mut [Mark], key: usize) -> Step
     requires { ⌜ Valid (terminalOf state (now characters) (now marks)) ⌝ }
-    requires { ⌜ (isTyping key ≡ false) × (key ≡ 266 → ⊥) × (key ≡ 267 → ⊥) ⌝ }
+    requires { ⌜ (isTyping key ≡ false) × (key ≡ 266 → ⊥) ⌝ }
     ensures { λ r. ⌜ told r (pageOf (now (characters .exit)) (now (marks .exit)))
         ≡ tells (takenStep key (terminalOf state (now (characters .entry)) (now (marks .entry)))) ⌝ }
 {
@@ -327,10 +330,7 @@ pub fn step(
         return type_character(state, characters, marks, key as u8);
     }
     if key == 266 {
-        return sending::send_block(state, state, characters, marks, out, 0, false);
-    }
-    if key == 267 {
-        return sending::send_block(state, state, characters, marks, out, 0, true);
+        return sending::send_block(state, state, characters, marks, out, 0, state.modes.full);
     }
     act(state, characters, marks, key)
 }

@@ -8,6 +8,7 @@ use Rattle.words.specs.Choice.{if_then_else_}
 use Rattle.page.specs.Page.{pageOf, modifiedCleared}
 use Rattle.output.specs.Decimal.{placeBytes}
 use Rattle.sequence.specs.declared.Reason.the-variants.{WrongArguments}
+use Rattle.state.specs.declared.State.{State}
 use Rattle.steps.specs.Steps.{Terminal, report, blockTransmission, Stepped, sends, refusing}
 use Rattle.steps.specs.Seen.{blockHere}
 
@@ -27,6 +28,10 @@ statusReport final what t =
     if eqb what 5 then readyReport t
     else if eqb what 6 then cursorReport t
     else refusing WrongArguments final t
+
+-- M-106: 266 sends a full block where the Unprotected/Modified mode is reset, else a changed one.
+abbrev pub sendsFull : State → Bool
+sendsFull s = s .modes .full
 
 -- A block is sent, full or changed; sending clears modified. ESC S sends a full one.
 unfoldable pub sendBlock : Bool → Terminal → Stepped

@@ -124,7 +124,7 @@ pub fn status_report(
     steps::refuse(state, Reason::WrongArguments, letter)
 }
 
-// A full block, for ESC S and key 267, or a changed one, for key 266.
+// A full block or a changed one: ESC S sends a full one, key 266 as its mode has it.
 pub fn send_block(
     state: State,
     before: State,

@@ -25,7 +25,6 @@ returns-12 c =
       ne-eqb _ _ (none .0 .0 .1),
       ne-eqb _ _ (none .0 .1),
       ne-eqb _ _ (other .1),
-      ne-eqb _ _ (other .2),
       ne-eqb _ _ (none .1),
     ))
 

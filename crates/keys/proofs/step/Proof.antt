@@ -21,11 +21,11 @@ returns c =
     let t : Terminal = record { state = start .args .state; page = pageOf (start .args .characters .now) (start .args .marks .now) } in
     typing-told (start .args .key) t (start .args .out .now) (start .pre .1) (sym (asked .is-typing .ensures) ∙ c .before .before .before .before .before .before .before .if1 .taken) (c .before .before .before .before .type-character .ensures)
 
-returns-4 : tie.Need-returns-4
-returns-4 c =
-    let start = c .before .before .before .before .before .before .before .before .before .before .before .before .before .before in
+returns-3 : tie.Need-returns-3
+returns-3 c =
+    let start = c .before .before .before .before .before .before .before .before .before .before .before .before .before in
     let t : Terminal = record { state = start .args .state; page = pageOf (start .args .characters .now) (start .args .marks .now) } in
-    key-told (start .args .key) t (start .args .out .now) (start .pre .1) (c .before .before .before .before .before .before .before .before .if2 .left) (c .before .before .before .before .before .before .before .if3 .left) (c .before .before .before .before .act .ensures)
+    key-told (start .args .key) t (start .args .out .now) (start .pre .1) (c .before .before .before .before .before .before .before .if2 .left) (c .before .before .before .before .act .ensures)
 
 pub step-spec : {M : Type 1} → statement M
 unfolding keyStep isNotTaken takenStep isTyping _is_to_ _and_ if_then_else_
@@ -43,12 +43,7 @@ step-spec =
     (λ c. search needs)
     (λ c. search needs)
     (λ c. rw (c .before .before .before .before .before .before .before .before .if2 .taken) (c .before .before .before .before .send-block .ensures))
-    (λ c κs. search needs)
+    (λ c κs. (c .before .before .before .before .before .before .before .before .pre .0, (sym (c .before .before .before .before .is-typing .ensures) ∙ c .before .before .before .if1 .left, c .before .before .if2 .left)))
     (λ c. search needs)
     (λ c. search needs)
-    (λ c. search needs)
-    (λ c. rw (c .before .before .before .before .before .before .before .before .if3 .taken) (c .before .before .before .before .send-block2 .ensures))
-    (λ c κs. (c .before .before .before .before .before .before .before .before .before .pre .0, (sym (c .before .before .before .before .before .is-typing .ensures) ∙ c .before .before .before .before .if1 .left, c .before .before .before .if2 .left, c .before .before .if3 .left)))
-    (λ c. search needs)
-    (λ c. search needs)
-    returns-4)
+    returns-3)
