@@ -5,7 +5,8 @@ use Prim.Native.Nat.{ℕ, _+_}
 use Rattle.words.specs.Choice.{if_then_else_}
 use Rattle.sequence.specs.declared.HalfRead.{HalfRead}
 use Rattle.sequence.specs.declared.Event.{Event}
-use Rattle.sequence.specs.declared.Event.the-variants.{Nothing, Text, Control, EscCommand, BracketCommand, Refused}
+use Rattle.sequence.specs.declared.Event.the-variants.{Nothing, Text, Control, EscCommand}
+use Rattle.sequence.specs.declared.Event.the-variants.{BracketCommand, PrivateCommand, Refused}
 use Rattle.sequence.specs.Reading.{advanceOf}
 use Rattle.reading.specs.declared.Reading.{Reading}
 
@@ -15,6 +16,7 @@ isNothing (Text byte) = false
 isNothing (Control byte) = false
 isNothing (EscCommand byte) = false
 isNothing (BracketCommand final) = false
+isNothing (PrivateCommand final) = false
 isNothing (Refused reason byte) = false
 
 -- Of the byte at a place: the record before it, the record and the event after it, and the place after it.

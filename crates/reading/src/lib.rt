@@ -10,7 +10,7 @@ ghost use lib.Dec.{eqb};
 ghost use lib.ListN.{length, getD, drop};
 ghost use Rattle.words.specs.Choice.{_and_, _is_to_};
 ghost use Rattle.sequence.specs.declared.HalfRead.{HalfRead};
-ghost use Rattle.sequence.specs.Record.{bracketRead, validHalfRead};
+ghost use Rattle.sequence.specs.Record.{argumentRead, bracketRead, validHalfRead};
 ghost use Rattle.reading.specs.Ahead.{isNothing, readFrom};
 
 // The last byte read: the record before it, the record and the event after it, and where it ends.
@@ -39,6 +39,7 @@ fn is_nothing(event: Event) -> bool
         Event::Control(_) => false,
         Event::EscCommand(_) => false,
         Event::BracketCommand(_) => false,
+        Event::PrivateCommand(_) => false,
         Event::Refused(_, _) => false,
     }
 }
@@ -95,10 +96,10 @@ fn with_digit(argument: u16, digit: u8) -> u32
     argument as u32 * 10 + (digit - b'0') as u32
 }
 
-// After ESC [: digits and semicolons up to the final byte; anything else, or their end, is left to `read_on`.
+// Arguments: digits and semicolons up to the final byte; anything else, or their end, is left to `read_on`.
 fn read_arguments(bytes: &[u8], from: usize) -> Reading
     ensures { λ r. ⌜ (isNothing (r .event) ≡ false →
-        (from < length (now (bytes .entry))) × (r ≡ readFrom bracketRead (drop from (now (bytes .entry))) from)) ⌝ }
+        (from < length (now (bytes .entry))) × (r ≡ readFrom argumentRead (drop from (now (bytes .entry))) from)) ⌝ }
 {
     let mut arguments: [u16; 8] = [0; 8];
     let mut last: usize = 0;
@@ -138,6 +139,29 @@ fn read_arguments(bytes: &[u8], from: usize) -> Reading
     NOT_WHOLE
 }
 
+// After ESC [: arguments, or the final byte at once; anything else, as >, is left to `read_on`.
+fn read_bracket(bytes: &[u8], from: usize) -> Reading
+    ensures { λ r. ⌜ (isNothing (r .event) ≡ false →
+        (from < length (now (bytes .entry))) × (r ≡ readFrom bracketRead (drop from (now (bytes .entry))) from)) ⌝ }
+{
+    if bytes.len() <= from {
+        return NOT_WHOLE;
+    }
+    let byte = bytes[from];
+    if sequence::is_between(byte, b'0', b';') {
+        return read_arguments(bytes, from);
+    }
+    if sequence::is_between(byte, 0x40, 0x7E) {
+        return Reading {
+            before: sequence::BRACKET_READ,
+            after: sequence::NOTHING_READ,
+            event: Event::BracketCommand(byte),
+            end: from + 1,
+        };
+    }
+    NOT_WHOLE
+}
+
 // From an ESC outside a sequence on, where its command is whole.
 fn read_command(bytes: &[u8], from: usize) -> Reading
     requires { ⌜ from < length (now bytes) ⌝ }
@@ -151,7 +175,7 @@ fn read_command(bytes: &[u8], from: usize) -> Reading
     }
     let byte = bytes[next];
     if byte == b'[' {
-        return read_arguments(bytes, next + 1);
+        return read_bracket(bytes, next + 1);
     }
     if sequence::is_between(byte, 0x30, 0x7E) {
         return Reading {

@@ -91,7 +91,7 @@ const ARGUMENT_READ: HalfRead = HalfRead {
     spoilt: false,
 };
 
-const BRACKET_READ: HalfRead = HalfRead {
+pub const BRACKET_READ: HalfRead = HalfRead {
     kind: BRACKET_ALONE,
     arguments: [0; 8],
     count: 1,

@@ -6,7 +6,7 @@ use borrow.Author.Needs.{needs}
 use lib.ListN.{length, drop}
 use lib.ListN.{length-set}
 use Rattle.words.proofs.Choosing.{true-is-not-false}
-use Rattle.sequence.specs.Record.{bracketRead}
+use Rattle.sequence.specs.Record.{argumentRead}
 use Rattle.reading.specs.Ahead.{isNothing, readFrom}
 use Rattle.reading.proofs.Laws.{openSequence, over-digit, over-semicolon, to-final}
 use Rattle.reading.proofs.read_arguments.Statement.{statement}
@@ -17,61 +17,48 @@ Inv-loop bytes from arguments₀ last₀ at₀ arguments last at =
     (from ≤ at) ×
     (last ≤ 7) ×
     (length arguments ≡ 8) ×
-    (at < length bytes → readFrom bracketRead (drop from bytes) from ≡ readFrom (openSequence arguments (last + 1)) (drop at bytes) at)
+    (at < length bytes → readFrom argumentRead (drop from bytes) from ≡ readFrom (openSequence arguments (last + 1)) (drop at bytes) at)
 
 abbrev μ-loop : tie.MeasureT-loop
 μ-loop bytes from arguments₀ last₀ at₀ arguments last at = length bytes - at
 
--- src/lib.rt:105:5
 loop-holds : tie.Need-loop-holds Inv-loop μ-loop
 loop-holds c = (omega arith, omega arith, refl, λ _. refl)
 
--- src/lib.rt:106:20
 shared-slice-read-byte : tie.Need-shared-slice-read-byte Inv-loop μ-loop
 shared-slice-read-byte c = search needs
 
--- src/lib.rt:107:9
 add-at : tie.Need-add-at Inv-loop μ-loop
 add-at c = search needs
 
--- src/lib.rt:108:12
 is-between-requires : tie.Need-is-between-requires Inv-loop μ-loop
 is-between-requires c κs = search needs
 
--- src/lib.rt:109:36
 mul-with-digit : tie.Need-mul-with-digit Inv-loop μ-loop
 mul-with-digit c = search needs
 
--- src/lib.rt:109:36
 array-read-with-digit : tie.Need-array-read-with-digit Inv-loop μ-loop
 array-read-with-digit c = search needs
 
--- src/lib.rt:109:17
 with-digit-requires : tie.Need-with-digit-requires Inv-loop μ-loop
 with-digit-requires c κs = sym (c .before .is-between .ensures) ∙ c .if1 .taken
 
--- src/lib.rt:111:17
 returns : tie.Need-returns Inv-loop μ-loop
 unfolding isNothing
 returns c = λ something. absurd (true-is-not-false something)
 
--- src/lib.rt:113:31
 cast-arguments : tie.Need-cast-arguments Inv-loop μ-loop
 cast-arguments c = search needs
 
--- src/lib.rt:113:13
 mul-arguments : tie.Need-mul-arguments Inv-loop μ-loop
 mul-arguments c = search needs
 
--- src/lib.rt:113:13
 array-write-arguments : tie.Need-array-write-arguments Inv-loop μ-loop
 array-write-arguments c = search needs
 
--- src/lib.rt:105:5
 loop-less : tie.Need-loop-less Inv-loop μ-loop
 loop-less c = search needs
 
--- src/lib.rt:105:5
 loop-again : tie.Need-loop-again Inv-loop μ-loop
 loop-again c =
     let turn = c .before .before .before .before .before .before in
@@ -84,19 +71,15 @@ loop-again c =
       λ more. turn .loop .inv .3 here ∙ over-digit bytes _ _ _ more digit _ (c .before .with-digit .ensures) (c .if2 .left),
     )
 
--- src/lib.rt:116:20
 is-between-requires-2 : tie.Need-is-between-requires-2 Inv-loop μ-loop
 is-between-requires-2 c κs = search needs
 
--- src/lib.rt:121:37
 add-t28 : tie.Need-add-t28 Inv-loop μ-loop
 add-t28 c = search needs
 
--- src/lib.rt:121:36
 cast-t29 : tie.Need-cast-t29 Inv-loop μ-loop
 cast-t29 c = search needs
 
--- src/lib.rt:117:21
 returns-2 : tie.Need-returns-2 Inv-loop μ-loop
 returns-2 c =
     let turn = c .before .before .before .before .before .before .before in
@@ -105,25 +88,20 @@ returns-2 c =
     let here : turn .loop .at < length bytes = omega (arith, c .before .before .before .before .before .before .loop-test .taken) in
     λ something. (omega (arith, turn .loop .inv .0), sym (turn .loop .inv .3 here ∙ to-final bytes _ _ _ here final))
 
--- src/lib.rt:129:17
 returns-3 : tie.Need-returns-3 Inv-loop μ-loop
 unfolding isNothing
 returns-3 c = λ something. absurd (true-is-not-false something)
 
--- src/lib.rt:132:17
 returns-4 : tie.Need-returns-4 Inv-loop μ-loop
 unfolding isNothing
 returns-4 c = λ something. absurd (true-is-not-false something)
 
--- src/lib.rt:134:13
 add-last : tie.Need-add-last Inv-loop μ-loop
 add-last c = search needs
 
--- src/lib.rt:105:5
 loop-less-2 : tie.Need-loop-less-2 Inv-loop μ-loop
 loop-less-2 c = search needs
 
--- src/lib.rt:105:5
 loop-again-2 : tie.Need-loop-again-2 Inv-loop μ-loop
 loop-again-2 c =
     let turn = c .before .before .before .before .before .before in
@@ -135,7 +113,6 @@ loop-again-2 c =
       λ more. turn .loop .inv .3 here ∙ over-semicolon bytes _ _ _ more (c .before .if3 .left) (c .if5 .left),
     )
 
--- src/lib.rt:98:1
 returns-5 : tie.Need-returns-5 Inv-loop μ-loop
 unfolding isNothing
 returns-5 c = λ something. absurd (true-is-not-false something)

@@ -19,7 +19,7 @@ returns-2 c =
     let start = c .before .before .before .before .before in
     let bytes : List ℕ = start .args .bytes .now in
     λ half outside something.
-    let read = c .read-arguments .ensures something in
+    let read = c .read-bracket .ensures something in
     read .1 ∙ sym (over-bracket half outside bytes _ (start .pre .1) (read .0) (c .before .if2 .taken))
 
 returns-3 : tie.Need-returns-3

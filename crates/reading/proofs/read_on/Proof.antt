@@ -21,31 +21,24 @@ Inv-loop bytes from here₀ at₀ here at =
 abbrev μ-loop : tie.MeasureT-loop
 μ-loop bytes from here₀ at₀ here at = length bytes - at
 
--- src/lib.rt:63:5
 loop-holds : tie.Need-loop-holds Inv-loop μ-loop
 loop-holds c = search needs
 
--- src/lib.rt:63:16
 sub-loop : tie.Need-sub-loop Inv-loop μ-loop
 sub-loop c = search needs
 
--- src/lib.rt:64:37
 shared-slice-read-advance : tie.Need-shared-slice-read-advance Inv-loop μ-loop
 shared-slice-read-advance c = search needs
 
--- src/lib.rt:64:13
 advance-requires : tie.Need-advance-requires Inv-loop μ-loop
 advance-requires c κs = search needs
 
--- src/lib.rt:67:9
 add-at : tie.Need-add-at Inv-loop μ-loop
 add-at c = search needs
 
--- src/lib.rt:68:13
 is-nothing-requires : tie.Need-is-nothing-requires Inv-loop μ-loop
 is-nothing-requires c κs = search needs
 
--- src/lib.rt:69:13
 returns : tie.Need-returns Inv-loop μ-loop
 returns c =
     let turn = c .before .before .before .before .before .before in
@@ -55,11 +48,9 @@ returns c =
     let something = sym (ap (λ (a : Advanced). isNothing (a .event)) advanced) ∙ sym (c .before .is-nothing .ensures) ∙ not-true _ (c .if1 .taken) in
     sym (turn .loop .inv .2 ∙ reads-to _ bytes _ here something ∙ sym (ap (λ (a : Advanced). record { before = turn .loop .here; after = a .half; event = a .event; end = turn .loop .at + 1 }) advanced))
 
--- src/lib.rt:63:5
 loop-less : tie.Need-loop-less Inv-loop μ-loop
 loop-less c = search needs
 
--- src/lib.rt:63:5
 loop-again : tie.Need-loop-again Inv-loop μ-loop
 loop-again c =
     let turn = c .before .before .before .before .before .before in
@@ -69,19 +60,15 @@ loop-again c =
     let nothing = sym (ap (λ (a : Advanced). isNothing (a .event)) advanced) ∙ sym (c .before .is-nothing .ensures) ∙ not-false _ (c .if1 .left) in
     (rw advanced (advance-keeps _ _ (turn .loop .inv .0)), more, turn .loop .inv .2 ∙ reads-on _ bytes _ more nothing ∙ rw advanced)
 
--- src/lib.rt:78:33
 shared-slice-read-advance-2 : tie.Need-shared-slice-read-advance-2 Inv-loop μ-loop
 shared-slice-read-advance-2 c = search needs
 
--- src/lib.rt:78:9
 advance-requires-2 : tie.Need-advance-requires-2 Inv-loop μ-loop
 advance-requires-2 c κs = search needs
 
--- src/lib.rt:85:14
 add-t20 : tie.Need-add-t20 Inv-loop μ-loop
 add-t20 c = search needs
 
--- src/lib.rt:56:1
 returns-2 : tie.Need-returns-2 Inv-loop μ-loop
 returns-2 c =
     let turn = c .before .before .before .before in

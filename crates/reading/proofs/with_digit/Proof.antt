@@ -5,23 +5,18 @@ use Rattle.words.proofs.Choosing.{range-holds}
 use Rattle.reading.proofs.with_digit.Statement.{statement}
 use Rattle.reading.proofs.with_digit.Tie as tie
 
--- src/lib.rt:94:5
 mul-result : tie.Need-mul-result
 mul-result c = search needs
 
--- src/lib.rt:94:29
 sub-result : tie.Need-sub-result
 sub-result c = let range = range-holds _ _ _ (c .pre) in omega arith
 
--- src/lib.rt:94:28
 cast-result : tie.Need-cast-result
 cast-result c = search needs
 
--- src/lib.rt:94:5
 add-result : tie.Need-add-result
 add-result c = search needs
 
--- src/lib.rt:90:1
 returns : tie.Need-returns
 returns c = search needs
 
