@@ -1,10 +1,12 @@
 /* Runs a terminal, ours or plain C, over a stream or keys, and prints what is left and how long it took:
 
    drive PROGRAM stream FILE ROWS COLUMNS CALL BYTES    the first bytes of the file in calls of this many
-   drive PROGRAM keys WHAT PAGE ROWS COLUMNS COUNT      WHAT: typed, next, previous, changed, full, none
+   drive PROGRAM keys WHAT PAGE ROWS COLUMNS COUNT      WHAT: typed, next, previous, changed, full, none; changed and
+                                                        full are the Send key as the host chose what it sends
                                                         PAGE: form (60 fields), densest (every second cell is one)
-   drive PROGRAM any ROWS COLUMNS COUNT                 keys drawn at random, on a page with cells of every area; not
-                                                        timed: it says how many were given 8
+   drive PROGRAM any ROWS COLUMNS COUNT                 keys drawn at random, on a page with cells of every area, and
+                                                        the host choosing anew what Send sends; not timed: it says
+                                                        how many were given 8
 
    What is left, the digest, is the same for every program that follows the papers, to the last bit of the half-read
    sequence. `keys none` does all but press a key: what it costs is taken off by whoever measures keys. */
@@ -109,12 +111,18 @@ static size_t key_named(const char *name)
         const char *name;
         size_t key;
     } keys[] = {{"none", 0}, {"typed", 'A'}, {"next", PANEL_KEY_NEXT_FIELD}, {"previous", PANEL_KEY_PREVIOUS_FIELD},
-                {"changed", PANEL_KEY_SEND_CHANGED}, {"full", PANEL_KEY_SEND_ALL}};
+                {"changed", PANEL_KEY_SEND}, {"full", PANEL_KEY_SEND}};
     for (size_t i = 0; i < sizeof keys / sizeof *keys; i++)
         if (strcmp(keys[i].name, name) == 0)
             return keys[i].key;
     fail("no such key");
     return 0;
+}
+
+/* The host says what the Send key sends; a byte a call, so that every half-read part of it is kept and read back. */
+static void choose_sent(const struct program *program, int full, struct told *told)
+{
+    program->host((const uint8_t *)(full ? "\033[>6l" : "\033[>6h"), 5, 1, told);
 }
 
 /* 60 fields of 10 cells, evenly over the page; or 1;1 and every even column, which makes the longest block. Every
@@ -136,7 +144,7 @@ static void make_page(struct snapshot *page, const char *kind, size_t cells)
 static double press(const struct program *program, const struct snapshot *page, size_t key, size_t count,
                     struct told *told)
 {
-    int again = key == PANEL_KEY_SEND_CHANGED || key == PANEL_KEY_SEND_ALL || key == 0;
+    int again = key == PANEL_KEY_SEND || key == 0;
     double before = seconds();
     for (size_t i = 0; i < count; i++) {
         if (again)
@@ -156,6 +164,7 @@ static void run_keys(const struct program *program, char **words)
     if (told.number != PANEL_DONE)
         fail("no such size");
     told.stored = 0;
+    choose_sent(program, strcmp(words[0], "full") == 0, &told);
     program->get(&page);
     make_page(&page, words[1], rows * columns);
     program->put(&page);
@@ -202,7 +211,7 @@ static size_t any_key(void)
     case 0:
         return (size_t)typed[below(sizeof typed - 1)];
     case 1:
-        return PANEL_KEY_UP + below(PANEL_KEY_UNLOCK - PANEL_KEY_UP + 1);
+        return PANEL_KEY_UP + below(PANEL_KEY_UNLOCK - PANEL_KEY_UP + 1); /* 267 too, which is no key */
     default:
         return often[below(4)];
     }
@@ -223,6 +232,8 @@ static void run_any(const struct program *program, char **words)
     program->put(&page);
     for (size_t i = 0; i < count; i++) {
         struct told one = {0, 0, 0, 0};
+        if (i % 100 == 0)
+            choose_sent(program, i % 200 == 0, &one);
         program->key(any_key(), &one);
         digest = digested(digest, &one.number, 1);
         digest = digested(digest, output, (size_t)one.sent);

@@ -14,7 +14,7 @@ KEYS = {
     "next": "260 next field",
     "previous": "261 previous field",
     "changed": "266 send changed",
-    "full": "267 send all",
+    "full": "266 send all",
 }
 TOOLS = ("processor", "machine", "clang", "gcc", "x86-gcc", "rustc", "valgrind", "qemu", "vterm")
 

@@ -18,9 +18,8 @@ enum {
     BLANK_FIELD,
     DELETE,
     INSERT,
-    SEND_CHANGED,
-    SEND_ALL,
-    UNLOCK
+    SEND,
+    UNLOCK = 268 /* 267 is no key */
 };
 
 /* A call under way: where its output goes and what it has done so far. */
@@ -601,6 +600,15 @@ static bool bracket_command(struct call *c, uint8_t final)
     return true;
 }
 
+/* ESC [ > 6 h and l are the one private command there is: any other form counts as spoilt. */
+static void private_command(struct plain *t, uint8_t final)
+{
+    if (t->arguments[0] == 6 && (final == 'h' || final == 'l'))
+        t->full = final == 'l';
+    else
+        refuse(t, BROKEN_SEQUENCE, final);
+}
+
 /* -- reading host bytes */
 
 static void drop_sequence(struct plain *t)
@@ -611,8 +619,10 @@ static void drop_sequence(struct plain *t)
     memset(t->arguments, 0, sizeof t->arguments);
 }
 
+/* a spoilt sequence is one after ESC [, however it began */
 static void spoil(struct plain *t)
 {
+    t->kind = PLAIN_AFTER_BRACKET;
     t->spoilt = true;
     t->count = 1;
     memset(t->arguments, 0, sizeof t->arguments);
@@ -662,7 +672,7 @@ static bool outside_byte(struct call *c, uint8_t byte)
 static bool after_escape(struct call *c, uint8_t byte)
 {
     if (byte == '[') {
-        c->t->kind = PLAIN_AFTER_BRACKET;
+        c->t->kind = PLAIN_BRACKET_ALONE;
         c->t->count = 1;
         return true;
     }
@@ -685,9 +695,14 @@ static bool after_intermediate(struct call *c, uint8_t byte)
     return true;
 }
 
-static void digit(struct plain *t, unsigned value)
+static bool is_digit(uint8_t byte)
 {
-    unsigned number = t->arguments[t->count - 1] * 10u + value;
+    return byte >= '0' && byte <= '9';
+}
+
+static void digit(struct plain *t, uint8_t byte)
+{
+    unsigned number = t->arguments[t->count - 1] * 10u + byte - '0';
     if (number > 9999)
         spoil(t);
     else
@@ -703,10 +718,29 @@ static bool after_bracket(struct call *c, uint8_t byte)
         drop_sequence(t);
     } else if (t->spoilt) {
         return true;
-    } else if (byte >= '0' && byte <= '9') {
-        digit(t, byte - '0');
+    } else if (is_digit(byte)) {
+        digit(t, byte);
     } else if (byte == ';' && t->count < PLAIN_MOST_ARGUMENTS) {
         t->count++;
+    } else {
+        spoil(t);
+    }
+    return true;
+}
+
+/* The first byte after ESC [ decides what it is. No command without arguments sends: the byte is always taken. */
+static void begin_arguments(struct plain *t, uint8_t byte)
+{
+    t->kind = byte == '>' ? PLAIN_AFTER_PRIVATE_MARK : PLAIN_AFTER_BRACKET;
+}
+
+static bool after_private_mark(struct plain *t, uint8_t byte)
+{
+    if (byte >= 0x40) {
+        private_command(t, byte);
+        drop_sequence(t);
+    } else if (is_digit(byte)) {
+        digit(t, byte);
     } else {
         spoil(t);
     }
@@ -739,9 +773,15 @@ static bool host_byte(struct call *c, uint8_t byte)
         return after_escape(c, byte);
     case PLAIN_AFTER_INTERMEDIATE:
         return after_intermediate(c, byte);
-    default:
-        return after_bracket(c, byte);
+    case PLAIN_AFTER_PRIVATE_MARK:
+        return after_private_mark(c->t, byte);
+    case PLAIN_BRACKET_ALONE:
+        begin_arguments(c->t, byte);
+        if (byte == '>')
+            return true;
+        break;
     }
+    return after_bracket(c, byte);
 }
 
 /* -- what a cell takes from a key; the host's text isn't asked */
@@ -883,6 +923,11 @@ static bool is_character(size_t key)
     return key >= ' ' && key < DEL;
 }
 
+static bool is_known(size_t key)
+{
+    return is_character(key) || (key >= UP && key <= SEND) || key == UNLOCK;
+}
+
 static bool is_taken(const struct plain *t, size_t key)
 {
     switch (key) {
@@ -898,7 +943,7 @@ static bool is_taken(const struct plain *t, size_t key)
 static uint32_t do_key(struct call *c, size_t key)
 {
     struct plain *t = c->t;
-    if (!is_character(key) && (key < UP || key > UNLOCK))
+    if (!is_known(key))
         return UNKNOWN_KEY;
     if ((t->manual || t->soft) && key != UNLOCK)
         return LOCKED;
@@ -935,10 +980,8 @@ static uint32_t do_key(struct call *c, size_t key)
     case INSERT:
         insert_blank(c);
         break;
-    case SEND_CHANGED:
-        return send_block(c, true) ? DONE : NO_ROOM;
-    case SEND_ALL:
-        return send_block(c, false) ? DONE : NO_ROOM;
+    case SEND:
+        return send_block(c, !t->full) ? DONE : NO_ROOM;
     case UNLOCK:
         unlock(t);
         break;

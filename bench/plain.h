@@ -1,4 +1,4 @@
-/* The terminal of documents 01 and 02 (M-101, M-102, M-103, M-105) as a programmer writes it by hand: something to
+/* The terminal of documents 01 and 02 (M-101 to M-103, M-105, M-106) as a programmer writes it by hand: something to
    measure the proved one by. It was written from the papers, without sight of the proved one's code. */
 #ifndef PLAIN_H
 #define PLAIN_H
@@ -12,13 +12,22 @@
 #define PLAIN_MOST_ARGUMENTS 8
 #define PLAIN_MOST_HOST_BYTES 65536
 
-enum plain_kind { PLAIN_OUTSIDE, PLAIN_AFTER_ESC, PLAIN_AFTER_INTERMEDIATE, PLAIN_AFTER_BRACKET };
+enum plain_kind {
+    PLAIN_OUTSIDE,
+    PLAIN_AFTER_ESC,
+    PLAIN_AFTER_INTERMEDIATE,
+    PLAIN_AFTER_BRACKET,
+    PLAIN_BRACKET_ALONE,
+    PLAIN_AFTER_PRIVATE_MARK
+};
 
 struct plain {
     uint16_t rows, columns;
     uint16_t row, column; /* of the cursor, from 0 on */
     uint16_t pen;         /* marks for text */
-    bool erasure, manual, soft;
+    bool erasure;
+    bool full; /* the Send key sends the whole form, not what changed */
+    bool manual, soft;
     uint8_t message, refused_at;
     uint8_t kind; /* of the half-read sequence */
     bool spoilt;

@@ -84,6 +84,7 @@ static void put_plain(const struct snapshot *from)
     by_hand.column = (uint16_t)(panel_two_bytes(record + PANEL_RECORD_COLUMN) - 1);
     by_hand.pen = panel_two_bytes(record + PANEL_RECORD_PEN);
     by_hand.erasure = record[PANEL_RECORD_ERASURE];
+    by_hand.full = record[PANEL_RECORD_FULL];
     by_hand.manual = record[PANEL_RECORD_MANUAL];
     by_hand.soft = record[PANEL_RECORD_SOFT];
     by_hand.message = record[PANEL_RECORD_MESSAGE];
@@ -109,6 +110,7 @@ static void get_plain(struct snapshot *to)
     put_two_bytes(record + PANEL_RECORD_COLUMN, by_hand.column + 1u);
     put_two_bytes(record + PANEL_RECORD_PEN, by_hand.pen);
     record[PANEL_RECORD_ERASURE] = by_hand.erasure;
+    record[PANEL_RECORD_FULL] = by_hand.full;
     record[PANEL_RECORD_MANUAL] = by_hand.manual;
     record[PANEL_RECORD_SOFT] = by_hand.soft;
     record[PANEL_RECORD_MESSAGE] = by_hand.message;

@@ -1,8 +1,9 @@
 /* Makes the calls that worst.py asks for, one a line on standard input, with a mark before and after each; whoever runs
    it counts the instructions between marks (count.c):
 
-   PROGRAM PAGE CURSOR STOPS ERASURE host HEX     PAGE: open, shut, densest, modified, first, last, numeric, alphabetic
-   PROGRAM PAGE CURSOR STOPS ERASURE key NUMBER   CURSOR: a cell from 0 on; STOPS: all, none; ERASURE: 0, 1
+   PROGRAM PAGE CURSOR STOPS ERASURE FULL host HEX     PAGE: open, shut, densest, modified, first, last, numeric,
+   PROGRAM PAGE CURSOR STOPS ERASURE FULL key NUMBER   alphabetic; CURSOR: a cell from 0 on; STOPS: all, none;
+                                                       ERASURE, FULL (what the Send key sends): 0, 1
 
    The page is 48 by 160. For each call it prints the number given, the bytes sent and a digest of what was left. */
 #include "programs.h"
@@ -69,7 +70,7 @@ static const struct snapshot *page_named(const char *page)
 }
 
 static void set_up(const struct program *program, const char *page, size_t cursor, const char *stops,
-                   const char *erasure)
+                   const char *erasure, const char *full)
 {
     static struct snapshot situation;
     uint8_t *record = situation.record;
@@ -80,6 +81,7 @@ static void set_up(const struct program *program, const char *page, size_t curso
     put_two_bytes(record + PANEL_RECORD_ROW, cursor / COLUMNS + 1);
     put_two_bytes(record + PANEL_RECORD_COLUMN, cursor % COLUMNS + 1);
     record[PANEL_RECORD_ERASURE] = erasure[0] == '1';
+    record[PANEL_RECORD_FULL] = full[0] == '1';
     memset(record + PANEL_RECORD_STOPS, strcmp(stops, "all") == 0, COLUMNS);
     program->put(&situation);
 }
@@ -110,14 +112,14 @@ int main(void)
 {
     static char what[1024];
     static uint8_t bytes[512];
-    char name[8], page[16], stops[8], erasure[8], call[8];
+    char name[8], page[16], stops[8], erasure[8], full[8], call[8];
     unsigned long cursor;
-    while (scanf("%7s %15s %lu %7s %7s %7s %1023s", name, page, &cursor, stops, erasure, call, what) == 7) {
+    while (scanf("%7s %15s %lu %7s %7s %7s %7s %1023s", name, page, &cursor, stops, erasure, full, call, what) == 8) {
         const struct program *program = program_named(name);
         struct told told = {0, 0, 0, 0};
         if (!program || cursor >= CELLS)
             return 2;
-        set_up(program, page, cursor, stops, erasure);
+        set_up(program, page, cursor, stops, erasure, full);
         size_t length = strcmp(call, "key") == 0 ? 0 : read_hex(what, bytes);
         size_t key = strtoul(what, NULL, 10);
         bench_mark();

@@ -43,7 +43,10 @@ VALUES = ["", *map(str, NUMBERS), "00001"]
 PAIRS = [f"{a};{b}" for a, b in product(("", "1", "24", "48", "49", "9999"), ("", "1", "80", "160", "161", "9999"))]
 LONGEST = ";".join(["9999"] * 8)
 LISTS = ["1;4;5;7;8;1;4;5", "1;4;5;7;8;1;4;99", "6;7", ";;;;;;;", *(";".join(n * 8) for n in "0168"), LONGEST]
-SPOILT = ["10000", "?", " ", "1;2;3;4;5;6;7;8;9", LONGEST + ";", LONGEST + "?"]
+# refused as spoilt, whatever the final byte
+SPOILT = ["10000", "?", " ", "1;2;3;4;5;6;7;8;9", LONGEST + ";", LONGEST + "?", *"> >5 >9999 >10006 >6; >>6 0>".split()]
+# what h and l take after ESC [ >
+PRIVATE = ("6", "06", "000000006")
 
 # the values that are taken, of commands that take few
 TAKEN = {
@@ -57,6 +60,7 @@ NAMES = {
     **{"W": "tab stops", "J": "erase page", "K": "erase row", "m": "pen"},
     **{"h": "erasure mode set", "l": "erasure mode reset", "n": "report", "o": "area"},
 }
+PRIVATE_NAMES = {"h": "Send key: what changed", "l": "Send key: the whole form"}
 ESCAPES = {
     **{"D": "down", "E": "down, column 1", "M": "up", "H": "set tab stop", "V": "pen protected"},
     **{"W": "pen unprotected", "S": "send a full block", "c": "as fresh"},
@@ -95,6 +99,12 @@ def bracket_trials():
                 yield ARGUMENT, sequence, SOME
         for arguments in SPOILT:
             yield BROKEN, f"\x1b[{arguments}{final}".encode(), SOME
+        for arguments in PRIVATE:
+            sequence = f"\x1b[>{arguments}{final}".encode()
+            if final in PRIVATE_NAMES:
+                yield f"ESC [ > {final}, {PRIVATE_NAMES[final]}", sequence, EVERYWHERE
+            else:
+                yield BROKEN, sequence, SOME
 
 
 def escape_trials():
@@ -115,19 +125,20 @@ def byte_trials():
     for byte in [*range(0x20), 0x7F]:
         if byte not in CONTROLS and byte != 0x1B:
             yield "other bytes below 20, 7F", bytes((byte,)), SOME
-        for begun in (b"\x1b", b"\x1b(", b"\x1b[", b"\x1b[1;2;3;4;5;6;7;8", b"\x1b[?"):
+        for begun in (b"\x1b", b"\x1b(", b"\x1b[", b"\x1b[1;2;3;4;5;6;7;8", b"\x1b[?", b"\x1b[>6"):
             name = "18, 1A, 1B: drop a sequence" if byte in (0x18, 0x1A, 0x1B) else BROKEN
             yield name, begun + bytes((byte,)), SOME
     for byte in (0x80, 0x9B, 0xFF):
-        for begun in (b"", b"\x1b", b"\x1b[1;2;3;4;5;6;7;8"):
+        for begun in (b"", b"\x1b", b"\x1b[1;2;3;4;5;6;7;8", b"\x1b[>6"):
             yield HIGH, begun + bytes((byte,)), SOME
 
 
+SEND_ALL = "266 send all"
 KEYS = {
-    **{65: "a character", 256: "256 up", 257: "257 down", 258: "258 left", 259: "259 right"},
-    **{260: "260 next field", 261: "261 previous field", 262: "262 first unprotected cell"},
-    **{263: "263 blank the field", 264: "264 delete", 265: "265 insert"},
-    **{266: "266 send changed", 267: "267 send all", 268: "268 unlock"},
+    **{"a character": 65, "256 up": 256, "257 down": 257, "258 left": 258, "259 right": 259},
+    **{"260 next field": 260, "261 previous field": 261, "262 first unprotected cell": 262},
+    **{"263 blank the field": 263, "264 delete": 264, "265 insert": 265},
+    **{"266 send changed": 266, SEND_ALL: 266, "268 unlock": 268},
 }
 
 
@@ -137,9 +148,9 @@ class Calls:
     def __init__(self):
         self.lines, self.places = [], {}
 
-    def add(self, situation, kind, what):
+    def add(self, situation, kind, what, full=0):
         page, cursor, stops, erasure = situation
-        line = f"{page} {CURSORS[cursor]} {stops} {erasure} {kind} {what}"
+        line = f"{page} {CURSORS[cursor]} {stops} {erasure} {full} {kind} {what}"
         if line not in self.places:
             self.places[line] = len(self.lines)
             self.lines.append(line)
@@ -195,9 +206,9 @@ def main(counts, program):
         for situation in situations:
             without = calls.add(situation, "host", PREFIX.hex())
             hosts.append((name, sequence, situation, without, calls.add(situation, "host", (PREFIX + sequence).hex())))
-    for key, page, cursor in product(KEYS, PAGES, CURSORS):
+    for name, page, cursor in product(KEYS, PAGES, CURSORS):
         situation = (page, cursor, "none", "0")
-        keys.append((key, situation, calls.add(situation, "key", key)))
+        keys.append((name, situation, calls.add(situation, "key", KEYS[name], int(name == SEND_ALL))))
     nothing = calls.add(SOME[0], "host", "18")
     calls.make(counts, program)
 
@@ -210,8 +221,8 @@ def main(counts, program):
             worst[name] = ours, sequence, situation, calls.cost(place)[1] - calls.cost(without)[1]
     for name, (ours, sequence, situation, plain) in worst.items():
         print("host", name, shown(sequence), told(situation, costs[sequence]), len(sequence), ours, plain, sep="\t")
-    for key, name in KEYS.items():
-        costs = {situation: calls.cost(place) for pressed, situation, place in keys if pressed == key}
+    for name in KEYS:
+        costs = {situation: calls.cost(place) for pressed, situation, place in keys if pressed == name}
         situation = max(costs, key=lambda situation: costs[situation][0])
         ours, plain = costs[situation]
         print("key", name, told(situation, {other: cost[0] for other, cost in costs.items()}), ours, plain, sep="\t")

@@ -13,7 +13,7 @@ extern "C" {
 #endif
 
 /* The lengths of record and result slice. The record's changes with the layout, so that an old header is refused. */
-#define PANEL_RECORD_LENGTH 194
+#define PANEL_RECORD_LENGTH 195
 #define PANEL_RESULT_LENGTH 13
 
 /* The most cells that a page has (48 by 160): so many bytes of characters, and twice as many of marks. The most host
@@ -29,15 +29,16 @@ extern "C" {
 #define PANEL_RECORD_COLUMN 6     /* of the cursor, from 1 on, 2 bytes */
 #define PANEL_RECORD_PEN 8        /* bits of a mark, 2 bytes */
 #define PANEL_RECORD_ERASURE 10   /* flag: erasing takes protected cells too */
-#define PANEL_RECORD_MANUAL 11    /* flag: manual input disabled */
-#define PANEL_RECORD_SOFT 12      /* flag: the soft lock */
-#define PANEL_RECORD_MESSAGE 13   /* why a command was refused */
-#define PANEL_RECORD_BYTE 14      /* the byte at which it was refused */
-#define PANEL_RECORD_KIND 15      /* of the half-read sequence */
-#define PANEL_RECORD_SPOILT 16    /* flag */
-#define PANEL_RECORD_COUNT 17     /* arguments reached */
-#define PANEL_RECORD_ARGUMENTS 18 /* 8 arguments, 2 bytes each */
-#define PANEL_RECORD_STOPS 34     /* 160 flags: the tab stops of columns 1 to 160 */
+#define PANEL_RECORD_FULL 11      /* flag: the Send key sends the whole form, not what changed */
+#define PANEL_RECORD_MANUAL 12    /* flag: manual input disabled */
+#define PANEL_RECORD_SOFT 13      /* flag: the soft lock */
+#define PANEL_RECORD_MESSAGE 14   /* why a command was refused */
+#define PANEL_RECORD_BYTE 15      /* the byte at which it was refused */
+#define PANEL_RECORD_KIND 16      /* of the half-read sequence */
+#define PANEL_RECORD_SPOILT 17    /* flag */
+#define PANEL_RECORD_COUNT 18     /* arguments reached */
+#define PANEL_RECORD_ARGUMENTS 19 /* 8 arguments, 2 bytes each */
+#define PANEL_RECORD_STOPS 35     /* 160 flags: the tab stops of columns 1 to 160 */
 
 /* Places in the result slice. */
 #define PANEL_RESULT_NUMBER 0 /* as returned */
@@ -63,7 +64,7 @@ extern "C" {
 #define PANEL_MESSAGE_BROKEN_SEQUENCE 3
 #define PANEL_MESSAGE_HIGH_BYTE 4
 
-/* Keys; 32 to 126 are the characters. */
+/* Keys; 32 to 126 are the characters. 267 is no key. */
 #define PANEL_KEY_UP 256
 #define PANEL_KEY_DOWN 257
 #define PANEL_KEY_LEFT 258
@@ -74,8 +75,7 @@ extern "C" {
 #define PANEL_KEY_BLANK_FIELD 263
 #define PANEL_KEY_DELETE 264
 #define PANEL_KEY_INSERT 265
-#define PANEL_KEY_SEND_CHANGED 266
-#define PANEL_KEY_SEND_ALL 267
+#define PANEL_KEY_SEND 266
 #define PANEL_KEY_UNLOCK 268
 
 /* The bits of a mark, which has 2 bytes; bits 9 to 15 are zero. The glass shows those from bold to concealed. Of
@@ -94,7 +94,9 @@ extern "C" {
 #define PANEL_KIND_NONE 0
 #define PANEL_KIND_AFTER_ESC 1
 #define PANEL_KIND_AFTER_INTERMEDIATE 2
-#define PANEL_KIND_AFTER_BRACKET 3
+#define PANEL_KIND_AFTER_BRACKET 3      /* ESC [ and more */
+#define PANEL_KIND_BRACKET_ALONE 4      /* ESC [ with nothing after it yet */
+#define PANEL_KIND_AFTER_PRIVATE_MARK 5 /* ESC [ > with one argument */
 
 /* A number of 2 or 4 bytes: panel_four_bytes(result + PANEL_RESULT_SENT), or the mark of a cell (from 0 on),
    panel_two_bytes(marks + 2 * cell). */

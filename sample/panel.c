@@ -1,6 +1,6 @@
 /* One session with nobody at the panel: a page is started, the stow form of sample/stow.txt comes from the host, here
-   with a wind field that takes digits only; the readings are typed, and the full block that goes back is printed, a
-   field a line, as C writes strings.
+   with a wind field that takes digits only; the readings are typed, and the block that goes back is printed, a field a
+   line, as C writes strings: it has all three fields, since all were typed in.
    README and docs/PANEL.md tell how to build and run it. */
 #include "panel.h"
 
@@ -79,7 +79,7 @@ int main(void)
     type("11"); /* fills its field, so the cursor goes to the next by itself */
     type("GGUSTS FROM THE WEST SINCE NOON; ROW 9 CREAKED AND WAS STOWED FIRST, SENT FOR FITTER");
 
-    key(PANEL_KEY_SEND_ALL);
+    key(PANEL_KEY_SEND);
     print_block(output, panel_four_bytes(result + PANEL_RESULT_SENT));
     return 0;
 }

@@ -5,7 +5,8 @@
 set -eu -o pipefail
 sizes='24 80 8186, 24 132 13976, 24 160 17210, 27 80 9254, 27 132 15797, 27 160 19451, 48 80 16730, 48 132 28544, 48 160 35138'
 
-# paint ROWS COLUMNS: a protected and an unprotected cell in turn, 40 times a frame; then 1;1 unprotected; then key 267.
+# paint ROWS COLUMNS: a protected and an unprotected cell in turn, 40 times a frame; then 1;1 unprotected, and ESC S,
+# which sends a full block whatever the Send key sends.
 paint() {
     printf '00%02X%02X\n' "$1" "$2"
     local pairs=$(($1 * $2 / 2)) now
@@ -16,7 +17,7 @@ paint() {
         printf '\n'
         pairs=$((pairs - now))
     done
-    printf '011B5B481B5720\n02010B\n'
+    printf '011B5B481B57201B53\n'
 }
 
 expected=$(tr ',' '\n' <<<"$sizes" | awk '{ print $3 }')

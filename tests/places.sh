@@ -37,7 +37,7 @@ trap 'rm -rf "$room"' EXIT
                     } else line = line "1B" hex("V-")
                 host(line)
             }
-            print "02010B" # key 267
+            print "011B53" # ESC S: a full block, whatever the Send key sends
             print "03" >sent
         }
     }' >"$room/frames"

@@ -9,7 +9,7 @@ second=target/second/release/second
 
 # the sample sessions, as stored, of both
 for program in ./run $second; do
-    for session in stow remark kinds; do
+    for session in stow remark kinds send; do
         $program transcript <sample/$session.txt | cmp - sample/$session.out
     done
     $program dump <sample/page.txt | cmp - sample/page.out
@@ -30,10 +30,11 @@ beside=$!
 trap wait EXIT
 
 # what transcripts can't reach: any lent lengths, room, damaged state and up to 65,537 bytes; damage everywhere in turn;
-# every room up to a transmission's length
+# every byte after the starts of the form with >; every room up to a transmission's length
 $second compare calls ./run calls -- 1 60 100
 $second compare calls ./run calls -- "$new" 50 100
 $second sweep ./run calls
+$second bytes ./run dump
 $second rooms ./run calls
 wait $beside && status=0 || status=$?
 cat target/second/beside.log

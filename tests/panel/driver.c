@@ -122,7 +122,7 @@ static void transcript_frame(const uint8_t *frame, size_t length)
 
 /* -- calls */
 
-#define FIELDS 181
+#define FIELDS 182
 
 /* Where a field of the state is in the record, and what it is. */
 enum form { TWO_BYTES, BYTE, FLAG };
@@ -152,8 +152,8 @@ static enum form field(unsigned number, size_t *place)
         *place = PANEL_RECORD_STOPS + (number - 20);
         return FLAG;
     }
-    *place = PANEL_RECORD_BYTE;
-    return BYTE;
+    *place = number == 180 ? PANEL_RECORD_BYTE : PANEL_RECORD_FULL;
+    return number == 180 ? BYTE : FLAG;
 }
 
 /* Low byte first, as record and marks have them. */

@@ -39,8 +39,8 @@ with open("include/panel.h", encoding="utf-8") as file:
 ours = {name: int(value, 0) for name, value in re.findall(r"#define PANEL_(\w+) (\w+)", header)}
 record, panel = source("crates/record/src/*.rt"), source("crates/panel/src/lib.rt")
 wanted = {"RECORD_" + name: value for name, value in constants(record).items()
-          if name in ("LENGTH", "ROWS", "COLUMNS", "ROW", "COLUMN", "PEN", "ERASURE", "MANUAL", "SOFT", "MESSAGE",
-                      "BYTE", "KIND", "SPOILT", "COUNT", "ARGUMENTS", "STOPS")}
+          if name in ("LENGTH", "ROWS", "COLUMNS", "ROW", "COLUMN", "PEN", "ERASURE", "FULL", "MANUAL", "SOFT",
+                      "MESSAGE", "BYTE", "KIND", "SPOILT", "COUNT", "ARGUMENTS", "STOPS")}
 wanted.update({name: value for name, value in constants(panel).items() if name == "RESULT_LENGTH"})
 numbers = arms(source("crates/terminal/src/lib.rt"), "number_of", "Answer")
 reasons = arms(source("crates/state/src/lib.rt"), "message_of", "Reason")
@@ -48,9 +48,9 @@ kinds = constants(source("crates/sequence/src/lib.rt"))
 wanted.update(numbers)
 wanted.update({"MESSAGE_" + name: value for name, value in reasons.items()})
 wanted.update({"KIND_" + name: kinds[name] for name in kinds})
-# 16 of the record, the result's length, 9 numbers, 4 messages, 4 kinds: fewer means that the source is no longer read
-if len(wanted) != 34:
-    differs(f"{len(wanted)} constants were found in the source, not 34: {' '.join(wanted)}")
+# 17 of the record, the result's length, 9 numbers, 4 messages, 6 kinds: fewer means that the source is no longer read
+if len(wanted) != 37:
+    differs(f"{len(wanted)} constants were found in the source, not 37: {' '.join(wanted)}")
 for name, value in wanted.items():
     if ours.get(name) != value:
         differs(f"PANEL_{name} is {ours.get(name)}, and {value} in the source")

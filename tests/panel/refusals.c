@@ -1,6 +1,6 @@
 /* What C can get wrong, all of it in turn: lengths, the record's bytes, marks, sizes, keys, rooms. Which number is
-   expected is worked out here from documents 01 and 02 (M-100 to M-103) and the layout in panel.h; lent.c looks at what
-   is left. */
+   expected is worked out here from documents 01 and 02 (M-100 to M-103, M-106) and the layout in panel.h; lent.c looks
+   at what is left. */
 #include "lent.h"
 
 #include "panel.h"
@@ -65,6 +65,14 @@ static bool is_page(size_t rows, size_t columns)
     return is_listed(rows, columns) && kept.length[CHARACTERS] == cells && kept.length[MARKS] == 2 * cells;
 }
 
+/* How many arguments a half-read sequence may have reached, by its kind. */
+static const struct {
+    uint8_t least, most;
+} counts[] = {
+    [PANEL_KIND_NONE] = {0, 0},          [PANEL_KIND_AFTER_ESC] = {0, 0},     [PANEL_KIND_AFTER_INTERMEDIATE] = {0, 0},
+    [PANEL_KIND_AFTER_BRACKET] = {1, 8}, [PANEL_KIND_BRACKET_ALONE] = {1, 1}, [PANEL_KIND_AFTER_PRIVATE_MARK] = {1, 1},
+};
+
 static bool half_read_is_valid(void)
 {
     unsigned kind = record[PANEL_RECORD_KIND], spoilt = record[PANEL_RECORD_SPOILT];
@@ -74,11 +82,13 @@ static bool half_read_is_valid(void)
         most = argument > most ? argument : most;
         reached = argument != 0 ? i + 1 : reached;
     }
-    if (kind < PANEL_KIND_AFTER_BRACKET)
-        return spoilt == 0 && count == 0 && most == 0;
+    if (kind > PANEL_KIND_AFTER_PRIVATE_MARK)
+        return false;
     if (spoilt != 0)
         return kind == PANEL_KIND_AFTER_BRACKET && spoilt == 1 && count == 1 && most == 0;
-    return kind == PANEL_KIND_AFTER_BRACKET && count >= 1 && count <= 8 && reached <= count && most <= 9999;
+    if (kind == PANEL_KIND_BRACKET_ALONE && most != 0)
+        return false;
+    return count >= counts[kind].least && count <= counts[kind].most && reached <= count && most <= 9999;
 }
 
 /* Bits 9 to 15 are zero; of protected, numeric and alphabetic there is one at most. */
@@ -95,7 +105,9 @@ static bool is_valid(void)
     unsigned row = two_bytes(PANEL_RECORD_ROW), column = two_bytes(PANEL_RECORD_COLUMN);
     if (row < 1 || row > rows || column < 1 || column > columns)
         return false;
-    if (record[PANEL_RECORD_ERASURE] > 1 || record[PANEL_RECORD_MANUAL] > 1 || record[PANEL_RECORD_SOFT] > 1)
+    if (record[PANEL_RECORD_ERASURE] > 1 || record[PANEL_RECORD_FULL] > 1)
+        return false;
+    if (record[PANEL_RECORD_MANUAL] > 1 || record[PANEL_RECORD_SOFT] > 1)
         return false;
     /* the pen has no modified */
     if (!is_valid_mark(two_bytes(PANEL_RECORD_PEN)) || two_bytes(PANEL_RECORD_PEN) & PANEL_MARK_MODIFIED)
@@ -320,6 +332,16 @@ static const struct good goods[] = {
       {PANEL_RECORD_COLUMN, 2}}},
     {"alphabetic pen", 27, 132, "\033[3o\033[4m\033[4o",
      {{PANEL_RECORD_PEN, PANEL_MARK_UNDERLINED}, {PANEL_RECORD_PEN + 1, PANEL_MARK_ALPHABETIC >> 8}}},
+    {"the whole form to be sent, half read after ESC [ alone", 24, 80, "\033[>6l\033[",
+     {{PANEL_RECORD_FULL, 1}, {PANEL_RECORD_KIND, PANEL_KIND_BRACKET_ALONE}, {PANEL_RECORD_COUNT, 1}}},
+    {"half read after ESC [ >", 24, 160, "\033[>6l\033[>6h\033[>",
+     {{PANEL_RECORD_KIND, PANEL_KIND_AFTER_PRIVATE_MARK}, {PANEL_RECORD_COUNT, 1}}},
+    {"refused at the end of a form with >, half read after ESC [ > and digits", 48, 80, "\033[>6l\033[>5h\033[>0009999",
+     {{PANEL_RECORD_FULL, 1}, {PANEL_RECORD_SOFT, 1}, {PANEL_RECORD_MESSAGE, PANEL_MESSAGE_BROKEN_SEQUENCE},
+      {PANEL_RECORD_BYTE, 'h'}, {PANEL_RECORD_KIND, PANEL_KIND_AFTER_PRIVATE_MARK}, {PANEL_RECORD_COUNT, 1},
+      {AT_ARGUMENT(1), 9999 & 255}, {AT_ARGUMENT(1) + 1, 9999 >> 8}}},
+    {"spoilt after ESC [ >", 24, 80, "\033[>6;",
+     {{PANEL_RECORD_KIND, PANEL_KIND_AFTER_BRACKET}, {PANEL_RECORD_SPOILT, 1}, {PANEL_RECORD_COUNT, 1}}},
 };
 
 static void make_good(const struct good *good)
@@ -360,7 +382,7 @@ static void try_keys(const char *name, uint8_t before)
 static bool is_telling(unsigned value, unsigned good)
 {
     unsigned flipped = value ^ good;
-    return value < 4 || value == 255 || (flipped & (flipped - 1)) == 0;
+    return value <= 9 || value == 255 || (flipped & (flipped - 1)) == 0;
 }
 
 /* Every byte with every value for a host call, with the telling ones for a key; or with the telling ones for both. */
@@ -385,6 +407,32 @@ static void damage(const struct good *good, bool every_value)
     }
     want_page_as_saved(good->name);
     printf("%s: %ld records with one byte changed, %ld of them valid\n", good->name, tried, valid);
+}
+
+/* Every kind of half-read sequence, and some that are none, with spoilt flags, counts and an argument of all sorts. */
+static void try_half_read(void)
+{
+    static const uint8_t kinds[] = {0, 1, 2, 3, 4, 5, 6, 7, 8, 255}, spoilts[] = {0, 1, 2};
+    static const uint8_t reached[] = {0, 1, 2, 7, 8, 9, 255};
+    static const struct {
+        uint8_t number;
+        uint16_t value;
+    } arguments[] = {{1, 0}, {1, 1}, {1, 6}, {1, 9999}, {1, 10000}, {1, 65535}, {2, 1}, {7, 6}, {8, 1}, {8, 10000}};
+    long tried = 10 * 3 * 7 * 10, valid = 0;
+    make_good(&goods[0]);
+    damaged = PANEL_RECORD_KIND;
+    for (int i = 0; i < tried; i++) {
+        record[PANEL_RECORD_KIND] = kinds[i % 10];
+        record[PANEL_RECORD_SPOILT] = spoilts[i / 10 % 3];
+        record[PANEL_RECORD_COUNT] = reached[i / 30 % 7];
+        put_two_bytes(record + AT_ARGUMENT(arguments[i / 210].number), arguments[i / 210].value);
+        uint8_t before = number_before(HOST, 0, 0);
+        valid += before == PANEL_DONE;
+        try_host("a half-read sequence", before);
+        try_keys("a half-read sequence", before);
+        memcpy(record, saved.record, sizeof saved.record);
+    }
+    printf("half-read sequences: %ld records, %ld of them valid\n", tried, valid);
 }
 
 /* A cell's character with every value, its mark with those of bits 0 to 9. */
@@ -474,15 +522,18 @@ static void try_marks_lengths(void)
     }
 }
 
-/* The record as it was before M-103, with a pen of one byte: its length tells it. */
-static void try_old_record(void)
+/* The record as before M-106, without its flag, and as before M-103, with a pen of one byte too: its length tells. */
+static void try_old_records(void)
 {
+    static const size_t came_later[] = {PANEL_RECORD_FULL, PANEL_RECORD_PEN + 1}, lengths[] = {194, 193};
     make_good(&goods[0]);
-    memmove(record + PANEL_RECORD_PEN + 1, record + PANEL_RECORD_PEN + 2, PANEL_RECORD_LENGTH - PANEL_RECORD_PEN - 2);
-    kept.length[RECORD] = 193;
-    want("an old record", make(START), PANEL_WRONG_STATE);
-    want("an old record", make(HOST), PANEL_WRONG_STATE);
-    want("an old record", make(KEY), PANEL_WRONG_STATE);
+    for (int i = 0; i < 2; i++) {
+        memmove(record + came_later[i], record + came_later[i] + 1, lengths[i] - came_later[i]);
+        kept.length[RECORD] = lengths[i];
+        want("an old record", make(START), PANEL_WRONG_STATE);
+        want("an old record", make(HOST), PANEL_WRONG_STATE);
+        want("an old record", make(KEY), PANEL_WRONG_STATE);
+    }
     kept.length[RECORD] = PANEL_RECORD_LENGTH;
     put_back();
 }
@@ -490,7 +541,7 @@ static void try_old_record(void)
 /* Result, record and page slices of right and wrong lengths, with good and bad content, in every pairing. */
 static void try_lengths(void)
 {
-    static const size_t records[] = {0, 1, 193, 194, 195, 388}, results[] = {0, 1, 12, 13, 14, 26};
+    static const size_t records[] = {0, 1, 194, 195, 196, 390}, results[] = {0, 1, 12, 13, 14, 26};
     static const size_t character_lengths[] = {0, 1919, 1920, 1921};
     static const size_t mark_lengths[] = {0, 1920, 3838, 3839, 3840, 3841, 3842};
     make_good(&goods[0]);
@@ -539,7 +590,8 @@ static void try_many_bytes(void)
 
 static uint8_t number_of_key(size_t key, bool locked, bool protected, bool has_room)
 {
-    bool stores = key >= 32 && key <= 126, known = stores || (key >= PANEL_KEY_UP && key <= PANEL_KEY_UNLOCK);
+    bool stores = key >= 32 && key <= 126;
+    bool known = stores || (key >= PANEL_KEY_UP && key <= PANEL_KEY_SEND) || key == PANEL_KEY_UNLOCK;
     bool needs_field = key == PANEL_KEY_NEXT_FIELD || key == PANEL_KEY_PREVIOUS_FIELD;
     bool needs_cell = stores || (key >= PANEL_KEY_BLANK_FIELD && key <= PANEL_KEY_INSERT);
     if (!known)
@@ -548,15 +600,17 @@ static uint8_t number_of_key(size_t key, bool locked, bool protected, bool has_r
         return PANEL_LOCKED;
     if (protected && (needs_cell || needs_field))
         return PANEL_NO_CELL;
-    return !has_room && (key == PANEL_KEY_SEND_CHANGED || key == PANEL_KEY_SEND_ALL) ? PANEL_NO_ROOM : PANEL_DONE;
+    return !has_room && key == PANEL_KEY_SEND ? PANEL_NO_ROOM : PANEL_DONE;
 }
 
-/* Every key, with and without lock, unprotected cell and room. */
+/* Every key, with and without lock, unprotected cell and room, and whichever block Send sends. */
 static void try_every_key(void)
 {
-    for (int i = 0; i < 8; i++) {
-        bool locked = i & 1, protected = i & 2, has_room = i & 4;
+    for (int i = 0; i < 16; i++) {
+        bool locked = i & 1, protected = i & 2, has_room = i & 4, full = i & 8;
         start(24, 80);
+        if (full)
+            feed("\033[>6l");
         if (protected) {
             feed("\033V");
             for (int cell = 0; cell < 24 * 80; cell += 10)
@@ -573,6 +627,7 @@ static void try_every_key(void)
         for (int bit = 10; bit < 64; bit++) {
             want("a far key", lend(KEY, ((size_t)1 << bit) + 'A', 0, &kept), PANEL_UNKNOWN_KEY);
             want("a far key", lend(KEY, ((size_t)1 << bit) + PANEL_KEY_UP, 0, &kept), PANEL_UNKNOWN_KEY);
+            want("a far key", lend(KEY, ((size_t)1 << bit) + PANEL_KEY_SEND, 0, &kept), PANEL_UNKNOWN_KEY);
         }
     }
 }
@@ -683,15 +738,23 @@ static void want_sent_page(const char *what)
     want_page_as_saved(what);
 }
 
-static void try_key_room(size_t key)
+/* The form, and the host's choice of what Send sends. */
+static void put_form_to_send(bool full)
+{
+    put_form();
+    feed(full ? "\033[>6l" : "\033[>6h");
+    save();
+}
+
+static void try_key_room(bool full)
 {
     static char block[PANEL_ROOM];
     put_form();
-    size_t length = make_block(key == PANEL_KEY_SEND_CHANGED, block);
+    size_t length = make_block(!full, block);
     for (size_t room = 0; room <= length + 2; room++) {
-        put_form();
+        put_form_to_send(full);
         kept.length[OUTPUT] = room;
-        want("a block by key", lend(KEY, key, 0, &kept), room < length ? PANEL_NO_ROOM : PANEL_DONE);
+        want("a block by key", lend(KEY, PANEL_KEY_SEND, 0, &kept), room < length ? PANEL_NO_ROOM : PANEL_DONE);
         want_record("a block by key", saved.record);
         if (room < length)
             continue;
@@ -765,8 +828,8 @@ static void try_rooms(void)
     static char block[PANEL_ROOM];
     put_form();
     size_t length = make_block(false, block);
-    try_key_room(PANEL_KEY_SEND_CHANGED);
-    try_key_room(PANEL_KEY_SEND_ALL);
+    try_key_room(false);
+    try_key_room(true);
     try_host_room("\033S", block, length, true);
     try_host_room("\033[5n", "\033[0n", 4, false);
     try_host_room("\033[6n", "\033[24;80R", 8, false);
@@ -779,7 +842,8 @@ int main(void)
     try_starts();
     try_lengths();
     try_marks_lengths();
-    try_old_record();
+    try_old_records();
+    try_half_read();
     try_marks(&goods[2]);
     try_marks(&goods[7]);
     try_many_bytes();

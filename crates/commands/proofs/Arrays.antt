@@ -8,7 +8,7 @@ use Rattle.words.specs.Choice.{if_then_else_}
 use Rattle.words.proofs.Choosing.{either-line}
 use Rattle.sequence.specs.declared.HalfRead.{HalfRead}
 use Rattle.sequence.specs.declared.Event.{Event}
-use Rattle.sequence.specs.declared.Event.the-variants.{Nothing, Text, Control, EscCommand, BracketCommand, Refused}
+use Rattle.sequence.specs.declared.Event.the-variants.{Nothing, Text, Control, EscCommand, BracketCommand, PrivateCommand, Refused}
 use Rattle.sequence.proofs.Lengths.{advance-keeps-eight}
 use Rattle.state.specs.declared.State.{State}
 use Rattle.state.specs.State.{Arrays, refused, inputDisabled, inputEnabled}
@@ -17,6 +17,7 @@ use Rattle.state.specs.Tabs.{tabbedOn, tabbedBack}
 use Rattle.state.proofs.Arrays.{fresh-arrays, half-keeps-arrays, stop-set-keeps-arrays, stop-cleared-keeps-arrays, stops-cleared-keep-arrays}
 use Rattle.steps.specs.Steps.{Terminal, Stepped}
 use Rattle.table.specs.Moves.{toColumn, toRow, toPlace, moveStep}
+use Rattle.table.specs.PrivateForms.{privateStep}
 use Rattle.table.specs.Settings.{tabControl, areaSet, areaQualified, rendition, setMode}
 use Rattle.sending.specs.Sending.{sendBlock, readyReport, cursorReport, statusReport}
 use Rattle.commands.specs.Text.{textStep, lineDown, lineUp, nextLine, controlStep}
@@ -112,13 +113,14 @@ module _ (t : Terminal) (has : Arrays (t .state)) where
       (line _ _ _ has (line _ _ _ has (same refl refl))))))))))
 
   event-keeps : (half : HalfRead) (event : Event) → Keeps (eventStep half event t)
-  unfolding eventStep bracketStep refused
+  unfolding eventStep bracketStep privateStep refused
   event-keeps half Nothing = has
   event-keeps half (Text character) = text-keeps character
   event-keeps half (Control control) = control-keeps control
   event-keeps half (EscCommand command) = esc-keeps command
   event-keeps half (BracketCommand final) =
       line _ _ _ (same refl refl) (line _ _ _ (same refl refl) (listed-keeps final (half .arguments) (half .count)))
+  event-keeps half (PrivateCommand final) = line _ _ _ (same refl refl) (line _ _ _ (same refl refl) (same refl refl))
   event-keeps half (Refused reason at) = same refl refl
 
 pub host-keeps-arrays : (byte : ℕ) (t : Terminal) → Arrays (t .state) → Arrays (hostStep byte t .terminal .state)

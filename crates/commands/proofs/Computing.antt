@@ -2,7 +2,7 @@
 use Rattle.words.specs.Choice.{if_then_else_, _and_, _or_, _is_to_}
 use Rattle.words.specs.Lists.{within, every, eachFrom, numbersFrom, selected}
 use Rattle.sequence.specs.Record.{withDigit, withNextArgument}
-use Rattle.sequence.specs.Reading.{isControl, isCancel, outsideSequence, afterEsc, afterIntermediate, afterBracket, insideSequence, advanceOf}
+use Rattle.sequence.specs.Reading.{isControl, isCancel, outsideSequence, afterEsc, afterIntermediate, afterBracket, rightAfterBracket, afterPrivateMark, sequenceReadOn, insideSequence, advanceOf}
 use Rattle.page.specs.Marks.{unprotected}
 use Rattle.page.specs.Page.{textStored, erasable, erased, cellsErased, scrolledUp, scrolledDown, markAfterBlock, modifiedCleared}
 use Rattle.output.specs.Decimal.{decimal, placeBytes}
@@ -18,6 +18,7 @@ use Rattle.commands.specs.Text.{textStep, lineDown, lineUp, nextLine, co
 use Rattle.commands.specs.Commands.{freshStep, escStep, erasing, erasePart, listedStep, bracketStep}
 use Rattle.sending.specs.Sending.{sendBlock, readyReport, cursorReport, statusReport}
 use Rattle.table.specs.Moves.{toColumn, toRow, toPlace, keptColumn, isMove, moveStep}
+use Rattle.table.specs.PrivateForms.{privateStep}
 use Rattle.table.specs.Settings.{tabControl, isArea, penOfArea, areaSet, areaQualified, isVisual, penAfter, penAfterAll, rendition, setMode}
 use Rattle.commands.specs.Host.{eventStep, hostStep}
 
@@ -28,7 +29,7 @@ tests = tt
 
 -- Reading a byte.
 unfoldable readings : Unit {0}
-unfolding tests withDigit withNextArgument isControl isCancel outsideSequence afterEsc afterIntermediate afterBracket insideSequence advanceOf
+unfolding tests withDigit withNextArgument isControl isCancel outsideSequence afterEsc afterIntermediate afterBracket rightAfterBracket afterPrivateMark sequenceReadOn insideSequence advanceOf
 readings = tt
 
 -- What becomes of the state.
@@ -48,5 +49,5 @@ transmissions = tt
 
 -- The step of a host byte.
 unfoldable pub hostSteps : Unit {0}
-unfolding readings states pages transmissions textStep lineDown lineUp nextLine controlStep freshStep sendBlock escStep allowed valueOf toColumn toRow toPlace keptColumn isMove moveStep tabControl areaSet areaQualified erasing erasePart rendition setMode readyReport cursorReport statusReport listedStep bracketStep eventStep hostStep
+unfolding readings states pages transmissions textStep lineDown lineUp nextLine controlStep freshStep sendBlock escStep allowed valueOf toColumn toRow toPlace keptColumn isMove moveStep tabControl areaSet areaQualified erasing erasePart rendition setMode readyReport cursorReport statusReport listedStep bracketStep privateStep eventStep hostStep
 hostSteps = tt

@@ -11,7 +11,7 @@ use Rattle.words.specs.Choice.{if_then_else_}
 use Rattle.words.proofs.Choosing.{either-line, either-way}
 use Rattle.sequence.specs.declared.HalfRead.{HalfRead}
 use Rattle.sequence.specs.declared.Event.{Event}
-use Rattle.sequence.specs.declared.Event.the-variants.{Nothing, Text, Control, EscCommand, BracketCommand, Refused}
+use Rattle.sequence.specs.declared.Event.the-variants.{Nothing, Text, Control, EscCommand, BracketCommand, PrivateCommand, Refused}
 use Rattle.sequence.specs.Reading.{advanceOf}
 use Rattle.output.proofs.Digits.{three-at-most, place-long}
 use Rattle.blocks.proofs.Theorems.{longest-block}
@@ -24,7 +24,7 @@ use Rattle.commands.specs.Commands.{escStep, listedStep, bracketStep}
 use Rattle.sending.specs.Sending.{sendBlock, readyReport, cursorReport, statusReport}
 use Rattle.commands.specs.Host.{eventStep, hostStep}
 use Rattle.steps.proofs.Soundness.{sized}
-use Rattle.commands.proofs.Silent.{text-silent, control-silent, esc-silent, move-silent, tab-silent, erase-silent, area-silent, rendition-silent, mode-silent}
+use Rattle.commands.proofs.Silent.{text-silent, control-silent, esc-silent, move-silent, tab-silent, erase-silent, area-silent, rendition-silent, mode-silent, private-silent}
 
 -- A transmission of no more bytes than the longest block has.
 abbrev Short : Stepped → Type 0
@@ -79,6 +79,7 @@ event-short half (Control byte) t fits = quiet (control-silent byte t)
 event-short half (EscCommand byte) t fits = esc-short byte t fits
 event-short half (BracketCommand final) t fits = either-line Short _ _ _ (λ _. omega arith)
     (λ _. either-line Short _ _ _ (λ _. omega arith) (λ _. listed-short final (half .arguments) (half .count) t))
+event-short half (PrivateCommand final) t fits = quiet (private-silent final _ t)
 event-short half (Refused reason byte) t fits = omega arith
 
 pub step-short : (byte : ℕ) (t : Terminal) → sizeFits (t .state .size) (t .page) ≡ true → Short (hostStep byte t)

@@ -14,4 +14,5 @@ pub mod Computing
 pub mod Streams
 pub mod Examples
 pub mod Messages
+pub mod SendMode
 pub mod Cells

@@ -45,6 +45,16 @@ examples =
     ∷ gives (esc "y" ++ esc "[3J") 2 (code "J")
     ∷ gives (esc "[3J" ++ (0x80 ∷ []) ++ bytes "A" ++ esc "[2J") 4 0x80
     ∷ gives (esc "y" ++ esc "`") 1 (code "y")
+    -- M-106: each form with > but >6 h and >6 l, and > after an argument
+    ∷ gives (esc "[>5h") 3 (code "h")
+    ∷ gives (esc "[>h") 3 (code "h")
+    ∷ gives (esc "[>6;h") 3 (code "h")
+    ∷ gives (esc "[0>6h") 3 (code "h")
+    ∷ gives (esc "[6>h") 3 (code "h")
+    ∷ gives (esc "[>>6h") 3 (code "h")
+    ∷ gives (esc "[>6m") 3 (code "m")
+    ∷ gives (esc "[>10006h") 3 (code "h")
+    ∷ gives (esc "[>06h" ++ esc "[>6l") 0 0
     -- ESC b and ESC c clear both
     ∷ gives (esc "y" ++ esc "b") 0 0
     ∷ gives (esc "y" ++ esc "c") 0 0

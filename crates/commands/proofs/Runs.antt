@@ -1,12 +1,12 @@
 -- What a run of host bytes is made of: text that follows on text, and events that are light.
 use mathlib.Core.Path.{_≡_, refl, sym, ap, _∙_, subst}
-use mathlib.Core.Bool.{Bool, true, false}
+use mathlib.Core.Bool.{true, false}
 use mathlib.Core.List.{List, [], _∷_}
 use Prim.Native.Nat.{ℕ, zero, suc, _+_, _-_, _<_, _≤_}
 use native.Mathlib.Numerals.{add-one}
 use native.Mathlib.Omega.{arith}
-use borrow.Author.Tests.{lt-ltb, le-ltb, leb-true, eq-eqb, eqb-true}
-use lib.Dec.{ltb, eqb}
+use borrow.Author.Tests.{lt-ltb, le-ltb, leb-true, eq-eqb}
+use lib.Dec.{ltb}
 use lib.ListN.{length, drop, getD, replicate, length-set, drop-of-length-le}
 use lib.Seq.{drop-cons}
 use Rattle.words.specs.Choice.{_is_to_}
@@ -17,6 +17,7 @@ use Rattle.sequence.specs.Record.{nothingRead, largestArgument, argumentsFit, v
 use Rattle.sequence.specs.declared.Advanced.{Advanced}
 use Rattle.sequence.specs.declared.Event.the-variants.{Text}
 use Rattle.sequence.specs.Reading.{ends, outsideSequence, advanceOf}
+use Rattle.sequence.proofs.Cases.{one-of-five}
 use Rattle.sequence.proofs.Events.{Tells, event-tells}
 use Rattle.sequence.proofs.Keeping.{eight-at-most}
 use Rattle.page.specs.Page.{Page, textStored}
@@ -85,21 +86,16 @@ all-zero i (argument ∷ rest) fit =
     let none : argument ≡ 0 = omega (arith, least, largest-none i) in
     λ k. none k ∷ all-zero (i + 1) rest (both fit .1) k
 
-module _ (half : HalfRead) (eight : length (half .arguments) ≡ 8) (kind : half .kind ≡ 0) where
-  nothing-spoilt : validHalfRead half ≡ true → half ≡ nothingRead
-  unfolding validHalfRead
-  nothing-spoilt =
-      either-line (λ (test : Bool). test ≡ true → half ≡ nothingRead) (half .spoilt) _ _
-      (λ _ valid. let bracket = eqb-true (half .kind) 3 (both valid .0) in absurd (omega arith))
-      (λ whole. either-line (λ (test : Bool). test ≡ true → half ≡ nothingRead) (eqb (half .kind) 3) _ _
-      (λ is-3 _. let bracket = eqb-true (half .kind) 3 is-3 in absurd (omega arith))
-      (λ _ valid.
-      let none = eqb-true (half .count) 0 (both (both valid .1) .0) in
-      let zeros = all-zero 0 (half .arguments) (both (both valid .1) .1) ∙ ap (λ (n : ℕ). replicate {A = ℕ} n 0) eight in
-      λ k. record { kind = kind k; arguments = zeros k; count = none k; spoilt = whole k }))
-
-pub nothing-half-read : (half : HalfRead) → length (half .arguments) ≡ 8 → validHalfRead half ≡ true → half .kind ≡ 0 → half ≡ nothingRead
-nothing-half-read half eight valid kind = nothing-spoilt half eight kind valid
+nothing-half-read : (half : HalfRead) → length (half .arguments) ≡ 8 → validHalfRead half ≡ true → half .kind ≡ 0 → half ≡ nothingRead
+nothing-half-read half eight valid kind =
+    one-of-five half valid
+    (λ k c f. absurd (omega arith))
+    (λ s k l m f. absurd (omega arith))
+    (λ s k c f. absurd (omega arith))
+    (λ s k c f. absurd (omega arith))
+    (λ whole k none fit.
+    let zeros = all-zero 0 (half .arguments) fit ∙ ap (λ (n : ℕ). replicate {A = ℕ} n 0) eight in
+    λ i. record { kind = kind i; arguments = zeros i; count = none i; spoilt = whole i })
 
 -- Where nothing is half read, a byte that is text is text.
 module _ (byte : ℕ) (t : Terminal) (text : (byte is 0x20 to 0x7E) ≡ true) where

@@ -10,6 +10,7 @@ use Rattle.steps.specs.Steps.{Terminal, bytesOf}
 use Rattle.commands.specs.Text.{textStep, lineDown, lineUp, nextLine, controlStep}
 use Rattle.commands.specs.Commands.{freshStep, escStep, erasing, erasePart}
 use Rattle.table.specs.Moves.{toColumn, toRow, toPlace, moveStep}
+use Rattle.table.specs.PrivateForms.{privateStep}
 use Rattle.table.specs.Settings.{tabControl, areaSet, areaQualified, rendition, setMode}
 
 pub text-silent : (character : ℕ) (t : Terminal) → Silent (textStep character t)
@@ -74,6 +75,10 @@ rendition-silent final values t = either-line Silent _ _ _ (λ _. refl) (λ _. r
 pub mode-silent : (final : ℕ) (on : Bool) (values : List ℕ) (t : Terminal) → Silent (setMode final on values t)
 unfolding setMode bytesOf
 mode-silent final on values t = either-line Silent _ _ _ (λ _. refl) (λ _. refl)
+
+pub private-silent : (final argument : ℕ) (t : Terminal) → Silent (privateStep final argument t)
+unfolding privateStep bytesOf
+private-silent final argument t = either-line Silent _ _ _ (λ _. refl) (λ _. either-line Silent _ _ _ (λ _. refl) (λ _. refl))
 
 pub move-silent : (final : ℕ) (arguments : List ℕ) (t : Terminal) → Silent (moveStep final arguments t)
 unfolding moveStep toColumn toRow toPlace bytesOf

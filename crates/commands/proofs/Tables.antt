@@ -12,9 +12,10 @@ use Rattle.words.specs.Choice.{if_then_else_}
 use Rattle.words.proofs.Choosing.{true-is-not-false, either-line, both}
 use Rattle.sequence.specs.declared.HalfRead.{HalfRead}
 use Rattle.sequence.specs.declared.Reason.{Reason}
-use Rattle.sequence.specs.declared.Reason.the-variants.{UnknownCommand, WrongArguments}
+use Rattle.sequence.specs.declared.Reason.the-variants.{UnknownCommand, WrongArguments, BrokenSequence}
 use Rattle.sequence.specs.declared.Event.{Event}
-use Rattle.sequence.specs.declared.Event.the-variants.{Nothing, Text, Control, EscCommand, BracketCommand, Refused}
+use Rattle.sequence.specs.declared.Event.the-variants.{Nothing, Text, Control, EscCommand, BracketCommand, PrivateCommand, Refused}
+use Rattle.sequence.specs.Range.{argumentOf}
 use Rattle.sequence.specs.Reading.{advanceOf}
 use Rattle.sequence.proofs.Keeping.{advance-keeps}
 use Rattle.page.specs.Marks.{validCharacter}
@@ -26,7 +27,7 @@ use Rattle.state.specs.declared.State.{State}
 use Rattle.state.specs.State.{OnPage, withHalf, refused}
 use Rattle.state.specs.Moves.{downBy, toMargin}
 use Rattle.state.specs.Pen.{validPen}
-use Rattle.state.proofs.Keeping.{KeepsValid, size-bounds, on-page, parts, up-keeps-valid, down-keeps-valid, right-keeps-valid, left-keeps-valid, margin-keeps-valid, next-cell-keeps-valid, cursor-keeps-valid, tab-on-keeps-valid, tab-back-keeps-valid, stop-set-keeps-valid, stop-cleared-keeps-valid, stops-cleared-keeps-valid, pen-keeps-valid, erasure-keeps-valid, disabled-keeps-valid, enabled-keeps-valid, half-keeps-valid, fresh-valid}
+use Rattle.state.proofs.Keeping.{KeepsValid, size-bounds, on-page, parts, up-keeps-valid, down-keeps-valid, right-keeps-valid, left-keeps-valid, margin-keeps-valid, next-cell-keeps-valid, cursor-keeps-valid, tab-on-keeps-valid, tab-back-keeps-valid, stop-set-keeps-valid, stop-cleared-keeps-valid, stops-cleared-keeps-valid, pen-keeps-valid, erasure-keeps-valid, full-keeps-valid, disabled-keeps-valid, enabled-keeps-valid, half-keeps-valid, fresh-valid}
 use Rattle.steps.specs.Steps.{Terminal, silent, report, fullBlock, blockTransmission, Stepped, withState, goesTo, stores, sends, refusing, cursorCell, Valid, rowStart}
 use Rattle.steps.specs.Claims.{markLeft, Refusal}
 use Rattle.steps.proofs.Storing.{Stored, text-stored, blank-stored, up-stored, down-stored, erasing-stored}
@@ -37,6 +38,7 @@ use Rattle.commands.specs.Text.{textStep, lineDown, lineUp, nextLine, co
 use Rattle.commands.specs.Commands.{freshStep, escStep, erasing, erasePart, listedStep, bracketStep}
 use Rattle.sending.specs.Sending.{sendBlock, readyReport, cursorReport, statusReport}
 use Rattle.table.specs.Moves.{toColumn, toRow, toPlace, moveStep}
+use Rattle.table.specs.PrivateForms.{privateStep}
 use Rattle.table.specs.Settings.{tabControl, areaSet, areaQualified, rendition, setMode}
 use Rattle.commands.specs.Host.{eventStep, hostStep}
 use Rattle.commands.proofs.Claims.{EndsEscS, Stores, no-cell, text-cell, erased-cells, all-cells, HostSound, EventSound}
@@ -273,6 +275,12 @@ module _ (Asked : Type 0) (byte : ℕ) (t : Terminal) (valid : Valid t) where
       (line (λ _. mode-holds final ends true (take count arguments))
       (line (λ _. mode-holds final ends false (take count arguments)) (status-holds final ends n))))))))
 
+  private-holds : (final : ℕ) → byte ≡ final → (argument : ℕ) → Holds (privateStep final argument t)
+  unfolding privateStep
+  private-holds final ends argument =
+      line (λ _. goes _ (full-keeps-valid (t .state) (valid .state) false))
+      (line (λ _. goes _ (full-keeps-valid (t .state) (valid .state) true)) (refuses BrokenSequence ends))
+
   bracket-holds : (final : ℕ) → byte ≡ final → (half : HalfRead) → Holds (bracketStep final half t)
   unfolding bracketStep
   bracket-holds final ends half =
@@ -287,6 +295,7 @@ event-holds half byte (Text character) t valid is = text-holds (EndsEscS half by
 event-holds half byte (Control control) t valid _ = control-holds (EndsEscS half byte) byte t valid control
 event-holds half byte (EscCommand command) t valid came = esc-holds (EndsEscS half byte) byte t valid command (came .1) (λ e. (came .0, came .1 ∙ e))
 event-holds half byte (BracketCommand final) t valid came = bracket-holds (EndsEscS half byte) byte t valid final (came .2) half
+event-holds half byte (PrivateCommand final) t valid came = private-holds (EndsEscS half byte) byte t valid final (came .1) (argumentOf half 0)
 event-holds half byte (Refused reason at) t valid here = refuses (EndsEscS half byte) byte t valid reason here
 
 -- The claims say nothing of the half-read record before.

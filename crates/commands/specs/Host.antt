@@ -3,7 +3,8 @@ use mathlib.Core.Path.{_≡_}
 use Prim.Native.Nat.{ℕ, _≤_}
 use Rattle.sequence.specs.declared.HalfRead.{HalfRead}
 use Rattle.sequence.specs.declared.Event.{Event}
-use Rattle.sequence.specs.declared.Event.the-variants.{Nothing, Text, Control, EscCommand, BracketCommand, PrivateCommand, Refused}
+use Rattle.sequence.specs.declared.Event.the-variants.{Nothing, Text, Control, EscCommand}
+use Rattle.sequence.specs.declared.Event.the-variants.{BracketCommand, PrivateCommand, Refused}
 use Rattle.sequence.specs.Range.{argumentOf}
 use Rattle.sequence.specs.Reading.{advanceOf}
 use Rattle.state.specs.State.{withHalf}

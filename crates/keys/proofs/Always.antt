@@ -29,7 +29,7 @@ use Rattle.sending.specs.Sending.{sendsFull, sendBlock}
 use Rattle.keys.specs.Keys.{isTyping, cellsFrom, goneTo, typedStep, toNextField, toPreviousField, toFirstUnprotected, fieldBlanked, restShifted, takenStep, keyStep}
 use Rattle.steps.specs.Seen.{cellsHere, unprotectedAt, startHere, endHere}
 use Rattle.steps.proofs.Transmissions.{silent-is-no-full, silent-is-no-changed, silent-is-no-report, told-full, told-changed, block-is-no-report}
-use Rattle.keys.proofs.Claims.{KeyStores, no-cell, typed-cell, whole-field, rest-of-field, IsSendKey, KeyAlways}
+use Rattle.keys.proofs.Claims.{KeyStores, no-cell, typed-cell, whole-field, rest-of-field, KeyAlways}
 use Rattle.steps.specs.Claims.{ProtectedKept}
 
 -- A move to what was found leaves the locks, pen and modes.

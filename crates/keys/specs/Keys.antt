@@ -1,5 +1,5 @@
--- Document 01, "Fields, keys and blocks", and document 02, M-103 and M-106: what the keys do. A key that finds no cell or
--- field does nothing, nor one that brings a character where it isn't taken: line 7 or 8 is then given.
+-- Document 01, "Fields, keys and blocks", and document 02, M-103 and M-106: what the keys do. A key that finds no cell
+-- or field does nothing, nor one that brings a character where it isn't taken: line 7 or 8 is then given.
 use mathlib.Core.Bool.{Bool, true, false, not}
 use mathlib.Core.List.{List, [], _∷_}
 use Prim.Native.Nat.{ℕ, _-_}

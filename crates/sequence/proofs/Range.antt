@@ -9,7 +9,7 @@ use borrow.Author.Tests.{ltb-true, ltb-false, leb-true, leb-false, eqb-true, eqb
 use lib.Dec.{ltb, leb, eqb}
 use lib.ListN.{getD}
 use Rattle.words.specs.Choice.{_and_, _is_to_}
-use Rattle.words.proofs.Choosing.{true-is-not-false, either-line, both, one-fails, range-holds, range-fails, refuted, le-or-lt, not-both}
+use Rattle.words.proofs.Choosing.{true-is-not-false, either-line, both, one-fails, range-fails, refuted, le-or-lt, not-both}
 use Rattle.sequence.specs.declared.HalfRead.{HalfRead}
 use Rattle.sequence.specs.Record.{largestArgument, argumentsFit, validHalfRead}
 use Rattle.sequence.proofs.Cases.{one-of-five}

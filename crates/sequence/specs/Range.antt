@@ -1,5 +1,5 @@
--- Document 01, "Reading host bytes", first paragraph, and document 02, M-106: a half-read record that is out of range, a
--- constructor for each clause.
+-- Document 01, "Reading host bytes", first paragraph, and document 02, M-106: a half-read record that is out of range,
+-- a constructor for each clause.
 use mathlib.Core.Path.{_≡_}
 use mathlib.Core.Bool.{true}
 use Prim.Native.Nat.{ℕ, _<_, _≤_}

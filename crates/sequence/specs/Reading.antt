@@ -75,7 +75,7 @@ rightAfterBracket byte =
     if eqb byte (code ">") then readsOn privateMarkRead
     else afterBracket argumentRead byte
 
--- M-106, a byte 20 to 7E after ESC [ >: one argument and a final byte. The second line is for ; too, and for a second >.
+-- M-106, a byte 20 to 7E after ESC [ >: one argument and a final byte. The second line is for ; too, and a second >.
 -- Which of these commands there are is told with the commands.
 unfoldable pub afterPrivateMark : HalfRead → ℕ → Advanced
 afterPrivateMark half byte =

@@ -57,12 +57,18 @@ returns-5 : tie.Need-returns-5
 unfolding eventStep
 returns-5 c = rw (c .before .before .before .before .before .before .before .before .before .before .before .event4 .given .1) (c .before .before .before .before .before .before .bracket-step .ensures)
 
--- A refusal is light.
+-- A private command is light, and so is a refusal.
 returns-6 : tie.Need-returns-6
 unfolding isLight
 returns-6 c =
     let start = c .before .before .before .before .before .before in
     absurd (true-is-not-false (ap (isLight _ _) (sym (c .before .enum-told2 .given .1)) ∙ start .pre .1 .3))
+
+returns-7 : tie.Need-returns-7
+unfolding isLight
+returns-7 c =
+    let start = c .before .before .before .before .before .before in
+    absurd (true-is-not-false (ap (isLight _ _) (sym (c .before .enum-told3 .given .1)) ∙ start .pre .1 .3))
 
 pub heavy-step-spec : {M : Type 1} → statement M
 heavy-step-spec =
@@ -80,6 +86,8 @@ heavy-step-spec =
     bracket-step-requires
     (λ c. search needs)
     (λ c κs. search needs)
+    (λ c. search needs)
+    (λ c κs. search needs)
     returns
     (λ c. search needs)
     (λ c. search needs)
@@ -95,4 +103,5 @@ heavy-step-spec =
     (λ c. search needs)
     (λ c. search needs)
     returns-5
-    returns-6)
+    returns-6
+    returns-7)

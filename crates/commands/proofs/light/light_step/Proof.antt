@@ -45,9 +45,12 @@ light-step-spec =
     (λ c. search needs)
     light-final-requires
     (λ c. search needs)
+    (λ c κs. search needs)
+    (λ c. search needs)
     (λ c. λ page. rw (c .moves-to .ensures, c .before .enum-told .given .1))
     returns-2
     (λ c. λ page. rw (c .before .before .event .given .1) (c .light-control .ensures page))
     (λ c. λ page. rw (c .before .before .event2 .given .1) (c .light-letter .ensures page))
     (λ c. λ page. rw (c .before .before .event3 .given .1) (c .light-final .ensures page))
-    (λ c. λ page. rw (c .before .event4 .given .1)))
+    (λ c. λ page. rw (c .before .before .event4 .given .1) (c .private-command .ensures page))
+    (λ c. λ page. rw (c .before .event5 .given .1)))
