@@ -1,21 +1,22 @@
--- The starred examples of document 01, computed from the definitions that the entries' contracts cite:
--- each on a fresh 24 by 80 terminal brought there by calls.
+-- The starred examples of document 01, and M-106's form cut after each of its bytes, computed from the definitions that
+-- the entries' contracts cite: each on a fresh 24 by 80 terminal brought there by calls.
 use mathlib.Core.Path.{_≡_, refl}
 use mathlib.Core.List.{List, [], _∷_, _++_, map}
 use mathlib.Core.Bool.{Bool, true, false}
 use Prim.Native.Char.{code}
 use Prim.Native.Nat.{ℕ}
 use Prim.Native.String.{String}
-use lib.ListN.{take, replicate}
+use lib.ListN.{take, drop, replicate}
 use Rattle.words.specs.Choice.{if_then_else_, _and_, _or_, _is_to_}
 use Rattle.words.specs.Lists.{within, every, eachFrom, numbersFrom, selected}
 use Rattle.words.specs.Output.{placed}
 use Rattle.words.specs.Text.{bytes}
 use Rattle.sequence.specs.Record.{argumentsFit, largestArgument, validHalfRead, withDigit, withNextArgument}
-use Rattle.sequence.specs.Reading.{isControl, isCancel, outsideSequence, afterEsc, afterIntermediate, afterBracket, insideSequence, advanceOf}
+use Rattle.sequence.specs.Reading.{isControl, isCancel, outsideSequence, afterEsc, afterIntermediate, afterBracket, rightAfterBracket, afterPrivateMark, sequenceReadOn, insideSequence, advanceOf}
 use Rattle.page.specs.Marks.{validMark, unprotected}
 use Rattle.page.specs.Page.{pageOf, validPage, textStored, markAfterBlock, modifiedCleared}
 use Rattle.places.specs.Places.{placeOf}
+use Rattle.output.specs.Decimal.{decimal, placeBytes}
 use Rattle.fields.specs.Fields.{joined, startsField, endFrom, fieldEnd, fieldsFrom, fieldsOf}
 use Rattle.blocks.specs.Blocks.{entryBytes, encode, entryOf, someModified, isInBlock, entriesSent, block}
 use Rattle.state.specs.State.{messageOf, refused}
@@ -28,6 +29,7 @@ use Rattle.state.specs.Moves.{toNextCell}
 use Rattle.commands.specs.Text.{textStep}
 use Rattle.commands.specs.Commands.{freshStep, listedStep, bracketStep}
 use Rattle.sending.specs.Sending.{sendBlock}
+use Rattle.table.specs.PrivateForms.{privateStep}
 use Rattle.table.specs.Moves.{toColumn, toRow, toPlace, keptColumn, isMove, moveStep}
 use Rattle.commands.specs.Host.{eventStep, hostStep}
 use Rattle.keys.specs.Keys.{isTyping, isEditing, isFieldMove, isKnown, isLocked, isLockedOut, lacksCell, isNotTaken, takenStep, keyStep}
@@ -135,7 +137,48 @@ examples =
     ∷ (key 1 266 ∷ []) leave keyed 0 (0x03 ∷ [])
     ∷ []
 
+-- All that is unfolded on the way.
+unfoldable computed : Unit {0}
+unfolding outcome last started seen goes refuses keyed _leave_ sequence if_then_else_ _and_ _or_ _is_to_ within every eachFrom numbersFrom selected placed argumentsFit largestArgument validHalfRead withDigit withNextArgument isControl isCancel outsideSequence afterEsc afterIntermediate afterBracket rightAfterBracket afterPrivateMark sequenceReadOn insideSequence advanceOf validMark unprotected validPage textStored markAfterBlock modifiedCleared placeOf joined startsField endFrom fieldEnd fieldsFrom fieldsOf decimal placeBytes entryBytes encode entryOf someModified isInBlock entriesSent block messageOf refused onBy rightBy validPen listedRows listedColumns listedSize sizeFits cursorFits stopsFit validMessage validState bytesOf blockTransmission allowed valueOf toNextCell textStep freshStep sendBlock toColumn toRow toPlace keptColumn isMove moveStep listedStep bracketStep privateStep eventStep hostStep isTyping isEditing isFieldMove isKnown isLocked isLockedOut lacksCell isNotTaken takenStep keyStep stepsOf fitting after bytesSentBy cellsStoredBy countOf refusedBy protectionBy numberOf unchanged afterSteps changesNothing gives firstOf exceedsRoom passesLine2 startLines hostRefusals keyRefusals hostLines keyLines startStep startCall hostCall keyCall
+computed = tt
+
 -- Each leaves what document 01 says.
 as-document-01 : map (λ (e : Example). seen (last started (e .calls))) examples ≡ map (λ (e : Example). e .gives) examples
-unfolding outcome last started seen goes refuses keyed _leave_ sequence at4x20 at24x80 examples if_then_else_ _and_ _or_ _is_to_ within every eachFrom numbersFrom selected placed argumentsFit largestArgument validHalfRead withDigit withNextArgument isControl isCancel outsideSequence afterEsc afterIntermediate afterBracket insideSequence advanceOf validMark unprotected validPage textStored markAfterBlock modifiedCleared placeOf joined startsField endFrom fieldEnd fieldsFrom fieldsOf entryBytes encode entryOf someModified isInBlock entriesSent block messageOf refused onBy rightBy validPen listedRows listedColumns listedSize sizeFits cursorFits stopsFit validMessage validState bytesOf blockTransmission allowed valueOf toNextCell textStep freshStep sendBlock toColumn toRow toPlace keptColumn isMove moveStep listedStep bracketStep eventStep hostStep isTyping isEditing isFieldMove isKnown isLocked isLockedOut lacksCell isNotTaken takenStep keyStep stepsOf fitting after bytesSentBy cellsStoredBy countOf refusedBy protectionBy numberOf unchanged afterSteps changesNothing gives firstOf exceedsRoom passesLine2 startLines hostRefusals keyRefusals hostLines keyLines startStep startCall hostCall keyCall
+unfolding computed at4x20 at24x80 examples
 as-document-01 = refl
+
+-- A stream in two calls, cut after so many bytes; in a call for each byte.
+cutAfter : ℕ → List ℕ → List ExampleCall
+cutAfter n stream = host 0 (take n stream) ∷ host 0 (drop n stream) ∷ []
+
+byteByByte : List ℕ → List ExampleCall
+byteByByte stream = map (λ (byte : ℕ). host 0 (byte ∷ [])) stream
+
+-- Five ways to cut five bytes.
+cuts : List ℕ → List (List ExampleCall)
+cuts stream = cutAfter 1 stream ∷ cutAfter 2 stream ∷ cutAfter 3 stream ∷ cutAfter 4 stream ∷ byteByByte stream ∷ []
+
+-- With room for one byte, 266 has no room for a full block, nor sends more than 03 of a page with nothing modified.
+send : ExampleCall
+send = key 1 266
+
+reset : List ℕ
+reset = bytes "\u{1b}[>6l"
+
+set : List ℕ
+set = bytes "\u{1b}[>6h"
+
+cutExamples : List Example
+cutExamples =
+    map (λ (calls : List ExampleCall). (calls ++ (send ∷ [])) leave keyed 3 []) (cuts reset)
+    ++ map (λ (calls : List ExampleCall). (host 0 reset ∷ calls ++ (send ∷ [])) leave keyed 0 (0x03 ∷ [])) (cuts set)
+    -- no private form, cut where it goes wrong: refused at the final byte all the same
+    ++ ((host 0 (bytes "\u{1b}[0") ∷ host 0 (bytes ">6l") ∷ []) leave refuses 3 (code "l")
+    ∷ (host 0 (bytes "\u{1b}[>") ∷ host 0 (bytes ">6l") ∷ []) leave refuses 3 (code "l")
+    ∷ (host 0 (bytes "\u{1b}[>6") ∷ host 0 (bytes ";l") ∷ []) leave refuses 3 (code "l")
+    ∷ [])
+
+-- Each leaves what M-106 says.
+cut-anywhere : map (λ (e : Example). seen (last started (e .calls))) cutExamples ≡ map (λ (e : Example). e .gives) cutExamples
+unfolding computed cutAfter byteByByte cuts send reset set cutExamples
+cut-anywhere = refl

@@ -25,14 +25,19 @@ line-4 key = (
       let unlisted = neither (not-true _ holds) in
       record {
         no-character = λ low high. not-both (range-is key 32 126 low high) (unlisted .0);
-        no-other-key = λ low high. not-both (range-is key 256 268 low high) (unlisted .1);
+        no-other-key = λ low high. not-both (range-is key 256 266 low high) (neither (unlisted .1) .0);
+        not-268 = eqb-false key 268 (neither (unlisted .1) .1);
       },
   λ line.
       either-way (isKnown key)
       (λ known.
       ⊎-elim
       (λ typing. let range = range-holds key 32 126 typing in absurd (line .no-character (range .0) (range .1)))
-      (λ other. let range = range-holds key 256 268 other in absurd (line .no-other-key (range .0) (range .1)))
+      (λ other.
+      ⊎-elim
+      (λ between. let range = range-holds key 256 266 between in absurd (line .no-other-key (range .0) (range .1)))
+      (λ is-268. absurd (line .not-268 (eqb-true key 268 is-268)))
+      (one-holds other))
       (one-holds known))
       (λ unknown. ap not unknown),
 )

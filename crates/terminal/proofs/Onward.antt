@@ -11,7 +11,7 @@ use Rattle.words.proofs.Choosing.{true-is-not-false, either-way, less-or-not, t
 use Rattle.sequence.specs.declared.HalfRead.{HalfRead}
 use Rattle.sequence.specs.declared.Advanced.{Advanced}
 use Rattle.sequence.specs.declared.Event.{Event}
-use Rattle.sequence.specs.declared.Event.the-variants.{Nothing, Text, Control, EscCommand, BracketCommand, Refused}
+use Rattle.sequence.specs.declared.Event.the-variants.{Nothing, Text, Control, EscCommand, BracketCommand, PrivateCommand, Refused}
 use Rattle.sequence.specs.Record.{nothingRead}
 use Rattle.sequence.specs.Reading.{advanceOf, outsideSequence}
 use Rattle.reading.specs.declared.Reading.{Reading}
@@ -51,6 +51,7 @@ is-nothing (Text byte) nothing = absurd (true-is-not-false (sym nothing))
 is-nothing (Control byte) nothing = absurd (true-is-not-false (sym nothing))
 is-nothing (EscCommand byte) nothing = absurd (true-is-not-false (sym nothing))
 is-nothing (BracketCommand final) nothing = absurd (true-is-not-false (sym nothing))
+is-nothing (PrivateCommand final) nothing = absurd (true-is-not-false (sym nothing))
 is-nothing (Refused reason byte) nothing = absurd (true-is-not-false (sym nothing))
 
 module _ (start : Terminal) (bytes before : List ℕ) (sent stored refused : ℕ) (protection : Bool) (output : List ℕ) where

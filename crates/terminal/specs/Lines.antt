@@ -22,10 +22,11 @@ pub record Line3 (room : ℕ) (steps : List Stepped) : Type 0 where
   pub fit : length (bytesSentBy before) ≤ room
   pub exceeds : room - length (bytesSentBy before) < length (bytesOf (next .transmission))
 
--- 4: the key is none of 32 to 126 and 256 to 268.
+-- 4: the key is none of 32 to 126, 256 to 266, and 268.
 pub record Line4 (key : ℕ) : Type 0 where
   pub no-character : 32 ≤ key → key ≤ 126 → ⊥
-  pub no-other-key : 256 ≤ key → key ≤ 268 → ⊥
+  pub no-other-key : 256 ≤ key → key ≤ 266 → ⊥
+  pub not-268 : key ≡ 268 → ⊥
 
 -- 5: a lock is set, and the key is not 268.
 pub data Line5 (key : ℕ) (s : State) : Type 0 where
