@@ -32,9 +32,9 @@ pub fn run(program: &[String], input: &[u8]) -> Result<Vec<u8>, String> {
     Ok(bytes)
 }
 
-struct Comparison<'a> {
-    mode: Mode,
-    program: &'a [String],
+pub struct Comparison<'a> {
+    pub mode: Mode,
+    pub program: &'a [String],
 }
 
 impl Comparison<'_> {
@@ -101,10 +101,10 @@ impl Comparison<'_> {
     }
 
     /// What differs, on a short input.
-    fn show(&self, input: &[u8]) -> Result<(), String> {
+    pub fn show(&self, input: &[u8]) -> Result<(), String> {
         let short = self.shortest(input)?;
         println!("short input:\n{}", String::from_utf8_lossy(&short));
-        report(&self.mode.run(&short), &run(self.program, &short)?);
+        report(["second", "other "], &self.mode.run(&short), &run(self.program, &short)?);
         Ok(())
     }
 }
@@ -120,18 +120,19 @@ fn show(name: &str, line: Option<&[u8]>, around: usize) {
     println!("{name}: {text}");
 }
 
-fn report(mine: &[u8], theirs: &[u8]) {
-    let (mut ours, mut other) = (lines(mine), lines(theirs));
+/// The first line in which two outputs that differ do so.
+pub fn report(names: [&str; 2], one: &[u8], other: &[u8]) {
+    let (mut one, mut other) = (lines(one), lines(other));
     for number in 1.. {
-        let (a, b) = (ours.next(), other.next());
+        let (a, b) = (one.next(), other.next());
         if a == b && a.is_some() {
             continue;
         }
         let (x, y) = (a.unwrap_or_default(), b.unwrap_or_default());
         let column = x.iter().zip(y).take_while(|(x, y)| x == y).count();
         println!("outputs differ at line {number}, character {}", column + 1);
-        show("second", a, column);
-        show("other ", b, column);
+        show(names[0], a, column);
+        show(names[1], b, column);
         return;
     }
 }

@@ -5,9 +5,9 @@ use std::time::Instant;
 
 const ROOM: usize = 65_536;
 
-/// The state in 194 bytes, as docs/PANEL.md lays out a record.
+/// The state in 195 bytes, as docs/PANEL.md lays out a record.
 pub fn record(state: &State) -> Vec<u8> {
-    let flags = [state.erasure, state.manual, state.soft].map(u8::from);
+    let flags = [state.erasure, state.full, state.manual, state.soft].map(u8::from);
     let half = &state.half;
     let mut bytes = Vec::new();
     for number in [state.rows, state.columns, state.row, state.column, state.pen] {

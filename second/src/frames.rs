@@ -8,7 +8,9 @@ pub const ROOM: usize = 65_536;
 pub const KEPT: usize = 8_192;
 /// Frame 28's number for the byte at which a command was refused; 20 up to it are the tab stops.
 pub const REFUSED_AT: usize = 180;
-pub const FIELDS: usize = REFUSED_AT + 1;
+/// Frame 28's number for the flag that makes key 266 send full blocks.
+pub const FULL: usize = 181;
+pub const FIELDS: usize = FULL + 1;
 const FILL: u8 = 0xA5;
 
 /// A program over lines: it prints what one input line gives.
@@ -71,7 +73,7 @@ pub fn lines(input: &[u8]) -> impl Iterator<Item = &[u8]> {
 }
 
 /// Pairs of upper-case digits only, at least one pair.
-fn unhex(line: &[u8]) -> Option<Vec<u8>> {
+pub fn unhex(line: &[u8]) -> Option<Vec<u8>> {
     let digit = |byte: u8| match byte {
         b'0'..=b'9' => Some(byte - b'0'),
         b'A'..=b'F' => Some(byte - b'A' + 10),
@@ -111,6 +113,17 @@ fn two(bytes: &[u8]) -> u16 {
 
 fn four(bytes: &[u8]) -> u32 {
     u32::from_be_bytes([bytes[0], bytes[1], bytes[2], bytes[3]])
+}
+
+/// A transcript's frame of host bytes.
+pub fn host_frame(bytes: &[u8]) -> Vec<u8> {
+    [&[0x01], bytes].concat()
+}
+
+/// A transcript's frame of a key; its number has two bytes there.
+pub fn key_frame(key: u32) -> Vec<u8> {
+    let [.., high, low] = key.to_be_bytes();
+    vec![0x02, high, low]
 }
 
 /// The transcript program: one terminal between good starts, none before or after a refused one.
@@ -202,7 +215,8 @@ impl Dump {
         let mut say = |text: String| out.extend_from_slice(text.as_bytes());
         say(format!("size {:05} {:05}\n", state.rows, state.columns));
         say(format!("cursor {:05} {:05}\n", state.row, state.column));
-        say(format!("pen {:04X} erasure {}\n", state.pen, flag(state.erasure)));
+        let (erasure, full) = (flag(state.erasure), flag(state.full));
+        say(format!("pen {:04X} erasure {erasure} full {full}\n", state.pen));
         let (manual, soft) = (flag(state.manual), flag(state.soft));
         say(format!("manual {manual} soft {soft} message {:05} ", state.message));
         say(format!("byte {:02X}\n", state.refused_at));
@@ -348,7 +362,7 @@ pub fn fields(state: &State) -> Vec<u16> {
     list.extend([state.message, half.kind, half.spoilt.into(), half.count].map(u16::from));
     list.extend(half.arguments);
     list.extend(state.stops.map(u16::from));
-    list.push(state.refused_at.into());
+    list.extend([u16::from(state.refused_at), state.full.into()]);
     list
 }
 
@@ -373,6 +387,7 @@ fn set_field(state: &mut State, field: u16, value: u16) -> Option<()> {
         12..=19 => half.arguments[usize::from(field) - 12] = value,
         20..=179 => state.stops[usize::from(field) - 20] = flag,
         180 => state.refused_at = byte?,
+        181 => state.full = flag,
         _ => return None,
     }
     Some(())

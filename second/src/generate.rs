@@ -1,8 +1,8 @@
 //! Random transcripts. The generator runs its own terminal beside, to aim at forms and lift locks.
 
-use crate::frames::{put_hex, Program, Session};
+use crate::frames::{host_frame, key_frame, put_hex, Program, Session};
 use crate::random::Random;
-use crate::streams::{any_size, Stream};
+use crate::streams::{any_size, Part, Stream, PROBES};
 use crate::terminal::{COLUMNS, ROWS};
 use std::collections::VecDeque;
 
@@ -13,6 +13,8 @@ struct Generator {
     /// Host bytes still to be put in frames, and keys still to be pressed.
     host: VecDeque<u8>,
     keys: VecDeque<u32>,
+    /// Whole frames still to come, where host bytes and keys keep their order.
+    frames: VecDeque<Vec<u8>>,
     /// The keys are for the page as the host bytes leave it, and wait for them.
     keys_wait: bool,
     /// The host bytes go out a few at a time, so that a dump shows each of their refusals.
@@ -33,10 +35,11 @@ pub fn transcript(seed: u64, frames: usize) -> Vec<u8> {
         text: Vec::new(),
         host: VecDeque::new(),
         keys: VecDeque::new(),
+        frames: VecDeque::new(),
         keys_wait: false,
         few_at_once: false,
         first_size,
-        step: seed as usize % 128 * 12,
+        step: seed as usize % 128 * (PROBES / 128),
         dense: first_size == (48, 160) && seed / 9 % 2 == 0,
     };
     for _ in 0..frames {
@@ -62,12 +65,11 @@ impl Generator {
     }
 
     fn host_frame(&mut self, bytes: &[u8]) {
-        self.emit(&[&[0x01], bytes].concat());
+        self.emit(&host_frame(bytes));
     }
 
     fn key_frame(&mut self, key: u32) {
-        let [.., high, low] = key.to_be_bytes();
-        self.emit(&[0x02, high, low]);
+        self.emit(&key_frame(key));
     }
 
     fn stream(&mut self) -> Stream<'_> {
@@ -122,11 +124,12 @@ impl Generator {
         self.emit(&[0x00, rows, columns]);
     }
 
-    /// The page is painted, then whole blocks follow, so that two don't fit in one call.
+    /// The page is painted, then whole blocks follow, so that two don't fit in one call; a key sends one too.
     fn frame_of_dense_page(&mut self) {
         if self.host.is_empty() {
             self.dense = false;
-            self.host = b"\x1BS".repeat(5).into();
+            self.host = [&b"\x1B[>6l"[..], &b"\x1BS".repeat(5)].concat().into();
+            self.keys.push_back(266);
             self.chunk(255);
         } else if self.random.chance(4) {
             self.keys.push_back(266);
@@ -140,6 +143,9 @@ impl Generator {
         let locked = self.session.state.manual || self.session.state.soft;
         if locked && self.random.chance(18) {
             return self.unlock();
+        }
+        if let Some(frame) = self.frames.pop_front() {
+            return self.emit(&frame);
         }
         let painting = self.host.len() > 600 || self.keys_wait;
         if !painting && !self.keys.is_empty() && self.random.chance(45) {
@@ -159,8 +165,9 @@ impl Generator {
             return self.press();
         }
         (self.keys_wait, self.few_at_once) = (false, false);
-        match self.random.below(144) {
-            130.. => {
+        match self.random.below(172) {
+            159.. => self.plan_sending(),
+            138.. => {
                 self.host = self.stream().mixed_field().into();
                 self.keys = self.stream().kind_keys().into();
                 self.keys_wait = true;
@@ -168,7 +175,7 @@ impl Generator {
             108.. => {
                 self.host = self.stream().refusals().into();
                 self.keys =
-                    self.random.pick(&[&[268][..], &[65, 268], &[255, 268], &[]]).to_vec().into();
+                    self.random.pick(&[&[268][..], &[65, 268], &[267, 268], &[]]).to_vec().into();
                 self.few_at_once = self.random.chance(50);
             }
             100.. => {
@@ -201,6 +208,20 @@ impl Generator {
             }
         }
         self.frame_of_work();
+    }
+
+    /// Short parts are cut anywhere, or after each byte.
+    fn plan_sending(&mut self) {
+        for part in self.stream().sending() {
+            match part {
+                Part::Key(key) => self.frames.push_back(key_frame(key)),
+                Part::Host(bytes) => {
+                    let short = bytes.len() < 20;
+                    let most = if short { self.random.pick(&[255, 255, 255, 4, 1]) } else { 255 };
+                    self.frames.extend(bytes.chunks(most).map(host_frame));
+                }
+            }
+        }
     }
 
     /// Several whole blocks in a frame; on a dense page of 48 by 160 two exceed the room.

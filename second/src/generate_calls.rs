@@ -1,8 +1,8 @@
 //! Random inputs for `calls`: damaged states and pages, lent lengths, rooms, long calls.
 
-use crate::frames::{fields, put_hex, Calls, Program, FIELDS, KEPT, REFUSED_AT, ROOM};
+use crate::frames::{fields, put_hex, Calls, Program, FIELDS, FULL, KEPT, REFUSED_AT, ROOM};
 use crate::random::Random;
-use crate::streams::{any_size, Stream, BEGUN};
+use crate::streams::{any_size, Part, Stream, BEGUN, PROBES};
 use crate::terminal::{self, ALPHABETIC, COLUMNS, MODIFIED, NUMERIC, PROTECTED, ROWS};
 use std::collections::VecDeque;
 use std::ops::Range;
@@ -43,7 +43,7 @@ pub fn calls(seed: u64, frames: usize) -> Vec<u8> {
 }
 
 /// Damage everywhere, in order: every cell's character and mark, every part of the state, every kind of half-read record,
-/// every byte beside every message; then every byte outside a sequence and after each beginning of one;
+/// every byte beside every message; then every byte outside a sequence and after each beginning of one, read or set;
 /// on two other sizes the cells and parts that depend on the size; last every character at every kind of cell,
 /// and on all sizes every two kinds at once and every bit without a name.
 pub fn sweep() -> Vec<u8> {
@@ -53,6 +53,7 @@ pub fn sweep() -> Vec<u8> {
     sweep.half_read();
     sweep.messages();
     sweep.bytes();
+    sweep.bytes_after_records();
     for (rows, columns) in [(27, 132), (48, 160)] {
         sweep.cells(rows, columns, 97);
         sweep.parts(rows, columns, 0..4);
@@ -180,7 +181,7 @@ impl Sweep {
             let values = match number {
                 0..=3 => vec![0, 1, rows, rows + 1, columns, columns + 1, 48, 160, 65_535],
                 4 => vec![1, 2, 3, 4, 32, 124, 127, 128, 130, 252, 255, 256, 380, 511, 65_535],
-                8 | 9 | 11 => vec![1, 2, 3, 4, 5, 32, 127, 128, 255],
+                8 | 9 | 11 => vec![1, 2, 3, 4, 5, 6, 32, 127, 128, 255],
                 REFUSED_AT => vec![1, 127, 128, 255, 256],
                 12..=19 => vec![1, 9_999, 10_000, 65_535],
                 _ => vec![1, 65_535],
@@ -196,7 +197,7 @@ impl Sweep {
 
     /// Half-read records of every kind, with an argument at a place that the count reaches or not.
     fn half_read(&mut self) {
-        for kind in [0, 1, 2, 3, 4, 255] {
+        for kind in [0, 1, 2, 3, 4, 5, 6, 255] {
             for spoilt in [0, 1] {
                 for count in [0, 1, 2, 8, 9] {
                     self.emit(&field(9, kind));
@@ -231,6 +232,21 @@ impl Sweep {
                 self.emit(&[&[0x21], begun, &[byte]].concat());
             }
         }
+    }
+
+    /// Nothing or the private mark behind ESC [, set by hand: every byte, with a send mode that `h` and `l` switch.
+    fn bytes_after_records(&mut self) {
+        for (kind, argument) in [(4, 0), (5, 0), (5, 6), (5, 9_999)] {
+            for byte in 0..=255 {
+                for (number, value) in [(9, kind), (10, 0), (11, 1), (12, argument)] {
+                    self.emit(&field(number, value));
+                }
+                self.emit(&field(FULL, u16::from(byte < b'l')));
+                self.emit(&[0x21, byte]);
+                self.emit(&[0x21, 0x18]);
+            }
+        }
+        self.emit(b"\x21\x1B[>6l\x1Bc");
     }
 
     /// No argument, then one at a time.
@@ -297,7 +313,9 @@ impl Generator {
         if !self.plan.is_empty() {
             return;
         }
-        match self.random.below(150) {
+        match self.random.below(180) {
+            166.. => self.plan_private(),
+            150.. => self.plan_sending(),
             146.. => self.plan_long(),
             138.. => self.plan_damage(),
             131.. => self.plan_mixed_field(),
@@ -457,7 +475,7 @@ impl Generator {
                     continue;
                 }
                 _ => {
-                    let number = self.random.pick(&[0, 1, 2, 3, 4, 5, 6, 7, 8, REFUSED_AT]);
+                    let number = self.random.pick(&[0, 1, 2, 3, 4, 5, 6, 7, 8, REFUSED_AT, FULL]);
                     field(number, self.odd_value(number))
                 }
             };
@@ -512,11 +530,19 @@ impl Generator {
         }
     }
 
-    /// A half-read record, most often one that could have been read, or nearly so.
     fn push_half(&mut self) {
-        let kind = self.random.pick(&[0, 1, 2, 3, 3, 3, 3, 4, 255]);
+        let kind = self.random.pick(&[0, 1, 2, 3, 3, 3, 3, 4, 5, 5, 6, 255]);
+        self.push_half_of(kind, 60);
+    }
+
+    /// A half-read record that could have been read, but for one part in so many of a hundred.
+    fn push_half_of(&mut self, kind: u16, odd: usize) {
         let mut values = [0u16; 11];
         values[0] = kind;
+        values[2] = u16::from(kind == 4 || kind == 5);
+        if kind == 5 {
+            values[3] = self.random.pick(&[0, 6, 6, 6, 1, 66, 999, 9_999]);
+        }
         if kind == 3 {
             values[1] = u16::from(self.random.chance(30));
             let most = if values[1] == 1 { 1 } else { 8 };
@@ -526,7 +552,7 @@ impl Generator {
                 *value = self.random.pick(&[0, 1, 2, 5, 6, 9_999, 24, 80]);
             }
         }
-        if self.random.chance(60) {
+        if self.random.chance(odd) {
             let place = self.random.between(1, 10);
             values[place] = match place {
                 1 => 1,
@@ -537,6 +563,37 @@ impl Generator {
         let now = fields(&self.calls.state);
         for (place, &value) in values.iter().enumerate() {
             self.push_if(now[9 + place] != value, field(9 + place, value));
+        }
+    }
+
+    /// A record of nothing or the private mark behind ESC [, right or damaged; bytes that end it, and a block.
+    fn plan_private(&mut self) {
+        let kind = self.random.pick(&[4, 5, 5]);
+        self.push_half_of(kind, 35);
+        let full = self.random.pick(&[0, 1, 1, 256, 65_535]);
+        self.push(field(FULL, full));
+        let rest = self.random.pick(&[
+            "h", "l", "h", "l", "6h", "6l", ">6h", ">6l", "06h", "0>6l", ">", ";h", "m", "n", " l",
+            ">h", "9999h", "10006l", "\x18l", "\x00h", "\x1B[>6l", "\x7F", "",
+        ]);
+        let most = self.random.pick(&[255, 1]);
+        for part in rest.as_bytes().chunks(most) {
+            self.push([&[0x21][..], part].concat());
+        }
+        let key = self.random.pick(&[268, 65, 266, 267]);
+        self.push(long(0x23, key));
+        self.push(long(0x23, 266));
+    }
+
+    fn plan_sending(&mut self) {
+        for part in self.stream().sending() {
+            match part {
+                Part::Key(key) => self.push(long(0x23, key as usize)),
+                Part::Host(bytes) => {
+                    let most = self.random.pick(&[255, 255, 7, 2]);
+                    bytes.chunks(most).for_each(|part| self.push([&[0x21][..], part].concat()));
+                }
+            }
         }
     }
 
@@ -601,7 +658,7 @@ impl Generator {
                     self.push(field(4, pen));
                 }
                 3 => {
-                    let number = self.random.between(5, 7);
+                    let number = self.random.pick(&[5, 6, 7, FULL]);
                     self.push(field(number, 0));
                 }
                 4 => {
@@ -619,27 +676,30 @@ impl Generator {
                     let value = self.random.pick(&[0, 1, 1, 2, 65_535]);
                     self.push(field(number, value));
                 }
-                _ => self.push(field(5, 1)),
+                _ => {
+                    let number = self.random.pick(&[5, FULL]);
+                    self.push(field(number, 1));
+                }
             }
         }
         self.push_call();
     }
 
-    /// The length of the block that a call would send now.
-    fn block_length(&self, key: u32) -> usize {
+    /// The length of the block, full or changed, that key 266 would send now.
+    fn block_length(&self, full: bool) -> usize {
         let (mut state, lent) = (self.calls.state.clone(), self.calls.lent);
         let mut characters = self.calls.characters[..lent.0].to_vec();
         let mut marks = self.calls.marks[..lent.1].to_vec();
-        (state.manual, state.soft) = (false, false);
+        (state.full, state.manual, state.soft) = (full, false, false);
         let mut output = vec![0; ROOM];
-        terminal::key(&mut state, &mut characters, &mut marks, key, &mut output).sent
+        terminal::key(&mut state, &mut characters, &mut marks, 266, &mut output).sent
     }
 
     /// A room around a block's length, calls that send, and the large room again.
     fn plan_room(&mut self) {
-        let key = self.random.pick(&[266, 266, 267]);
-        let length = self.block_length(key);
-        let full = self.block_length(267);
+        let by_key_full = self.random.chance(40);
+        let length = self.block_length(by_key_full);
+        let full = self.block_length(true);
         let room = match self.random.below(12) {
             0 => 0,
             1 => 1,
@@ -653,6 +713,11 @@ impl Generator {
             _ => self.random.between(10, ROOM),
         };
         self.push(long(0x25, room.min(ROOM)));
+        match self.random.below(3) {
+            0 => self.push(field(FULL, by_key_full.into())),
+            _ if by_key_full => self.push(b"\x21\x18\x1B[>6l".to_vec()),
+            _ => self.push(b"\x21\x18\x1B[>6h".to_vec()),
+        }
         if self.random.chance(50) {
             self.push(field(6, 0));
             self.push(field(7, 0));
@@ -663,7 +728,7 @@ impl Generator {
                 1 => self.push([&[0x21][..], b"A\x1B[5n\x1BSB\x1B[6n"].concat()),
                 2 => self.push([&[0x21][..], b"\x1BS\x1B[6n\x1BSC"].concat()),
                 3 => self.push([&[0x21][..], b"\x1BS\x1BS\x1B[99dD"].concat()),
-                _ => self.push(long(0x23, key as usize)),
+                _ => self.push(long(0x23, 266)),
             }
         }
         if self.random.chance(70) {
@@ -771,7 +836,7 @@ impl Generator {
         let bytes = match self.random.below(10) {
             0 | 1 => self.stream().probe(),
             2 | 3 => {
-                let step = self.random.below(6 * 256);
+                let step = self.random.below(PROBES);
                 self.stream().probe_byte(step)
             }
             _ => self.stream().scene(),
@@ -785,7 +850,7 @@ impl Generator {
     fn plan_bad_line(&mut self) {
         let line: Vec<u8> = match self.random.below(18) {
             17 => self.random.pick(&["27000041", "2700004100FF", "270000", "28000401"]).into(),
-            16 => self.random.pick(&["2800B40100", "2800B4FFFF", "2800B400"]).into(),
+            16 => self.random.pick(&["2800B40100", "2800B4FFFF", "2800B400", "2800B501"]).into(),
             0 => b"".to_vec(),
             1 => b"2141\r".to_vec(),
             2 => b"21 41".to_vec(),
@@ -798,7 +863,7 @@ impl Generator {
             9 => self.random.pick(&["2420010000", "2400002001", "2500010001", "25FFFFFFFF"]).into(),
             10 => self.random.pick(&["26200041", "2720000041", "26FFFF20", "27FFFF0000"]).into(),
             11 => {
-                self.random.pick(&["2800B50001", "28FFFF0001", "2801000000", "28000B0100"]).into()
+                self.random.pick(&["2800B60001", "28FFFF0001", "2801000000", "28000B0100"]).into()
             }
             12 => self.random.pick(&["2800080100", "2800080101", "280009FFFF", "28000B01"]).into(),
             13 => self.random.pick(&["220001000241", "22FFFFFFFF41", "2200"]).into(),

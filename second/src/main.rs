@@ -1,5 +1,6 @@
-//! A second terminal after document 01, M-101, M-102 and M-103, to be compared byte for byte with another.
+//! A second terminal after document 01, M-101, M-102, M-103 and M-106, to be compared byte for byte with another.
 
+mod bytes;
 mod compare;
 mod feed;
 mod frames;
@@ -24,6 +25,7 @@ const USAGE: &str = "usage: second [--wrong N] COMMAND
   compare MODE PROGRAM.. -- SEED_FROM SEED_COUNT FRAMES
   sweep PROGRAM..                                   its `calls`, with damage everywhere and every byte in turn
   rooms PROGRAM..                                   its `calls`, at every room up to a message's length
+  bytes PROGRAM..                                   its `dump`, every byte after beginnings of ESC [ > 6, whole and cut
   stream FILE ROWS COLUMNS CALL BYTES               that many of the file's bytes, in calls of one length, timed
   teeth SEED_FROM SEED_COUNT FRAMES";
 
@@ -67,6 +69,7 @@ fn run(arguments: &[String]) -> Result<bool, String> {
         }
         ["sweep", _, ..] => compare::sweep(&arguments[1..]),
         ["rooms", _, ..] => rooms::rooms(&arguments[1..]),
+        ["bytes", _, ..] => bytes::bytes(&arguments[1..]),
         ["stream", file, rows, columns, call, bytes] => {
             let [rows, columns] =
                 [number(rows)?, number(columns)?].map(|n| u16::try_from(n).unwrap_or(0));

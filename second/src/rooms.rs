@@ -132,9 +132,17 @@ fn nothing(before: &Told, after: &Told) -> bool {
         && other_state(after) == other_state(before)
 }
 
+/// Key 266 sends changed blocks with the send mode set and full ones with it reset.
+const SET: &[u8] = b"\x1B[>6h";
+const RESET: &[u8] = b"\x1B[>6l";
+
 /// A call that sends a message: a key, or a command of the host.
 struct Message {
     name: &'static str,
+    /// The frame before it, which sets or resets the send mode.
+    mode: String,
+    /// It is a full block, and so the same as every other one of the page.
+    full: bool,
     whole: String,
     /// Of a command: its bytes but the last, and the last.
     parts: Option<(String, String)>,
@@ -142,25 +150,36 @@ struct Message {
     before_last: usize,
 }
 
-fn key(name: &'static str, number: usize) -> Message {
-    Message { name, whole: format!("23{number:08X}"), parts: None, before_last: 0 }
+fn host(bytes: &[u8]) -> String {
+    format!("21{}", hex(bytes))
 }
 
-fn command(name: &'static str, bytes: &[u8]) -> Message {
-    let host = |bytes: &[u8]| format!("21{}", hex(bytes));
+fn key(name: &'static str, mode: &[u8], number: usize) -> Message {
+    let whole = format!("23{number:08X}");
+    Message { name, mode: host(mode), full: mode == RESET, whole, parts: None, before_last: 0 }
+}
+
+fn command(name: &'static str, mode: &[u8], bytes: &[u8]) -> Message {
     let before_last = bytes.len() - 1;
     let parts = Some((host(&bytes[..before_last]), host(&bytes[before_last..])));
-    Message { name, whole: host(bytes), parts, before_last }
+    let full = bytes == b"\x1BS";
+    Message { name, mode: host(mode), full, whole: host(bytes), parts, before_last }
 }
 
 fn messages() -> Vec<Message> {
     vec![
-        key("key 266", 266),
-        key("key 267", 267),
-        command("ESC S", b"\x1BS"),
-        command("ESC [ 5 n", b"\x1B[5n"),
-        command("ESC [ 6 n", b"\x1B[6n"),
+        key("key 266, changed", SET, 266),
+        key("key 266, full", RESET, 266),
+        command("ESC S, 266 changed", SET, b"\x1BS"),
+        command("ESC S, 266 full", RESET, b"\x1BS"),
+        command("ESC [ 5 n", SET, b"\x1B[5n"),
+        command("ESC [ 6 n", RESET, b"\x1B[6n"),
     ]
+}
+
+/// The page with the send mode as the message needs it.
+fn painting(page: &Page, message: &Message) -> Vec<String> {
+    page.frames.iter().chain([&message.mode]).cloned().collect()
 }
 
 fn room(bytes: usize) -> String {
@@ -196,9 +215,9 @@ struct Known {
 fn learn(program: &[String], page: &Page, message: &Message) -> Result<Known, String> {
     let first = message.parts.iter().map(|(first, _)| first.clone()).collect();
     let groups = [
-        page.frames.clone(),
+        painting(page, message),
         vec![room(ENOUGH), message.whole.clone()],
-        page.frames.clone(),
+        painting(page, message),
         first,
     ];
     let told = tell(program, &groups)?;
@@ -228,12 +247,12 @@ fn lacking(message: &Message, known: &Known, told: &[Told]) -> Result<(), String
 }
 
 /// Every room up to the message's length, one after the other on one page, which is put back after each.
-fn every_room(program: &[String], page: &Page, message: &Message) -> Result<usize, String> {
+fn every_room(program: &[String], page: &Page, message: &Message) -> Result<Told, String> {
     let known = learn(program, page, message)?;
     let length = known.whole.sent;
     ensure(known.whole.number == "00" && length > 0, "no message")?;
     let back = back(&known.painted, &known.whole);
-    let mut groups = vec![page.frames.clone()];
+    let mut groups = vec![painting(page, message)];
     for bytes in 0..=length {
         let mut frames = vec![room(bytes), message.whole.clone()];
         if let Some((_, rest)) = message.parts.as_ref().filter(|_| bytes < length) {
@@ -248,19 +267,25 @@ fn every_room(program: &[String], page: &Page, message: &Message) -> Result<usiz
     for (bytes, told) in told[1..=length].iter().enumerate() {
         lacking(message, &known, told).map_err(|error| format!("room {bytes}: {error}"))?;
     }
-    ensure(told[length + 1] == [known.whole], &format!("room {length}: not as with more room"))?;
-    Ok(length)
+    let as_with_more = told[length + 1][..] == [known.whole.clone()];
+    ensure(as_with_more, &format!("room {length}: not as with more room"))?;
+    Ok(known.whole)
 }
 
 /// True if every room is answered as document 01 says.
 pub fn rooms(program: &[String]) -> Result<bool, String> {
     for page in pages() {
+        let mut full_block = None;
         for message in messages() {
             let place =
                 format!("{} ({} by {}), {}", page.name, page.rows, page.columns, message.name);
-            let length = every_room(program, &page, &message)
+            let whole = every_room(program, &page, &message)
                 .map_err(|error| format!("{place}: {error}"))?;
-            println!("{place}: rooms 0 to {length}");
+            println!("{place}: rooms 0 to {}", whole.sent);
+            if message.full {
+                let first = full_block.get_or_insert_with(|| whole.bytes.clone());
+                ensure(*first == whole.bytes, &format!("{place}: not the full block"))?;
+            }
         }
     }
     Ok(true)

@@ -8,7 +8,9 @@ const FINALS: &[u8] = b"ABCDEFGdHfIZWJKmhlnoHfmJKGo";
 const UNLISTED: &[u8] = b"@LMNOPQRSTUVXY[\\]^_`abcegijkpqrstuvwxyz{|}~";
 const UNLISTED_AFTER_ESCAPE: &[u8] =
     b"0123456789:;<=>?@ABCFGIJKLNOPQRTUXYZ\\]^_adefghijklmnopqrstuvwxyz{|}~";
-const UNKNOWN_KEYS: &[u32] = &[0, 1, 13, 27, 31, 127, 128, 200, 255, 269, 270, 288, 512, 65_535];
+/// 267 above all, the send key that M-106 took away.
+const UNKNOWN_KEYS: &[u32] =
+    &[267, 267, 267, 267, 0, 1, 13, 27, 31, 127, 128, 200, 255, 269, 270, 288, 512, 65_535];
 const NOISE: &[u8] = &[
     0x00, 0x07, 0x08, 0x09, 0x0A, 0x0B, 0x0D, 0x0E, 0x17, 0x18, 0x19, 0x1A, 0x1B, 0x1C, 0x1F, 0x7F,
     0x80, 0x84, 0x85, 0x8D, 0x9A, 0x9B, 0xA0, 0xFF,
@@ -32,6 +34,21 @@ const UNPROTECTED_KINDS: &[(&str, &[u8])] = &[
     ("\x1B[4o", LETTERS),
 ];
 
+/// The send mode's commands as they are taken: the number is read by its value.
+const SEND_MODES: &[&str] =
+    &[">6h", ">6l", ">6h", ">6l", ">6h", ">6l", ">06h", ">06l", ">0006h", ">0000000006l"];
+/// One thing is wrong with it: the number, the mark or its place, the final byte, an argument more.
+pub const NEARLY_SEND_MODES: &[&str] = &[
+    ">5h", ">5l", ">h", ">l", ">6;h", ">6;l", "0>6h", "0>6l", "6>h", "6>l", ">>6h", ">6m",
+    ">10006h", ">10006l", ";>6h", ">6 l", "?6h",
+];
+/// Further off, or wrong at another place.
+pub const HARDLY_SEND_MODES: &[&str] = &[
+    ">7l", ">66h", ">60l", ">0h", ">9999h", ">65542l", ">6;6h", ">;6l", ">;h", "00>6h", "6>6h",
+    "6;>6l", "6;>h", ">6>l", "?>6h", ">?6l", "<6l", "=6h", ">6n", ">6H", ">6o", ">6L", ">6i",
+    ">4m", ">19h", "> 6h", ">6 h", ">6:l", ">6?h", ">6=l", ">6!h",
+];
+
 /// Beginnings of a sequence of each kind, spoilt or not, with enough arguments and with too many.
 pub const BEGUN: &[&str] = &[
     "\x1B",
@@ -45,7 +62,24 @@ pub const BEGUN: &[&str] = &[
     "\x1B[5 ",
     "\x1B[10000",
     "\x1B[;;;;;;;;1",
+    "\x1B[>",
+    "\x1B[>6",
+    "\x1B[>06",
+    "\x1B[>6;",
+    "\x1B[>10006",
+    "\x1B[0>6",
 ];
+
+/// Sorts of beginnings that `probe_byte` puts a byte behind.
+const SORTS_OF_BEGINNINGS: usize = 8;
+/// Its steps through every byte behind every sort.
+pub const PROBES: usize = 256 * SORTS_OF_BEGINNINGS;
+
+/// Host bytes or a key, in a scene where their order matters.
+pub enum Part {
+    Host(Vec<u8>),
+    Key(u32),
+}
 
 /// A key to type: any, or one that some kind of cell takes or nearly does.
 fn typed(random: &mut Random) -> u32 {
@@ -514,7 +548,8 @@ impl<'a> Stream<'a> {
 
     fn command(&mut self) {
         match self.random.below(100) {
-            0..=69 => self.sequence(15),
+            0..=65 => self.sequence(15),
+            66..=69 => self.private_form(),
             70..=78 => self.escape(b'V'),
             79..=84 => self.escape(b'W'),
             85 | 86 => self.escape(b'c'),
@@ -533,7 +568,8 @@ impl<'a> Stream<'a> {
     /// A sequence with something in it that spoils, drops or restarts it.
     fn broken(&mut self) {
         let before = self.bytes.len();
-        match self.random.below(8) {
+        match self.random.below(10) {
+            8 | 9 => self.private_form(),
             0 => {
                 let byte = self.random.between(0x30, 0x7E) as u8;
                 self.escape(byte);
@@ -563,15 +599,118 @@ impl<'a> Stream<'a> {
             }
             _ => self.command(),
         }
-        if self.random.chance(65) && self.bytes.len() > before + 1 {
-            let place = self.random.between(before + 1, self.bytes.len() - 1);
-            let byte = match self.random.below(4) {
-                0 => self.random.between(0x20, 0x2F) as u8,
-                1 => self.random.pick(b":<=>?:?"),
-                2 => self.random.pick(NOISE),
-                _ => self.random.byte(),
-            };
-            self.bytes.insert(place, byte);
+        if self.random.chance(65) {
+            self.put_in_a_byte(before);
+        }
+    }
+
+    /// Behind the ESC of the sequence that begins there.
+    fn put_in_a_byte(&mut self, begins: usize) {
+        if self.bytes.len() < begins + 2 {
+            return;
+        }
+        let place = self.random.between(begins + 1, self.bytes.len() - 1);
+        let byte = match self.random.below(4) {
+            0 => self.random.between(0x20, 0x2F) as u8,
+            1 => self.random.pick(b":<=>?:?"),
+            2 => self.random.pick(NOISE),
+            _ => self.random.byte(),
+        };
+        self.bytes.insert(place, byte);
+    }
+
+    fn send_mode(&mut self) {
+        let form = self.random.pick(SEND_MODES);
+        self.put(format!("\x1B[{form}").as_bytes());
+    }
+
+    /// A command for the send mode or nearly one, some with a byte in it that breaks it.
+    fn private_form(&mut self) {
+        let begins = self.bytes.len();
+        let forms = self.random.pick(&[
+            SEND_MODES,
+            NEARLY_SEND_MODES,
+            NEARLY_SEND_MODES,
+            HARDLY_SEND_MODES,
+        ]);
+        let form = self.random.pick(forms);
+        self.put(format!("\x1B[{form}").as_bytes());
+        if self.random.chance(20) {
+            self.put_in_a_byte(begins);
+        }
+    }
+
+    /// Erasure mode has the send mode's number: commands for both, and an erasure that tells them apart.
+    fn both_modes(&mut self) {
+        for _ in 0..self.random.between(2, 4) {
+            let form = self.random.pick(&["6h", "6l", ">6h", ">6l", "6;6h", ">06l"]);
+            self.put(format!("\x1B[{form}").as_bytes());
+        }
+        if self.random.chance(60) {
+            self.aim();
+            let part = self.random.pick(&["K", "1K", "2K"]);
+            self.put(format!("\x1B[{part}").as_bytes());
+        }
+    }
+
+    /// What may switch the send mode, or must not.
+    fn switch(&mut self) {
+        match self.random.below(20) {
+            0..=7 => self.send_mode(),
+            8..=12 => self.private_form(),
+            13..=15 => self.both_modes(),
+            16 => self.put(b"\x1B[>6l\x1Bc"),
+            17 => self.put(b"\x1B[>6l\x1Bc\x1B[2;2H\x1BV|\x1BW\x1B[H"),
+            18 => self.put(b"\x1B`\x1B[>6l\x1Bb"),
+            _ => self.put(b"\x1B[>6h\x1B[>6l\x1B[99d"),
+        }
+    }
+
+    /// The host bytes so far become a part of their own.
+    fn end_part(&mut self, parts: &mut Vec<Part>) {
+        parts.push(Part::Host(std::mem::take(&mut self.bytes)));
+    }
+
+    /// Changes, switches of the send mode, and blocks by key and by command, on two fields or more.
+    pub fn sending(mut self) -> Vec<Part> {
+        let mut parts = Vec::new();
+        self.escape(b'b');
+        for _ in 0..self.random.between(1, 2) {
+            self.aim();
+            self.put(b"\x1BV|\x1BW");
+        }
+        self.end_part(&mut parts);
+        for _ in 0..self.random.between(2, 3) {
+            self.change_and_send(&mut parts);
+        }
+        parts
+    }
+
+    fn change_and_send(&mut self, parts: &mut Vec<Part>) {
+        if self.random.chance(30) {
+            self.switch();
+            self.end_part(parts);
+        }
+        if self.random.chance(40) {
+            self.aim();
+            self.end_part(parts);
+        }
+        for _ in 0..self.random.below(3) {
+            parts.push(Part::Key(typed(self.random)));
+        }
+        if self.random.chance(70) {
+            self.switch();
+            self.end_part(parts);
+        }
+        // What was refused locks the keys.
+        if self.random.chance(60) {
+            parts.push(Part::Key(268));
+        }
+        match self.random.below(10) {
+            0..=5 => parts.push(Part::Key(266)),
+            6 => parts.extend([Part::Key(266), Part::Key(266)]),
+            7 => parts.push(Part::Key(267)),
+            _ => parts.push(Part::Host(b"\x1BS".to_vec())),
         }
     }
 
@@ -583,6 +722,7 @@ impl<'a> Stream<'a> {
             // Without a row the column isn't kept.
             0 => self.put(b"\x1B[f"),
             1 => self.put(b"\x1B[;f"),
+            2..=5 => self.private_form(),
             _ => self.sequence(45),
         }
         self.bytes
@@ -594,19 +734,21 @@ impl<'a> Stream<'a> {
         if self.random.chance(60) {
             self.aim();
         }
-        let before = match step % 6 {
+        let before = match step % SORTS_OF_BEGINNINGS {
             0 => "",
             1 => "\x1B",
             2 => self.random.pick(&["\x1B#", "\x1B (", "\x1B/"]),
             3 => "\x1B[",
             4 => self.random.pick(&["\x1B[3", "\x1B[2;", "\x1B[;;;;;;;", "\x1B[9999", "\x1B[6;6"]),
+            5 => "\x1B[>",
+            6 => self.random.pick(&["\x1B[>6", "\x1B[>6", "\x1B[>0", "\x1B[>06", "\x1B[>9999"]),
             _ => self.random.pick(&["\x1B[?", "\x1B[1 ", "\x1B[10000", "\x1B[;;;;;;;;", "\x1B[4:"]),
         };
         self.put(before.as_bytes());
-        self.put(&[(step / 6 % 256) as u8]);
+        self.put(&[(step / SORTS_OF_BEGINNINGS % 256) as u8]);
         if self.random.chance(40) {
             let after =
-                self.random.pick(&["m", "5", "0n", "4;H", "H", ";1m", "C", "A", "\x18", "h"]);
+                self.random.pick(&["m", "5", "0n", "4;H", "H", ";1m", "C", "\x18", "h", "l", "6h"]);
             self.put(after.as_bytes());
         }
         self.bytes
@@ -736,12 +878,13 @@ impl<'a> Stream<'a> {
     }
 
     fn refusal(&mut self) {
-        match self.random.below(13) {
-            0 | 1 => self.unknown(),
-            2 | 3 => self.too_many(),
-            4 | 5 => self.value_not_allowed(),
-            6..=8 => self.spoilt(),
-            9 | 10 => self.broken_off(),
+        match self.random.below(15) {
+            0..=3 => self.unknown(),
+            4 | 5 => self.too_many(),
+            6 | 7 => self.value_not_allowed(),
+            8 | 9 => self.spoilt(),
+            10 => self.private_form(),
+            11 | 12 => self.broken_off(),
             _ => self.high(),
         }
     }
@@ -861,7 +1004,9 @@ impl<'a> Stream<'a> {
 
     /// One scene of a host's work.
     pub fn scene(mut self) -> Vec<u8> {
-        match self.random.below(100) {
+        match self.random.below(105) {
+            100..=102 => self.private_form(),
+            103.. => self.both_modes(),
             0..=20 => self.form(),
             21..=24 => self.dense_rows(),
             25..=45 => {
@@ -900,7 +1045,7 @@ impl<'a> Stream<'a> {
             }
             keys.push(random.between(260, 265) as u32);
         }
-        keys.push(random.pick(&[266, 266, 267]));
+        keys.push(266);
         keys
     }
 
@@ -920,7 +1065,7 @@ impl<'a> Stream<'a> {
             keys.extend([263, typed(random)]);
         }
         if random.chance(40) {
-            keys.push(random.pick(&[266, 266, 267]));
+            keys.push(266);
         }
         keys
     }
@@ -945,8 +1090,7 @@ impl<'a> Stream<'a> {
                     keys.extend([typed(random), typed(random), random.pick(&[258, 261, 256])]);
                     keys.push(random.between(263, 265) as u32);
                 }
-                15 | 16 => keys.push(266),
-                17 => keys.push(267),
+                15..=17 => keys.push(266),
                 18 => keys.push(268),
                 _ => keys.push(random.pick(UNKNOWN_KEYS)),
             }

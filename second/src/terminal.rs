@@ -1,5 +1,5 @@
-//! The terminal of document 01 with request M-101's fields, M-102's messages and M-103's numeric
-//! and alphabetic cells: page, state, host bytes, commands, keys, blocks and numbers.
+//! The terminal of document 01 with request M-101's fields, M-102's messages, M-103's numeric and
+//! alphabetic cells and M-106's send mode: page, state, host bytes, commands, keys, blocks, numbers.
 
 use crate::wrong;
 
@@ -15,12 +15,20 @@ pub const ROWS: [u16; 3] = [24, 27, 48];
 pub const COLUMNS: [u16; 3] = [80, 132, 160];
 pub const MOST_HOST_BYTES: usize = 65_536;
 const LARGEST_ARGUMENT: u16 = 9_999;
+const ERASURE_MODE: u16 = 6;
+/// The same number, but only behind the private mark.
+const SEND_MODE: u16 = 6;
 
 // Kinds of the half-read sequence.
 const NONE: u8 = 0;
 const ESCAPE: u8 = 1;
 const INTERMEDIATE: u8 = 2;
-const BRACKET: u8 = 3;
+/// After ESC [ and something that can't begin the private form any more.
+const ARGUMENTS: u8 = 3;
+/// After ESC [ alone, with an omitted argument: only here the private mark has its meaning.
+const BRACKET: u8 = 4;
+/// After ESC [ and the private mark, with one argument.
+const PRIVATE: u8 = 5;
 
 // Messages: why the last refused command was refused.
 const NO_MESSAGE: u8 = 0;
@@ -46,6 +54,8 @@ pub struct State {
     pub column: u16,
     pub pen: u16,
     pub erasure: bool,
+    /// The Unprotected/Modified mode is reset: key 266 sends a full block, not a changed one.
+    pub full: bool,
     pub manual: bool,
     pub soft: bool,
     pub message: u8,
@@ -84,22 +94,52 @@ impl Half {
 
     /// What the reader can leave: arguments not reached and unused parts 0, a spoilt one bare.
     fn sound(&self) -> bool {
-        let count = usize::from(self.count);
         match self.kind {
             NONE | ESCAPE | INTERMEDIATE => *self == Half::of(self.kind, false, 0),
-            BRACKET if self.spoilt => *self == Half::of(BRACKET, true, 1),
-            BRACKET => {
-                (1..=8).contains(&count)
-                    && self.arguments.iter().all(|&n| n <= LARGEST_ARGUMENT)
-                    && (wrong::is(40) || self.arguments[count..].iter().all(|&n| n == 0))
-            }
+            BRACKET => *self == Half::of(BRACKET, false, 1),
+            ARGUMENTS if self.spoilt => *self == Half::of(ARGUMENTS, true, 1),
+            ARGUMENTS => self.sound_arguments(8),
+            PRIVATE => !self.spoilt && self.sound_arguments(1),
             _ => false,
         }
     }
 
+    /// At least one argument and no more than this, those past the count 0.
+    fn sound_arguments(&self, most: usize) -> bool {
+        let count = usize::from(self.count);
+        (1..=most).contains(&count)
+            && self.arguments.iter().all(|&n| n <= LARGEST_ARGUMENT)
+            && (wrong::is(40) || self.arguments[count..].iter().all(|&n| n == 0))
+    }
+
+    /// A byte 20 to 3F after ESC [: it builds arguments, begins the private form, or spoils.
+    fn read_on(&mut self, byte: u8) {
+        let mark_counts = self.kind == BRACKET || wrong::is(59) && self.wrongly_like_bracket();
+        if self.kind == BRACKET {
+            self.kind = ARGUMENTS;
+        }
+        match byte {
+            b'>' if mark_counts => self.kind = PRIVATE,
+            b'0'..=b'9' => self.digit(byte - b'0'),
+            b';' if self.kind == ARGUMENTS => self.next_argument(),
+            b';' if wrong::is(60) => {}
+            _ => self.spoil(),
+        }
+    }
+
+    /// Wrong edit 59's case: all but the kind is as after ESC [ alone.
+    fn wrongly_like_bracket(&self) -> bool {
+        *self == Half::of(ARGUMENTS, false, 1)
+    }
+
+    /// Whether a private form is the one that is taken; any other is as good as spoilt.
+    fn switches_send_mode(&self, last: u8) -> bool {
+        self.kind == PRIVATE && self.arguments[0] == SEND_MODE && matches!(last, b'h' | b'l')
+    }
+
     /// Spoiling leaves one argument of 0.
     fn spoil(&mut self) {
-        *self = Half::of(BRACKET, true, 1);
+        *self = Half::of(ARGUMENTS, true, 1);
     }
 
     /// A digit builds the last argument; a number above 9,999 spoils.
@@ -141,6 +181,7 @@ impl State {
         column: 0,
         pen: 0,
         erasure: false,
+        full: false,
         manual: false,
         soft: false,
         message: NO_MESSAGE,
@@ -150,9 +191,10 @@ impl State {
         wrongly_spoilt_by: 0,
     };
 
-    /// Cursor 1;1, plain pen, no stops, erasure mode reset, no lock or message, nothing half read.
+    /// Cursor 1;1, plain pen, no stops, erasure mode reset, 266 for changed blocks, no lock or message,
+    /// nothing half read.
     fn fresh(rows: u16, columns: u16) -> State {
-        State { rows, columns, row: 1, column: 1, ..State::ZERO }
+        State { rows, columns, row: 1, column: 1, full: wrong::is(61), ..State::ZERO }
     }
 
     /// Number 2's part on the state; the size is a listed one.
@@ -296,13 +338,13 @@ pub fn key(
     if number != 0 {
         return Answer::nothing(number);
     }
-    let unknown = !matches!(key, 32..=126 | 256..=268);
+    let known = matches!(key, 32..=126 | 256..=266 | 268) || key == 267 && wrong::is(57);
     let refused = state.locked() && key != 268;
     let mut screen = Screen { state, characters, marks, output, sent: 0, stored: 0 };
     let needs = screen.key_lacks_its_cell(key);
-    let number = match (unknown, refused, needs) {
-        (true, true, _) if wrong::is(16) => 5,
-        (true, _, _) => 4,
+    let number = match (known, refused, needs) {
+        (false, true, _) if wrong::is(16) => 5,
+        (false, _, _) => 4,
         (_, true, true) if wrong::is(18) => 7,
         (_, true, _) => 5,
         (_, _, true) if wrong::is(54) && screen.key_meets_untaking_cell(key) => 8,
@@ -489,7 +531,7 @@ impl Screen<'_> {
                 ESCAPE => return self.after_escape(byte),
                 INTERMEDIATE if byte < 0x30 => {}
                 INTERMEDIATE => self.refuse(UNKNOWN, byte),
-                BRACKET => return self.after_bracket(byte),
+                ARGUMENTS | BRACKET | PRIVATE => return self.after_bracket(byte),
                 _ => self.text(byte),
             },
         }
@@ -591,7 +633,7 @@ impl Screen<'_> {
             b'V' => self.set_pen_kind(PROTECTED),
             b'W' if wrong::is(53) => self.set_pen_kind(self.state.pen & NUMERIC),
             b'W' => self.set_pen_kind(0),
-            b'S' => self.send_block(false)?,
+            b'S' => self.send_block(wrong::is(58) && !self.state.full)?,
             b'c' => self.as_fresh(),
             b'`' => self.state.manual = true,
             b'b' => {
@@ -609,12 +651,15 @@ impl Screen<'_> {
 
     /// ESC c: page and state as a start makes them, every cell stored.
     fn as_fresh(&mut self) {
-        let stops = self.state.stops;
+        let (stops, full) = (self.state.stops, self.state.full);
         self.characters.fill(0x20);
         self.marks.fill(0);
         *self.state = State::fresh(self.state.rows, self.state.columns);
         if wrong::is(15) {
             self.state.stops = stops;
+        }
+        if wrong::is(62) {
+            self.state.full = full;
         }
         if !wrong::is(19) {
             self.stored += self.cells() as u32;
@@ -623,13 +668,11 @@ impl Screen<'_> {
 
     /// A byte after ESC [, 20 to 7E.
     fn after_bracket(&mut self, byte: u8) -> Result<(), NoRoom> {
-        let spoilt_before = self.state.half.spoilt;
-        match byte {
-            b'0'..=b'9' => self.state.half.digit(byte - b'0'),
-            b';' => self.state.half.next_argument(),
-            0x00..=0x3F => self.state.half.spoil(),
-            _ => return self.finish(byte),
+        if byte >= 0x40 {
+            return self.finish(byte);
         }
+        let spoilt_before = self.state.half.spoilt;
+        self.state.half.read_on(byte);
         if wrong::is(43) && self.state.half.spoilt && !spoilt_before {
             self.state.wrongly_spoilt_by = byte;
         }
@@ -638,10 +681,14 @@ impl Screen<'_> {
 
     /// The final byte of an ESC [ sequence: done, or refused there.
     fn finish(&mut self, last: u8) -> Result<(), NoRoom> {
-        let message = Screen::refusal(&self.state.half, last);
+        let half = self.state.half;
+        let message = Screen::refusal(&half, last);
         if message != NO_MESSAGE {
-            let spoiler = wrong::is(43) && message == BROKEN;
+            let spoiler = wrong::is(43) && half.spoilt;
             self.refuse(message, if spoiler { self.state.wrongly_spoilt_by } else { last });
+        } else if half.kind == PRIVATE {
+            self.state.half = Half::OUTSIDE;
+            self.state.full = (last == b'l') != wrong::is(56);
         } else if self.sequence(last)? {
             self.state.half = Half::OUTSIDE;
         } else {
@@ -656,6 +703,7 @@ impl Screen<'_> {
         match Screen::allowed(last) {
             0 if wrong::is(42) => UNKNOWN,
             _ if half.spoilt => BROKEN,
+            _ if half.kind == PRIVATE && !half.switches_send_mode(last) => BROKEN,
             0 => UNKNOWN,
             most if half.count <= most => NO_MESSAGE,
             _ if wrong::is(47) => UNKNOWN,
@@ -715,7 +763,7 @@ impl Screen<'_> {
             }
             b'm' => return Ok(self.visual_marks(arguments)),
             b'h' | b'l' => {
-                let good = |&n: &u16| n == 6 || (n == 0 && wrong::is(25));
+                let good = |&n: &u16| n == ERASURE_MODE || (n == 0 && wrong::is(25));
                 if !arguments.iter().all(good) {
                     return Ok(false);
                 }
@@ -881,8 +929,8 @@ impl Screen<'_> {
                 self.characters[here] = 0x20;
                 self.store(here, end);
             }
-            266 => self.send_block(true)?,
-            267 => self.send_block(false)?,
+            266 => self.send_block(!self.state.full)?,
+            267 if wrong::is(57) => self.send_block(false)?,
             _ => {
                 let refused_at = self.state.refused_at;
                 self.state.lift_soft_lock();

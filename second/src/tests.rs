@@ -1,12 +1,16 @@
-//! Document 01's examples, request M-101's fields, M-102's messages and M-103's kinds of cell.
+//! Document 01's examples, request M-101's fields, M-102's messages, M-103's kinds of cell and M-106's send mode.
 
+use crate::bytes;
 use crate::feed::record;
-use crate::frames::{lines, Mode, Program, Session};
+use crate::frames::{lines, unhex, Calls, Mode, Program, Session};
 use crate::generate::transcript;
 use crate::generate_calls::{calls, sweep};
-use crate::terminal::{good_marks, host, key, start, Answer, State};
+use crate::random::Random;
+use crate::streams::{HARDLY_SEND_MODES, NEARLY_SEND_MODES};
+use crate::terminal::{good_marks, host, key, start, Answer, Half, State};
 use crate::terminal::{ALPHABETIC, COLUMNS, MODIFIED, NUMERIC, PROTECTED, ROWS, VISUAL};
-use std::collections::BTreeSet;
+use crate::wrong;
+use std::collections::{BTreeMap, BTreeSet};
 
 /// A page of the size asked for, fresh, with its output.
 struct Page {
@@ -60,6 +64,18 @@ impl Page {
         (state.clone(), characters.clone(), marks.clone(), output.clone())
     }
 
+    /// The bytes that a key sends.
+    fn sent_by_key(&mut self, number: u32) -> Vec<u8> {
+        let sent = self.key(number).sent;
+        self.output[..sent].to_vec()
+    }
+
+    /// The bytes that host bytes make it send.
+    fn sent_by_host(&mut self, bytes: &[u8]) -> Vec<u8> {
+        let sent = self.host(bytes).sent;
+        self.output[..sent].to_vec()
+    }
+
     /// The message and the byte beside it.
     fn told(&self) -> (u8, u8) {
         (self.state.message, self.state.refused_at)
@@ -74,6 +90,9 @@ impl Page {
 fn sizes() -> impl Iterator<Item = (u16, u16)> {
     ROWS.into_iter().flat_map(|rows| COLUMNS.map(|columns| (rows, columns)))
 }
+
+/// Enough that the generators' rarer choices come up.
+const SEEDS: std::ops::RangeInclusive<u64> = 1..=90;
 
 /// Host bytes on a fresh page: the cursor after them, and whether something was refused.
 fn after(bytes: &[u8]) -> ((u16, u16), bool) {
@@ -237,7 +256,7 @@ fn fresh_page_is_one_field() {
         page.host(b"\x1B[13;14H");
         assert_eq!(page.key(263).stored, cells as u32);
         assert_eq!(page.cursor(), (1, 1));
-        assert_eq!(page.key(267).sent, cells + 7);
+        assert_eq!(page.host(b"\x1BS").sent, cells + 7);
         assert!(page.output.starts_with(b"\x1B[1;1f "));
     }
 }
@@ -303,8 +322,7 @@ fn last_cell_is_not_joined_to_the_first() {
     page.host(b"\x1BV");
     page.host(&[b'#'; 1_920]);
     page.host(b"\x1BW\x1B[24;79Hyzabc");
-    let sent = page.key(267).sent;
-    assert_eq!(&page.output[..sent], b"\x1B[1;1fabc\x1B[24;79fyz\x03");
+    assert_eq!(page.sent_by_host(b"\x1BS"), b"\x1B[1;1fabc\x1B[24;79fyz\x03");
     page.host(b"\x1B[24;80H");
     assert_eq!((page.key(260).number, page.cursor()), (0, (1, 1)));
     assert_eq!((page.key(261).number, page.cursor()), (0, (24, 79)));
@@ -346,8 +364,9 @@ fn longest_blocks() {
     for ((rows, columns), length) in sizes().zip(told) {
         assert_eq!(most_bytes(rows, columns), length);
         let mut page = longest_page(rows, columns).room(length);
-        assert_eq!(page.key(267), Answer { number: 0, taken: 0, sent: length, stored: 0 });
-        assert_eq!(page.room(length - 1).key(267).number, 3);
+        page.host(b"\x1B[>6l");
+        assert_eq!(page.key(266), Answer { number: 0, taken: 0, sent: length, stored: 0 });
+        assert_eq!(page.room(length - 1).key(266).number, 3);
     }
     let answer = longest_page(48, 160).host(b"\x1BS\x1BS");
     assert_eq!(answer, Answer { number: 3, taken: 3, sent: 35_138, stored: 0 });
@@ -356,7 +375,7 @@ fn longest_blocks() {
 #[test]
 fn calls_frames() {
     let output = Mode::Calls.run(b"2400030002\n2100\n21");
-    let zeros = "0".repeat(724);
+    let zeros = "0".repeat(182 * 4);
     let call = format!("01{}\n00000 {zeros}\n000000\n00000000\n", "0".repeat(24));
     assert_eq!(String::from_utf8_lossy(&output), format!("00\n{call}{call}"));
 }
@@ -499,6 +518,8 @@ fn message_of(begun: &[u8], byte: u8) -> u8 {
         (b"\x1B", _) => u8::from(byte > 0x2F && !b"DEMHVWSc`b[".contains(&byte)),
         (b"\x1B(", _) => u8::from(byte > 0x2F),
         (b"\x1B[?" | b"\x1B[10000" | b"\x1B[;;;;;;;;", _) if last => 3,
+        (b"\x1B[>6" | b"\x1B[>06", b'h' | b'l') => 0,
+        (b"\x1B[>" | b"\x1B[>6" | b"\x1B[>06" | b"\x1B[>6;" | b"\x1B[0>", _) if last => 3,
         (b"\x1B[", b'h' | b'l' | b'n') => 2,
         (b"\x1B[0;4", b'H' | b'f' | b'm') => 0,
         (b"\x1B[0;4", _) if listed => 2,
@@ -517,6 +538,11 @@ fn every_byte_after_every_beginning() {
         b"\x1B[?",
         b"\x1B[10000",
         b"\x1B[;;;;;;;;",
+        b"\x1B[>",
+        b"\x1B[>6",
+        b"\x1B[>06",
+        b"\x1B[>6;",
+        b"\x1B[0>",
     ] {
         for byte in 0..=255 {
             let message = message_of(begun, byte);
@@ -633,10 +659,10 @@ fn dump_shows_the_byte() {
     assert_eq!(shown, [line(0, 0, 0), line(1, 3, 0x51), line(0, 0, 0)]);
 }
 
-/// Field 180 is the last of the state, and a byte; 181 is none.
+/// Field 180 is a byte.
 #[test]
 fn calls_show_the_byte() {
-    let input = b"2000180050\n2800080004\n2800B400FF\n21\n2800B40100\n2800B50000\n2800080000\n21";
+    let input = b"2000180050\n2800080004\n2800B400FF\n21\n2800B40100\n2800B60000\n2800080000\n21";
     let output = Mode::Calls.run(input);
     let short: Vec<_> = lines(&output).filter(|line| line.len() < 1_000).collect();
     let numbers: Vec<_> = short.iter().map(|line| &line[..2]).collect();
@@ -644,9 +670,9 @@ fn calls_show_the_byte() {
     assert_eq!(numbers, want.map(str::as_bytes));
     for (line, message, byte) in [(1, 0, 0), (5, 4, 0xFF), (10, 0, 0xFF)] {
         let state = &short[line][6..];
-        assert_eq!(state.len(), 181 * 4);
+        assert_eq!(state.len(), 182 * 4);
         assert_eq!(state[8 * 4..9 * 4], *format!("{message:04X}").as_bytes());
-        assert_eq!(state[180 * 4..], *format!("{byte:04X}").as_bytes());
+        assert_eq!(state[180 * 4..181 * 4], *format!("{byte:04X}").as_bytes());
     }
 }
 
@@ -666,7 +692,7 @@ fn shown(seed: u64) -> Vec<(u8, u8)> {
 /// Every reason comes up often, at most of its bytes, and over another one.
 #[test]
 fn generated_refusals() {
-    let all: Vec<_> = (1..=60).map(shown).collect();
+    let all: Vec<_> = SEEDS.map(shown).collect();
     let told = |message| {
         let of_message = all.iter().flatten().filter(move |told| told.0 == message);
         let bytes: Vec<u8> = of_message.map(|told| told.1).collect();
@@ -885,8 +911,8 @@ fn two_kinds_over_a_row_end() -> Page {
 #[test]
 fn kinds_do_not_split_a_field() {
     let mut page = two_kinds_over_a_row_end();
-    let sent = page.key(267).sent;
-    assert!(page.output[..sent].windows(12).any(|part| part == b"\x1B[3;79f12ab\x1B"));
+    let block = page.sent_by_host(b"\x1BS");
+    assert!(block.windows(12).any(|part| part == b"\x1B[3;79f12ab\x1B"));
     page.host(b"\x1B[4;1H");
     assert_eq!((page.key(261).number, page.cursor()), (0, (3, 79)));
     assert_eq!((page.key(260).number, page.cursor()), (0, (4, 4)));
@@ -955,7 +981,7 @@ fn order_of_8() {
     page.host(b"\x1B[3;79H");
     let mut page = page.room(0);
     assert_eq!([79, 264, 265].map(|number| page.key(number).number), [8, 8, 8]);
-    assert_eq!(page.key(267).number, 3);
+    assert_eq!(page.key(266).number, 3);
 }
 
 /// A dump has four digits for the pen and for each cell.
@@ -963,7 +989,7 @@ fn order_of_8() {
 fn dump_shows_kinds() {
     let output = Mode::Dump.run(b"001850\n011B5B346F411B5B336F1B5B316D31\n");
     let shown: Vec<_> = lines(&output).filter(|line| line.starts_with(b"pen")).collect();
-    assert_eq!(shown, [b"pen 0000 erasure 0", b"pen 0084 erasure 0"]);
+    assert_eq!(shown, [b"pen 0000 erasure 0 full 0", b"pen 0084 erasure 0 full 0"]);
     let marks: Vec<_> = lines(&output).filter(|line| line.starts_with(b":")).collect();
     assert_eq!((marks.len(), marks[24].len()), (48, 1 + 4 * 80));
     assert!(marks[24].starts_with(b":010000840000"));
@@ -988,14 +1014,17 @@ fn calls_show_kinds() {
 
 /// The record that the stream's digest is over.
 #[test]
-fn record_has_a_pen_of_two_bytes() {
+fn record_of_the_state() {
     let mut page = Page::sized(48, 160);
     page.host(b"\x1B[4o\x1B[1m\x1B[2;3H\x1BH\x1B[6h\x1By\x1B[258;7");
     let bytes = record(&page.state);
-    assert_eq!(bytes.len(), 194);
-    assert_eq!(bytes[..18], [48, 0, 160, 0, 2, 0, 3, 0, 4, 1, 1, 0, 1, 1, 0x79, 3, 0, 2]);
-    assert_eq!(bytes[18..24], [2, 1, 7, 0, 0, 0]);
-    assert_eq!(bytes[34..38], [0, 0, 1, 0]);
+    assert_eq!(bytes.len(), 195);
+    assert_eq!(bytes[..19], [48, 0, 160, 0, 2, 0, 3, 0, 4, 1, 1, 0, 0, 1, 1, 0x79, 3, 0, 2]);
+    assert_eq!(bytes[19..25], [2, 1, 7, 0, 0, 0]);
+    assert_eq!(bytes[35..39], [0, 0, 1, 0]);
+    page.host(b"\x1B[6l\x1B[>6l\x1B`\x1B[>300");
+    let bytes = record(&page.state);
+    assert_eq!(bytes[10..21], [0, 1, 1, 1, 1, 0x79, 5, 0, 1, 0x2C, 0x01]);
 }
 
 /// Each key frame of a generated transcript with the number it was given.
@@ -1018,7 +1047,7 @@ fn keys_told(seed: u64) -> Vec<(u16, u8)> {
 /// Typing, 264 and 265 are done often and given 8 often; 263 never is.
 #[test]
 fn generated_kinds() {
-    let all: Vec<_> = (1..=60).flat_map(keys_told).collect();
+    let all: Vec<_> = SEEDS.flat_map(keys_told).collect();
     let times = |keys: std::ops::RangeInclusive<u16>, number| {
         all.iter().filter(|told| keys.contains(&told.0) && told.1 == number).count()
     };
@@ -1038,7 +1067,7 @@ fn generated_kinds() {
 #[test]
 fn generated_marks() {
     let (mut damaged, mut right) = (BTreeSet::new(), BTreeSet::new());
-    for (frame, number) in (1..=60).flat_map(|seed| set_and_told(&calls(seed, 300))) {
+    for (frame, number) in SEEDS.flat_map(|seed| set_and_told(&calls(seed, 300))) {
         let place = &frame[..2];
         if place == "26" || frame.len() < 10 {
             continue;
@@ -1056,4 +1085,573 @@ fn generated_marks() {
         }
     }
     assert_eq!((damaged.len(), right.len()), (2 * 10, 2 * 4), "{damaged:?} {right:?}");
+}
+
+/// 1;2 to 1;4 and all behind 1;5; the cursor in the first field.
+fn two_fields() -> Page {
+    let mut page = Page::fresh();
+    page.host(b"\x1BV.\x1BWXXX\x1BV.\x1BW\x1B[1;2f");
+    page
+}
+
+/// The same with the send mode reset, so that key 266 sends full blocks.
+fn two_fields_at_full() -> Page {
+    let mut page = two_fields();
+    assert_eq!(page.host(b"\x1B[>6l"), Answer { number: 0, taken: 5, sent: 0, stored: 0 });
+    page
+}
+
+/// Both fields, with this in the first.
+fn full_block(first: &str) -> Vec<u8> {
+    format!("\x1B[1;2f{first}\x1B[1;6f{}\x03", " ".repeat(1_915)).into_bytes()
+}
+
+#[test]
+fn example_of_the_send_key() {
+    let input = b"001850
+011B562E1B575858581B562E1B571B5B313B3266
+020059
+02010A
+011B5B3E366C
+02010A
+011B5B3E3668
+02010A
+02010B
+011B5B303E3668
+02010A
+";
+    let output = format!(
+        "00010100000780
+00010200000005
+00010300000001
+000103000000001B5B313B326659585803
+00010300000000
+000103000000001B5B313B32665958581B5B313B3666{}03
+00010300000000
+0001030000000003
+04010300000000
+00010300000000
+05010300000000
+",
+        "20".repeat(1_915)
+    );
+    assert_eq!(String::from_utf8_lossy(&Mode::Transcript.run(input)), output);
+}
+
+/// Host bytes over a page in these parts: what they sent and stored together, and the page.
+fn in_parts(page: fn() -> Page, parts: &[&[u8]]) -> (Vec<u8>, u32, Page) {
+    let (mut page, mut sent, mut stored) = (page(), Vec::new(), 0);
+    for part in parts {
+        let answer = page.host(part);
+        assert_eq!((answer.number, answer.taken), (0, part.len()));
+        sent.extend_from_slice(&page.output[..answer.sent]);
+        stored += answer.stored;
+    }
+    (sent, stored, page)
+}
+
+/// Host bytes over a page, whole, cut in two anywhere, and cut after each byte: the same is left.
+fn whole_and_cut(page: fn() -> Page, bytes: &[u8]) -> Page {
+    let (sent, stored, whole) = in_parts(page, &[bytes]);
+    let in_two = (0..=bytes.len()).map(|place| vec![&bytes[..place], &bytes[place..]]);
+    for parts in in_two.chain([bytes.chunks(1).collect()]) {
+        let (cut_sent, cut_stored, cut) = in_parts(page, &parts);
+        assert_eq!((cut_sent, cut_stored, &cut.state), (sent.clone(), stored, &whole.state));
+        assert!(cut.characters == whole.characters && cut.marks == whole.marks, "{parts:?}");
+    }
+    whole
+}
+
+#[test]
+fn spoilt_private_forms() {
+    for form in [">5h", ">h", ">6;h", "0>6h", "6>h", ">>6h", ">6m", ">10006h"] {
+        assert!(NEARLY_SEND_MODES.contains(&form));
+    }
+    for form in NEARLY_SEND_MODES.iter().chain(HARDLY_SEND_MODES) {
+        for form in [form.to_string(), form.replace('h', "l")] {
+            let bytes = format!("\x1B[{form}").into_bytes();
+            let last = bytes[bytes.len() - 1];
+            assert_eq!(told(&bytes), (3, last), "{form}");
+            for (page, full) in [(two_fields as fn() -> Page, false), (two_fields_at_full, true)] {
+                let before = page();
+                let after = whole_and_cut(page, &bytes);
+                let soft = State { soft: true, message: 3, refused_at: last, ..before.state };
+                assert_eq!((after.state.full, &after.state), (full, &soft));
+                assert!(after.characters == before.characters && after.marks == before.marks);
+            }
+        }
+    }
+}
+
+/// A refusal comes at the final byte, not at the one that spoils.
+#[test]
+fn private_forms_are_refused_at_the_end() {
+    for form in NEARLY_SEND_MODES.iter().chain(HARDLY_SEND_MODES) {
+        let bytes = format!("\x1B[{form}").into_bytes();
+        let mut page = Page::fresh();
+        page.host(&bytes[..bytes.len() - 1]);
+        assert_eq!((page.told(), page.refused()), ((0, 0), false));
+        page.host(&bytes[bytes.len() - 1..]);
+        assert_eq!((page.told(), page.refused()), ((3, bytes[bytes.len() - 1]), true));
+    }
+}
+
+#[test]
+fn send_mode_by_value() {
+    for form in [">6", ">06", ">0006", ">00006", ">0000000006"] {
+        for page in [two_fields as fn() -> Page, two_fields_at_full] {
+            for (last, full) in [("h", false), ("l", true)] {
+                let after = whole_and_cut(page, format!("\x1B[{form}{last}").as_bytes());
+                assert_eq!(after.state, State { full, ..page().state });
+                assert_eq!(after.all().2, page().marks);
+            }
+        }
+    }
+}
+
+/// Every number and final byte behind the mark, with the mode so that the command would switch it.
+#[test]
+fn no_other_private_form_is_taken() {
+    for number in (0..=200).chain([600, 666, 9_998, 9_999]) {
+        for last in 0x40..=0x7E {
+            let bytes = [format!("\x1B[>{number}").as_bytes(), &[last]].concat();
+            let mut page = Page::fresh();
+            page.state.full = last == b'h';
+            page.host(&bytes);
+            let taken = number == 6 && (last == b'h' || last == b'l');
+            assert_eq!(page.state.full, (last == b'h') != taken);
+            assert_eq!(page.told(), if taken { (0, 0) } else { (3, last) });
+        }
+    }
+}
+
+/// 18 and 1A drop a private form, ESC begins another, other control bytes break it off.
+#[test]
+fn broken_private_forms() {
+    for (bytes, message) in [
+        (&b"\x1B[>\x18"[..], (0, 0)),
+        (b"\x1B[>6\x1A", (0, 0)),
+        (b"\x1B[>6\x1B[>5\x18", (0, 0)),
+        (b"\x1B[\x0D", (3, 0x0D)),
+        (b"\x1B[>\x00", (3, 0x00)),
+        (b"\x1B[>6\x7F", (3, 0x7F)),
+        (b"\x1B[>6\x9B", (4, 0x9B)),
+        (b"\x1B[\x80", (4, 0x80)),
+    ] {
+        let bytes = [bytes, b"h"].concat();
+        assert_eq!(told(&bytes), message);
+        let page = whole_and_cut(two_fields_at_full, &bytes);
+        assert_eq!((page.characters[1], page.state.full), (b'h', true));
+    }
+}
+
+/// Kind, spoilt flag, count and first argument after host bytes.
+fn half_after(bytes: &[u8]) -> (u8, bool, u8, u16) {
+    let Half { kind, spoilt, count, arguments } = whole_and_cut(Page::fresh, bytes).state.half;
+    assert!(arguments[1..].iter().all(|&argument| argument == 0));
+    (kind, spoilt, count, arguments[0])
+}
+
+#[test]
+fn half_read_private_forms() {
+    for (bytes, half) in [
+        ("\x1B[", (4, false, 1, 0)),
+        ("\x1B[0", (3, false, 1, 0)),
+        ("\x1B[;", (3, false, 2, 0)),
+        ("\x1B[?", (3, true, 1, 0)),
+        ("\x1B[>", (5, false, 1, 0)),
+        ("\x1B[>0", (5, false, 1, 0)),
+        ("\x1B[>6", (5, false, 1, 6)),
+        ("\x1B[>09999", (5, false, 1, 9_999)),
+        ("\x1B[>10000", (3, true, 1, 0)),
+        ("\x1B[>100006", (3, true, 1, 0)),
+        ("\x1B[>6;", (3, true, 1, 0)),
+        ("\x1B[>;6", (3, true, 1, 0)),
+        ("\x1B[>>", (3, true, 1, 0)),
+        ("\x1B[> 6", (3, true, 1, 0)),
+        ("\x1B[0>", (3, true, 1, 0)),
+        ("\x1B[;>6", (3, true, 1, 0)),
+        ("\x1B[>6h", (0, false, 0, 0)),
+        ("\x1B[>5h", (0, false, 0, 0)),
+    ] {
+        assert_eq!(half_after(bytes.as_bytes()), half, "{bytes:?}");
+    }
+}
+
+/// Each byte that spoils does so right behind ESC [, behind the mark and behind a digit.
+#[test]
+fn spoiling_bytes() {
+    for byte in (0x20..=0x2F).chain([0x3A, 0x3C, 0x3D, 0x3E, 0x3F]) {
+        for begun in ["\x1B[", "\x1B[>", "\x1B[>6"] {
+            let marks_private = begun == "\x1B[" && byte == b'>';
+            let half = if marks_private { (5, false, 1, 0) } else { (3, true, 1, 0) };
+            assert_eq!(half_after(&[begun.as_bytes(), &[byte]].concat()), half);
+        }
+    }
+}
+
+/// What a half-read record may be, said of its parts.
+fn half_in_range(half: &Half) -> bool {
+    let reached =
+        half.arguments.iter().rposition(|&argument| argument != 0).map_or(0, |last| last + 1);
+    let small = half.arguments.iter().all(|&argument| argument <= 9_999);
+    match (half.kind, half.spoilt, half.count) {
+        (0 | 1 | 2, false, 0) | (4, false, 1) | (3, true, 1) => reached == 0,
+        (3, false, 1..=8) | (5, false, 1) => small && reached <= usize::from(half.count),
+        _ => false,
+    }
+}
+
+#[test]
+fn half_read_records_in_range() {
+    let mut state = Page::fresh().state;
+    let mut right = BTreeMap::new();
+    for kind in (0..=8).chain([255]) {
+        for (spoilt, count) in (0..=10).flat_map(|count| [(false, count), (true, count)]) {
+            for place in 0..8 {
+                for value in [0, 1, 6, 9_999, 10_000, 65_535] {
+                    state.half = Half { kind, spoilt, count, arguments: [0; 8] };
+                    state.half.arguments[place] = value;
+                    assert_eq!(state.sound(), half_in_range(&state.half), "{:?}", state.half);
+                    *right.entry(kind).or_insert(0) += u32::from(state.sound());
+                }
+            }
+        }
+    }
+    assert_eq!([0, 1, 2, 4].map(|kind| right[&kind]), [8; 4]);
+    // Eight times all zeros, and three values at the one place.
+    assert_eq!((right[&5], right[&6], right[&255]), (8 + 3, 0, 0));
+}
+
+/// A record set by hand is read on as one that was read.
+#[test]
+fn records_are_read_on() {
+    for (kind, argument, begun) in
+        [(4, 0, "\x1B["), (5, 0, "\x1B[>"), (5, 6, "\x1B[>6"), (5, 9_999, "\x1B[>9999")]
+    {
+        for byte in 0..=255 {
+            let (mut set, mut read) = (two_fields_at_full(), two_fields_at_full());
+            set.state.half = Half { kind, spoilt: false, count: 1, arguments: [0; 8] };
+            set.state.half.arguments[0] = argument;
+            read.host(begun.as_bytes());
+            assert_eq!(set.host(&[byte]), read.host(&[byte]));
+            assert!(set.all() == read.all());
+        }
+    }
+}
+
+#[test]
+fn blocks_by_the_send_mode() {
+    let mut page = two_fields();
+    page.key(u32::from(b'Y'));
+    assert_eq!(page.sent_by_key(266), b"\x1B[1;2fYXX\x03");
+    page.host(b"\x1B[>6l");
+    assert_eq!(page.sent_by_key(266), full_block("YXX"));
+    assert_eq!(page.sent_by_key(266), full_block("YXX"));
+    page.key(u32::from(b'Z'));
+    assert_eq!(page.sent_by_key(266), full_block("YZX"));
+    assert!(page.marks.iter().all(|marks| marks & MODIFIED == 0));
+    page.host(b"\x1B[>6h");
+    assert_eq!(page.sent_by_key(266), b"\x03");
+    page.key(u32::from(b'Z'));
+    assert_eq!(page.sent_by_key(266), b"\x1B[1;2fYZZ\x03");
+}
+
+/// ESC S sends the same in both settings, and clears modified in both.
+#[test]
+fn full_block_by_command() {
+    for mut page in [two_fields(), two_fields_at_full()] {
+        assert_eq!(page.sent_by_host(b"\x1BS"), full_block("XXX"));
+        page.key(u32::from(b'Y'));
+        let before = page.state.clone();
+        assert_eq!(page.sent_by_host(b"\x1BS"), full_block("YXX"));
+        assert_eq!(page.state, before);
+        assert!(page.marks.iter().all(|marks| marks & MODIFIED == 0));
+    }
+}
+
+/// One byte too few leaves all as it was; a changed block may still fit.
+#[test]
+fn room_for_a_full_block() {
+    let length = full_block("YXX").len();
+    for room in [0, 1, 9, 10, length - 1] {
+        let mut page = two_fields_at_full().room(room);
+        page.key(u32::from(b'Y'));
+        let before = page.all();
+        assert_eq!(page.key(266), Answer { number: 3, taken: 0, sent: 0, stored: 0 });
+        assert!(page.all() == before);
+        page.host(b"\x1B[>6h");
+        assert_eq!(page.key(266).number, if room < 10 { 3 } else { 0 });
+    }
+    let mut page = two_fields_at_full().room(length);
+    page.key(u32::from(b'Y'));
+    assert_eq!(page.sent_by_key(266), full_block("YXX"));
+}
+
+/// 4 comes before all that a send key could be given, and nothing changes.
+#[test]
+fn key_267_is_none() {
+    let locks: [&[u8]; 4] = [b"", b"\x1B`", b"\x1By", b"\x1B`\x1By"];
+    for page in [two_fields as fn() -> Page, two_fields_at_full] {
+        for lock in locks {
+            for room in [0, 65_536] {
+                let mut page = page().room(room);
+                page.key(u32::from(b'Y'));
+                page.host(lock);
+                let before = page.all();
+                assert_eq!(page.key(267), Answer { number: 4, taken: 0, sent: 0, stored: 0 });
+                assert!(page.all() == before);
+                assert_eq!(page.key(268).number, 0);
+            }
+        }
+    }
+}
+
+#[test]
+fn only_the_send_modes_commands_switch_it() {
+    let host: [&[u8]; 14] = [
+        b"\x1B[6h",
+        b"\x1B[6l",
+        b"\x1B[6;6;6h",
+        b"\x1BS",
+        b"\x1B`",
+        b"\x1Bb",
+        b"\x1By",
+        b"\xFF",
+        b"\x1B[m",
+        b"\x1B[2J",
+        b"\x1BD\x1BM\n",
+        b"text",
+        b"\x1B[5n\x1B[6n",
+        b"\x1B[>6\x18",
+    ];
+    for (page, full) in [(two_fields as fn() -> Page, false), (two_fields_at_full, true)] {
+        for bytes in host {
+            assert_eq!(whole_and_cut(page, bytes).state.full, full);
+        }
+        for number in (32..=126).chain(256..=269) {
+            let mut page = page();
+            page.key(number);
+            assert_eq!(page.state.full, full);
+        }
+        assert!(!whole_and_cut(page, b"\x1Bc").state.full);
+    }
+    let output = Mode::Dump.run(b"001850\n011B5B3E366C\n001850\n011B5B3E366C\n011B63\n");
+    let shown: Vec<_> = lines(&output).filter_map(|line| line.strip_prefix(b"pen ")).collect();
+    let full: Vec<_> = shown.iter().map(|line| line[line.len() - 1]).collect();
+    assert_eq!((shown[1], &full[..]), (&b"0000 erasure 0 full 1"[..], &b"01010"[..]));
+}
+
+/// Neither lock holds the command up, and it lifts none.
+#[test]
+fn send_mode_under_locks() {
+    for lock in [&b"\x1B`"[..], b"\x1By", b"\x1B`\x1By"] {
+        let mut page = two_fields();
+        page.host(lock);
+        let before = page.state.clone();
+        for (bytes, full) in [(b"\x1B[>6l", true), (b"\x1B[>6h", false), (b"\x1B[>6l", true)] {
+            assert_eq!(page.host(bytes), Answer { number: 0, taken: 5, sent: 0, stored: 0 });
+            assert_eq!(page.state, State { full, ..before.clone() });
+        }
+        assert_eq!(page.key(266).number, 5);
+        page.host(b"\x1Bb");
+        assert_eq!(page.sent_by_key(266), full_block("XXX"));
+    }
+}
+
+/// The number is erasure mode's without the mark: neither command touches the other's mode.
+#[test]
+fn send_mode_beside_erasure_mode() {
+    let commands: [(&[u8], bool, bool); 4] = [
+        (b"\x1B[6h", true, true),
+        (b"\x1B[6l", true, false),
+        (b"\x1B[>6h", false, false),
+        (b"\x1B[>6l", false, true),
+    ];
+    for (erasure, full) in [(false, false), (false, true), (true, false), (true, true)] {
+        for (bytes, is_erasure, to) in commands {
+            let mut page = Page::fresh();
+            (page.state.erasure, page.state.full) = (erasure, full);
+            page.host(bytes);
+            let modes = if is_erasure { (to, full) } else { (erasure, to) };
+            assert_eq!(
+                (page.state.erasure, page.state.full, page.told()),
+                (modes.0, modes.1, (0, 0))
+            );
+        }
+    }
+}
+
+/// The fields of a block by row and column.
+fn fields_of(block: &[u8]) -> BTreeMap<String, String> {
+    let text =
+        String::from_utf8_lossy(block.strip_suffix(b"\x03").expect("03 at the end")).into_owned();
+    let fields =
+        text.split("\x1B[").skip(1).map(|field| field.split_once('f').expect("an address"));
+    fields.map(|(place, text)| (place.to_string(), text.to_string())).collect()
+}
+
+/// A copy made of a full block and what is sent after it is what a full block would then send.
+#[test]
+fn blocks_keep_a_copy_across_the_send_mode() {
+    let mut random = Random::new(106);
+    let mut page = two_fields();
+    page.host(b"\x1B[7;70H\x1BV|\x1BW\x1B[3oabc\x1B[9;9H\x1BV|\x1BW");
+    let mut copy = fields_of(&page.sent_by_host(b"\x1BS"));
+    let mut blocks = BTreeMap::new();
+    for _ in 0..600 {
+        match random.below(8) {
+            0..=2 => drop(page.key(random.between(32, 126) as u32)),
+            3 => drop(page.key(random.between(256, 265) as u32)),
+            4 => drop(page.host(random.pick(&[b"\x1B[>6h", b"\x1B[>6l"]))),
+            5 => drop(page.host(b"\x1B[>5h\x1Bb")),
+            _ => {
+                let sent = fields_of(&page.sent_by_key(266));
+                *blocks.entry((page.state.full, sent.len())).or_insert(0) += 1;
+                copy.extend(sent);
+                assert!(page.marks.iter().all(|marks| marks & MODIFIED == 0));
+                assert_eq!(copy, fields_of(&page.sent_by_host(b"\x1BS")));
+            }
+        }
+    }
+    let times = |full, fields| blocks.get(&(full, fields)).copied().unwrap_or(0);
+    assert!(times(false, 0) > 5 && times(false, 1) > 5 && times(true, 4) > 20, "{blocks:?}");
+}
+
+/// Field 181 is the last of the state, and a flag; 182 is none.
+#[test]
+fn calls_show_the_send_mode() {
+    let input =
+        b"2000180050\n2800B50001\n21\n2800B50000\n21\n2800B5FF00\n230000010A\n2800B60000\n211B63";
+    let output = Mode::Calls.run(input);
+    let short: Vec<_> = lines(&output).filter(|line| (700..800).contains(&line.len())).collect();
+    let flags: Vec<_> = short.iter().map(|line| &line[6 + 181 * 4..]).collect();
+    assert_eq!(flags, [b"0000", b"0001", b"0000", b"0001", b"0000"]);
+    let last = lines(&output).filter(|line| line.len() == 2).last();
+    assert_eq!(last, Some(&b"FF"[..]));
+    let block = lines(&output).find(|line| line.starts_with(b"00000000000000078700000000"));
+    assert_eq!(block.map(<[u8]>::len), Some(26 + 2 * (1_920 + 7)));
+}
+
+/// What generated transcripts have of the send mode; pairs are for the mode set and reset, or without and under a lock.
+#[derive(Default)]
+struct Sends {
+    /// 266 where the other setting would have sent something else.
+    telling: [usize; 2],
+    commands: [usize; 2],
+    unknown: [usize; 2],
+    /// Calls that ended behind ESC [, and behind the mark.
+    half_read: [usize; 2],
+    host_bytes: Vec<u8>,
+}
+
+/// Whether key 266 sends something else with the mode switched.
+fn mode_tells(session: &Session) -> bool {
+    let [set, reset] = [false, true].map(|full| {
+        let state = State { full, ..session.state.clone() };
+        let (characters, marks) = (session.characters.clone(), session.marks.clone());
+        Page { state, characters, marks, output: vec![0; 65_536] }.sent_by_key(266)
+    });
+    set != reset
+}
+
+impl Sends {
+    fn line(&mut self, session: &mut Session, line: &[u8]) {
+        let (full, locked) = (session.state.full, session.state.manual || session.state.soft);
+        let tells = line == b"02010A" && session.going && mode_tells(session);
+        let mut out = Vec::new();
+        session.line(line, &mut out);
+        let given = |number: &[u8; 2]| usize::from(out.starts_with(number));
+        match line {
+            b"02010A" if tells => self.telling[usize::from(full)] += given(b"00"),
+            b"02010B" => self.unknown[usize::from(locked)] += given(b"04"),
+            b"011B53" => self.commands[usize::from(full)] += given(b"00"),
+            _ => {}
+        }
+        if line.starts_with(b"01") && !out.starts_with(b"FF") {
+            self.host_bytes.extend(unhex(&line[2..]).unwrap_or_default());
+            let kind = session.state.half.kind;
+            (4..=5)
+                .filter(|&met| met == kind)
+                .for_each(|met| self.half_read[usize::from(met) - 4] += 1);
+        }
+    }
+
+    /// How often the host sent these bytes, however they were cut.
+    fn times(&self, bytes: &str) -> usize {
+        self.host_bytes.windows(bytes.len()).filter(|part| *part == bytes.as_bytes()).count()
+    }
+}
+
+#[test]
+fn generated_send_modes() {
+    let mut sends = Sends::default();
+    for seed in SEEDS {
+        let mut session = Session::new();
+        lines(&transcript(seed, 300)).for_each(|line| sends.line(&mut session, line));
+    }
+    let Sends { telling, commands, unknown, half_read, .. } = sends;
+    for (name, pair, often) in [
+        ("telling", telling, 150),
+        ("commands", commands, 20),
+        ("unknown", unknown, 20),
+        ("half read", half_read, 60),
+    ] {
+        assert!(pair.iter().all(|&times| times > often), "{name}: {pair:?}");
+    }
+    for (form, often) in [
+        ("\x1B[>6h", 120),
+        ("\x1B[>6l", 120),
+        ("\x1B[>06h", 15),
+        ("\x1B[6h", 100),
+        ("\x1B[6l", 100),
+        ("\x1B[>6l\x1Bc", 15),
+    ] {
+        assert!(sends.times(form) > often, "{form:?}: {}", sends.times(form));
+    }
+    let times = |form: &&str| sends.times(&format!("\x1B[{form}"));
+    for form in NEARLY_SEND_MODES {
+        assert!(times(form) > 5, "{form}: {}", times(form));
+    }
+    let met = HARDLY_SEND_MODES.iter().filter(|form| times(form) > 0).count();
+    assert!(met + 3 >= HARDLY_SEND_MODES.len(), "{met}");
+}
+
+/// In `calls`, records of kinds 4 and 5 are met right and damaged, in both settings.
+#[test]
+fn generated_private_records() {
+    let mut met = BTreeMap::new();
+    for seed in SEEDS {
+        let mut program = Calls::new();
+        for line in lines(&calls(seed, 300)) {
+            let (half, full) = (program.state.half, program.state.full);
+            let mut out = Vec::new();
+            program.line(line, &mut out);
+            let called = matches!(line.get(..2), Some(b"21" | b"22" | b"23")) && out.len() > 100;
+            if called && !out.starts_with(b"01") {
+                assert!(half_in_range(&half) || out.starts_with(b"02"));
+                *met.entry((half.kind, half_in_range(&half), full)).or_insert(0) += 1;
+            }
+        }
+    }
+    for kind in [4, 5] {
+        for (right, full) in [(false, false), (false, true), (true, false), (true, true)] {
+            let times = met.get(&(kind, right, full)).copied().unwrap_or(0);
+            assert!(times > 20, "kind {kind}, right {right}, full {full}: {times}");
+        }
+    }
+}
+
+/// `bytes` sees a program that forgets a half-read sequence, even if both do.
+#[test]
+fn bytes_sees_a_cut() {
+    let runs = bytes::runs();
+    assert_eq!(runs.len() * 256, 4_608);
+    for run in runs.iter().step_by(6) {
+        assert!(run.cut_unlike_whole(&Mode::Dump.run(&run.input())).is_none());
+        wrong::choose(2);
+        let output = Mode::Dump.run(&run.input());
+        wrong::choose(0);
+        assert!(run.cut_unlike_whole(&output).is_some());
+    }
 }

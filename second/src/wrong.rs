@@ -1,8 +1,8 @@
-//! Fifty-five wrong edits kept as switches; WRONG.md has a line on each. 0 is the right program.
+//! Sixty-two wrong edits kept as switches; WRONG.md has a line on each. 0 is the right program.
 
 use std::cell::Cell;
 
-pub const COUNT: u8 = 55;
+pub const COUNT: u8 = 62;
 
 /// Edits that no transcript can show; only `calls` reaches them.
 pub const CALLS_ONLY: [u8; 4] = [4, 37, 39, 40];
