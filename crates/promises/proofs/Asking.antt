@@ -6,7 +6,7 @@ use Prim.Native.Nat.{ℕ}
 use Rattle.words.specs.Choice.{if_then_else_, _and_, _or_, _is_to_}
 use Rattle.sequence.specs.declared.HalfRead.{HalfRead}
 use Rattle.sequence.specs.declared.Event.the-variants.{EscCommand}
-use Rattle.sequence.specs.Reading.{ends, isCancel, afterEsc, insideSequence, advanceOf}
+use Rattle.sequence.specs.Reading.{ends, isCancel, afterEsc, sequenceReadOn, insideSequence, advanceOf}
 use Rattle.steps.specs.Steps.{Terminal, Stepped, blockTransmission, Valid}
 use Rattle.steps.specs.Seen.{blockHere}
 use Rattle.sending.specs.Sending.{sendBlock}
@@ -16,19 +16,18 @@ use Rattle.keys.specs.Keys.{isTyping, isNotTaken, takenStep, keyStep}
 use Rattle.commands.proofs.Theorems.{step-sends-full, step-sends-no-changed}
 use Rattle.keys.proofs.Theorems.{key-sends-full, key-sends-changed}
 use Rattle.promises.specs.Rules.{ourRules, Input, byte, press, stepOf}
-use Rattle.promises.specs.Further.{Asks, changed-by-266, full-by-267, full-by-esc-s, SendsBlocks}
+use Rattle.promises.specs.Further.{Asks, by-266, full-by-esc-s, SendsBlocks}
 use Rattle.promises.proofs.FeedingRuns.{step-is}
 
 -- S after ESC.
 s-event : (half : HalfRead) → half .kind ≡ 1 → advanceOf half 0x53 ≡ ends (EscCommand 0x53)
-unfolding advanceOf insideSequence isCancel afterEsc if_then_else_ _or_ _is_to_ _and_
+unfolding advanceOf insideSequence sequenceReadOn isCancel afterEsc if_then_else_ _or_ _is_to_ _and_
 s-event half after-esc = rw after-esc
 
 module _ (t : Terminal) where
   pub block-asked : (full : Bool) (input : Input) → Asks t full input → stepOf ourRules input t .transmission ≡ blockTransmission full (blockHere full t)
   unfolding stepOf keyStep isNotTaken takenStep isTyping eventStep escStep sendBlock if_then_else_ _is_to_ _and_
-  block-asked _ _ changed-by-266 = refl
-  block-asked _ _ full-by-267 = refl
+  block-asked full _ (by-266 _ mode) = ap (λ (f : Bool). blockTransmission f (blockHere f t)) mode
   block-asked _ _ (full-by-esc-s after-esc) = ap (λ (s : Stepped). s .transmission) (step-is t 0x53 (s-event (t .state .half) after-esc) refl)
 
   block-sent : Valid t → (full : Bool) (input : Input) (bytes : List ℕ) → stepOf ourRules input t .transmission ≡ blockTransmission full bytes → Asks t full input × (bytes ≡ blockHere full t)
@@ -39,10 +38,10 @@ module _ (t : Terminal) where
   block-sent valid false (byte b) bytes sends = absurd (step-sends-no-changed b t valid bytes sends)
   block-sent valid true (press key) bytes sends =
       let sent = key-sends-full key t bytes sends in
-      (subst (λ (key : ℕ). Asks t true (press key)) (sym (sent .asked)) full-by-267, sent .of-page)
+      (subst (λ (key : ℕ). Asks t true (press key)) (sym (sent .asked .key-266)) (by-266 true (sent .asked .by-mode)), sent .of-page)
   block-sent valid false (press key) bytes sends =
       let sent = key-sends-changed key t bytes sends in
-      (subst (λ (key : ℕ). Asks t false (press key)) (sym (sent .asked)) changed-by-266, sent .of-page)
+      (subst (λ (key : ℕ). Asks t false (press key)) (sym (sent .asked .key-266)) (by-266 false (sent .asked .by-mode)), sent .of-page)
 
 pub our-sends-blocks : SendsBlocks ourRules
 our-sends-blocks t valid input full bytes =

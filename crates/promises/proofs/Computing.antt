@@ -3,7 +3,7 @@ use Rattle.words.specs.Choice.{if_then_else_, _and_, _or_, _is_to_}
 use Rattle.words.specs.Lists.{within, every, allFrom, eachFrom, numbersFrom, onPart, selected}
 use Rattle.words.specs.Output.{placed}
 use Rattle.sequence.specs.Record.{argumentsFit, largestArgument, validHalfRead, withDigit, withNextArgument}
-use Rattle.sequence.specs.Reading.{isControl, isCancel, outsideSequence, afterEsc, afterIntermediate, afterBracket, insideSequence, advanceOf}
+use Rattle.sequence.specs.Reading.{isControl, isCancel, outsideSequence, afterEsc, afterIntermediate, afterBracket, rightAfterBracket, afterPrivateMark, sequenceReadOn, insideSequence, advanceOf}
 use Rattle.page.specs.Marks.{validMark, numericTakes, alphabeticTakes, takes, unprotected}
 use Rattle.page.specs.Page.{validPage, textStored, typed, takesFromRight, takesFromLeft, tagged, blanked, closedUp, markAfterBlock, modifiedCleared}
 use Rattle.places.specs.Places.{placeOf}
@@ -24,6 +24,7 @@ use Rattle.state.specs.Moves.{toNextCell}
 use Rattle.commands.specs.Text.{textStep}
 use Rattle.sending.specs.Sending.{sendBlock, readyReport, cursorReport, statusReport}
 use Rattle.table.specs.Settings.{penOfArea, areaSet}
+use Rattle.table.specs.PrivateForms.{privateStep}
 use Rattle.table.specs.Moves.{toPlace, keptColumn, isMove, moveStep}
 use Rattle.commands.specs.Commands.{escStep, listedStep, bracketStep}
 use Rattle.commands.specs.Host.{eventStep, hostStep}
@@ -60,7 +61,7 @@ finding = tt
 
 -- The steps of host bytes and of keys.
 unfoldable pub hostSteps : Unit {0}
-unfolding tests withDigit withNextArgument isControl isCancel outsideSequence afterEsc afterIntermediate afterBracket insideSequence advanceOf textStored markAfterBlock modifiedCleared eachFrom messageOf refused inputDisabled decimal placeBytes bytesOf blockTransmission allowed valueOf toPlace keptColumn toNextCell textStep sendBlock penOfArea areaSet escStep readyReport cursorReport statusReport isMove moveStep listedStep bracketStep eventStep hostStep
+unfolding tests withDigit withNextArgument isControl isCancel outsideSequence afterEsc afterIntermediate afterBracket rightAfterBracket afterPrivateMark sequenceReadOn insideSequence advanceOf textStored markAfterBlock modifiedCleared eachFrom messageOf refused inputDisabled decimal placeBytes bytesOf blockTransmission allowed valueOf toPlace keptColumn toNextCell textStep sendBlock penOfArea areaSet escStep readyReport cursorReport statusReport isMove moveStep listedStep bracketStep privateStep eventStep hostStep
 hostSteps = tt
 
 unfoldable pub keySteps : Unit {0}

@@ -12,8 +12,8 @@ use Rattle.words.proofs.Choosing.{then-case, else-case, both-hold, first-fails,
 use Rattle.sequence.specs.declared.HalfRead.{HalfRead}
 use Rattle.sequence.specs.declared.Advanced.{Advanced}
 use Rattle.sequence.specs.declared.Event.the-variants.{BracketCommand}
-use Rattle.sequence.specs.Record.{nothingRead, escRead, withDigit, withNextArgument}
-use Rattle.sequence.specs.Reading.{readsOn, ends, isControl, isCancel, outsideSequence, afterEsc, afterBracket, insideSequence, advanceOf}
+use Rattle.sequence.specs.Record.{nothingRead, escRead, argumentRead, bracketRead, withDigit, withNextArgument}
+use Rattle.sequence.specs.Reading.{readsOn, ends, isControl, isCancel, outsideSequence, afterEsc, afterBracket, rightAfterBracket, sequenceReadOn, insideSequence, advanceOf}
 use Rattle.output.specs.Decimal.{decimal, placeBytes}
 use Rattle.output.proofs.Digits.{one-digit, two-digits, three-digits}
 use Rattle.state.specs.State.{withCursor, cursorAt, withHalf}
@@ -29,18 +29,38 @@ goes-on : {t end : Terminal} (byte : ℕ) {half : HalfRead} {later : List ℕ} �
 goes-on {t} byte goes on = leads-on byte (reads-on t byte goes) refl refl on
 
 -- A digit after ESC [.
-digit-event : (half : HalfRead) (digit : ℕ) → half .kind ≡ 3 → digit < 10 → advanceOf half (0x30 + digit) ≡ readsOn (withDigit half digit)
-unfolding advanceOf insideSequence isCancel afterBracket
-digit-event half digit bracket small =
+digit-read : (half : HalfRead) (digit : ℕ) → digit < 10 → afterBracket half (0x30 + digit) ≡ readsOn (withDigit half digit)
+unfolding afterBracket
+digit-read half digit small =
     let same : 0x30 + digit - 0x30 ≡ digit = omega arith in
+    then-case _ _ _ (range-is (0x30 + digit) 0x30 0x39 (omega arith) (omega arith))
+    ∙ ap (λ (d : ℕ). readsOn (withDigit half d)) same
+
+digit-inside : (half : HalfRead) (digit : ℕ) → 3 ≤ half .kind → digit < 10 → advanceOf half (0x30 + digit) ≡ sequenceReadOn half (0x30 + digit)
+unfolding advanceOf insideSequence isCancel
+digit-inside half digit bracket small =
     else-case _ _ _ (ne-eqb (half .kind) 0 (λ e. omega arith))
     ∙ else-case _ _ _ (second-decides _ _ (ne-eqb (0x30 + digit) 0x18 (λ e. omega arith)) ∙ ne-eqb (0x30 + digit) 0x1A (λ e. omega arith))
     ∙ else-case _ _ _ (ne-eqb (0x30 + digit) 0x1B (λ e. omega arith))
     ∙ then-case _ _ _ (range-is (0x30 + digit) 0x20 0x7E (omega arith) (omega arith))
+
+digit-event : (half : HalfRead) (digit : ℕ) → half .kind ≡ 3 → digit < 10 → advanceOf half (0x30 + digit) ≡ readsOn (withDigit half digit)
+unfolding sequenceReadOn
+digit-event half digit bracket small =
+    digit-inside half digit (omega arith) small
     ∙ else-case _ _ _ (ne-eqb (half .kind) 1 (λ e. omega arith))
     ∙ else-case _ _ _ (ne-eqb (half .kind) 2 (λ e. omega arith))
-    ∙ then-case _ _ _ (range-is (0x30 + digit) 0x30 0x39 (omega arith) (omega arith))
-    ∙ ap (λ (d : ℕ). readsOn (withDigit half d)) same
+    ∙ else-case _ _ _ (ne-eqb (half .kind) 4 (λ e. omega arith))
+    ∙ else-case _ _ _ (ne-eqb (half .kind) 5 (λ e. omega arith))
+    ∙ digit-read half digit small
+
+-- And right after it: the first argument begins.
+first-digit-event : (digit : ℕ) → digit < 10 → advanceOf bracketRead (0x30 + digit) ≡ readsOn (withDigit argumentRead digit)
+unfolding sequenceReadOn rightAfterBracket if_then_else_
+first-digit-event digit small =
+    digit-inside bracketRead digit (omega arith) small
+    ∙ else-case _ _ _ (ne-eqb (0x30 + digit) 0x3E (λ e. omega arith))
+    ∙ digit-read argumentRead digit small
 
 -- A number in decimal digits, into an argument that was 0; `half` is the record by that argument's value.
 module _ (half : ℕ → HalfRead) (bracket : (value : ℕ) → half value .kind ≡ 3) (adds : (value digit : ℕ) → value * 10 + digit ≤ 9999 → withDigit (half value) digit ≡ half (value * 10 + digit)) where
@@ -48,20 +68,24 @@ module _ (half : ℕ → HalfRead) (bracket : (value : ℕ) → half value .kind
   digit-leads t value digit small fits on =
       goes-on (0x30 + digit) (digit-event (half value) digit (bracket value) small ∙ ap readsOn (adds value digit fits)) on
 
-  number-leads : (t : Terminal) (number : ℕ) → number < 1000 → Leads (reading t (half 0)) (decimal number) (reading t (half number))
-  number-leads t number small =
+  -- `begun` is the record before its first digit.
+  number-leads : (begun : HalfRead) → ((digit : ℕ) → digit < 10 → advanceOf begun (0x30 + digit) ≡ readsOn (half (0 * 10 + digit))) → (t : Terminal) (number : ℕ) → number < 1000 → Leads (reading t begun) (decimal number) (reading t (half number))
+  number-leads begun first t number small =
       less-or-not number 10
-      (λ one. rw (one-digit number one) (digit-leads t 0 number one (omega arith) (read (0 * 10 + number) (omega arith))))
+      (λ one. rw (one-digit number one) (first-leads number one (read (0 * 10 + number) (omega arith))))
       (λ more. less-or-not number 100
       (λ two. rw (two-digits number more two)
-      (digit-leads t 0 (number / 10) (omega arith) (omega arith)
+      (first-leads (number / 10) (omega arith)
       (digit-leads t (0 * 10 + number / 10) (number % 10) (omega arith) (omega arith) (read ((0 * 10 + number / 10) * 10 + number % 10) (omega arith)))))
       (λ three. rw (three-digits number three)
-      (digit-leads t 0 (number / 100) (omega arith) (omega arith)
+      (first-leads (number / 100) (omega arith)
       (digit-leads t (0 * 10 + number / 100) (number % 100 / 10) (omega arith) (omega arith)
       (digit-leads t ((0 * 10 + number / 100) * 10 + number % 100 / 10) (number % 100 % 10) (omega arith) (omega arith)
       (read (((0 * 10 + number / 100) * 10 + number % 100 / 10) * 10 + number % 100 % 10) (omega arith)))))))
     where
+      first-leads : {end : Terminal} (digit : ℕ) {later : List ℕ} → digit < 10 → Leads (reading t (half (0 * 10 + digit))) later end → Leads (reading t begun) ((0x30 + digit) ∷ later) end
+      first-leads digit few on = goes-on (0x30 + digit) (first digit few) on
+
       read : (value : ℕ) → value ≡ number → Leads (reading t (half value)) [] (reading t (half number))
       read value same = arrived (ap (λ (v : ℕ). reading t (half v)) same)
 
@@ -85,16 +109,16 @@ pub esc-event : (half : HalfRead) → advanceOf half 0x1B ≡ readsOn escRead
 unfolding advanceOf outsideSequence insideSequence isControl isCancel if_then_else_ _or_ _is_to_ _and_
 esc-event half = either-line (λ (a : Advanced). a ≡ readsOn escRead) (eqb (half .kind) 0) _ _ (λ _. refl) (λ _. refl)
 
-bracket-event : advanceOf escRead 0x5B ≡ readsOn (rowRead 0)
-unfolding advanceOf insideSequence isCancel afterEsc if_then_else_ _or_ _is_to_ _and_
+bracket-event : advanceOf escRead 0x5B ≡ readsOn bracketRead
+unfolding advanceOf insideSequence sequenceReadOn isCancel afterEsc if_then_else_ _or_ _is_to_ _and_
 bracket-event = refl
 
 semicolon-event : (row : ℕ) → advanceOf (rowRead row) 0x3B ≡ readsOn (columnRead row 0)
-unfolding advanceOf insideSequence isCancel afterBracket withNextArgument if_then_else_ _or_ _is_to_ _and_
+unfolding advanceOf insideSequence sequenceReadOn isCancel afterBracket withNextArgument if_then_else_ _or_ _is_to_ _and_
 semicolon-event row = refl
 
 final-event : (row column : ℕ) → advanceOf (columnRead row column) 0x66 ≡ ends (BracketCommand 0x66)
-unfolding advanceOf insideSequence isCancel afterBracket if_then_else_ _or_ _is_to_ _and_
+unfolding advanceOf insideSequence sequenceReadOn isCancel afterBracket if_then_else_ _or_ _is_to_ _and_
 final-event row column = refl
 
 -- HVP with a row and a column on the page.
@@ -132,7 +156,7 @@ module _ (t : Terminal) (row column : ℕ) (some-row : 1 ≤ row) (row-fits : ro
   place-leads small narrow =
       goes-on 0x1B (esc-event (t .state .half))
       (goes-on 0x5B bracket-event
-      (leads-then (number-leads rowRead (λ _. refl) row-adds t row small)
+      (leads-then (number-leads rowRead (λ _. refl) row-adds bracketRead (λ digit few. first-digit-event digit few ∙ ap readsOn (row-adds 0 digit (omega arith))) t row small)
       (goes-on 0x3B (semicolon-event row)
-      (leads-then (number-leads (columnRead row) (λ _. refl) (column-adds row) t column narrow)
+      (leads-then (number-leads (columnRead row) (λ _. refl) (column-adds row) (columnRead row 0) (λ digit few. digit-event (columnRead row 0) digit refl few ∙ ap readsOn (column-adds row 0 digit (omega arith))) t column narrow)
       (leads-on 0x66 final-step refl refl (arrived refl))))))

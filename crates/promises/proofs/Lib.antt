@@ -17,6 +17,7 @@ pub mod Asking
 pub mod Arguments
 pub mod Reasoning
 pub mod Messages
+pub mod SendMode
 pub mod FeedingReads
 pub mod FeedingPlace
 pub mod FeedingCells

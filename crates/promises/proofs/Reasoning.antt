@@ -8,20 +8,24 @@ use native.Mathlib.Omega.{arith}
 use borrow.Author.Tests.{eqb-true, eqb-false, ne-eqb, leb-true, leb-false, le-leb, ltb-true, ltb-false}
 use lib.Dec.{eqb, leb}
 use Rattle.words.specs.Text.{bytes}
-use Rattle.words.proofs.Choosing.{not-both, then-case, else-case, either-line, either-way, second-decides, refuted, one-holds, neither, range-holds, range-fails}
+use Rattle.words.specs.Choice.{_and_}
+use Rattle.words.proofs.Choosing.{true-is-not-false, not-both, then-case, else-case, either-line, either-way, both, second-decides, refuted, one-holds, neither, range-holds, range-fails}
 use Rattle.sequence.specs.declared.HalfRead.{HalfRead}
 use Rattle.sequence.specs.declared.Advanced.{Advanced}
 use Rattle.sequence.specs.declared.Reason.{Reason}
 use Rattle.sequence.specs.declared.Reason.the-variants.{UnknownCommand, WrongArguments, BrokenSequence, HighByte}
-use Rattle.sequence.specs.Record.{nothingRead}
-use Rattle.sequence.specs.Reading.{isControl, isCancel, refuses, outsideSequence, afterEsc, afterIntermediate, afterBracket, insideSequence, advanceOf}
-use Rattle.sequence.proofs.Keeping.{is-bracket}
+use Rattle.sequence.specs.Range.{argumentOf}
+use Rattle.sequence.specs.Record.{nothingRead, argumentRead}
+use Rattle.sequence.specs.Reading.{isControl, isCancel, refuses, outsideSequence, afterEsc, afterIntermediate, afterBracket, rightAfterBracket, afterPrivateMark, sequenceReadOn, insideSequence, advanceOf}
+use Rattle.sequence.proofs.Cases.{one-of-five}
+use Rattle.sequence.proofs.Keeping.{past-2, is-bracket}
 use Rattle.state.specs.State.{messageOf, refused}
 use Rattle.state.proofs.Keeping.{parts}
 use Rattle.steps.specs.Steps.{Terminal, Stepped, Valid, refusing}
 use Rattle.table.specs.Table.{allowed}
 use Rattle.sending.specs.Sending.{sendBlock}
 use Rattle.table.specs.Settings.{areaSet}
+use Rattle.table.specs.PrivateForms.{privateStep}
 use Rattle.commands.specs.Text.{textStep, lineDown, lineUp, nextLine, controlStep}
 use Rattle.commands.specs.Commands.{freshStep, escStep, bracketStep}
 use Rattle.commands.specs.Host.{eventStep, hostStep}
@@ -29,7 +33,7 @@ use Rattle.commands.proofs.Theorems.{step-refused}
 use Rattle.terminal.specs.Lines.{Decides, none-holds, this-holds, not-this}
 use Rattle.terminal.proofs.Matching.{decides-one}
 use Rattle.promises.specs.Rules.{ourRules}
-use Rattle.promises.specs.Reasons.{NoneOf, Inside, Final, SpoiltOrBrokenOff, spoilt, control-byte, delete, Unlisted, after-intermediate, after-esc, after-bracket, NotAllowed, too-many, reasonTable, Shows, RefusedWith, Reasons}
+use Rattle.promises.specs.Reasons.{NoneOf, Inside, Final, PrivateForm, set-6, reset-6, SpoiltOrBrokenOff, spoilt, no-such-form, control-byte, delete, Unlisted, after-intermediate, after-esc, after-bracket, NotAllowed, too-many, reasonTable, Shows, RefusedWith, Reasons}
 use Rattle.promises.proofs.FeedingRuns.{reading}
 use Rattle.promises.proofs.Arguments.{Weighed, not-allowed, is-allowed, listed-weighed}
 
@@ -79,6 +83,12 @@ control-accepts byte t =
     (λ _. either-line Accepts _ _ _ (λ _. refl)
     (λ _. either-line Accepts _ _ _ (λ _. line-down-accepts t) (λ _. refl)))
 
+-- What is none of the private forms.
+no-form : (argument final : ℕ) → (eqb argument 6 and eqb final 0x68) ≡ false → (eqb argument 6 and eqb final 0x6C) ≡ false → PrivateForm argument final → ⊥
+unfolding _and_
+no-form _ _ not-set _ set-6 = true-is-not-false not-set
+no-form _ _ _ not-reset reset-6 = true-is-not-false not-reset
+
 -- A byte of 80 or above is refused as such, whatever is half read.
 high-outside : (byte : ℕ) → 0x80 ≤ byte → outsideSequence byte ≡ refuses HighByte byte
 unfolding outsideSequence isControl
@@ -115,6 +125,7 @@ module _ (t : Terminal) (valid : Valid t) (byte : ℕ) (low : byte < 0x80) where
     where
       no-3 : SpoiltOrBrokenOff half byte → ⊥
       no-3 (spoilt final _) = let there = final .after-bracket in omega arith
+      no-3 (no-such-form there _ _ _) = omega arith
       no-3 (control-byte inside _ _) = inside outside
       no-3 (delete inside _) = inside outside
 
@@ -138,6 +149,7 @@ module _ (t : Terminal) (valid : Valid t) (byte : ℕ) (low : byte < 0x80) where
     where
       no-3 : SpoiltOrBrokenOff half byte → ⊥
       no-3 (spoilt final _) = let least = final .least in omega arith
+      no-3 (no-such-form _ least _ _) = omega arith
       no-3 (control-byte _ _ none) = drops none
       no-3 (delete _ is) = omega arith
 
@@ -147,16 +159,20 @@ module _ (t : Terminal) (valid : Valid t) (byte : ℕ) (low : byte < 0x80) where
       no-1 (after-bracket final _) = let least = final .least in omega arith
 
   -- 20 to 7E is no control byte: line 3 is left for a final byte alone.
-  not-broken : 0x20 ≤ byte → byte ≤ 0x7E → (Final half byte → half .spoilt ≡ true → ⊥) → SpoiltOrBrokenOff half byte → ⊥
-  not-broken least most whole (spoilt final was) = whole final was
-  not-broken least most whole (control-byte _ small _) = omega arith
-  not-broken least most whole (delete _ is) = omega arith
+  abbrev NoForm : Type 0
+  NoForm = PrivateForm (argumentOf half 0) byte → ⊥
+
+  not-broken : 0x20 ≤ byte → byte ≤ 0x7E → (Final half byte → half .spoilt ≡ true → ⊥) → (half .kind ≡ 5 → 0x40 ≤ byte → NoForm → ⊥) → SpoiltOrBrokenOff half byte → ⊥
+  not-broken least most whole formed (spoilt final was) = whole final was
+  not-broken least most whole formed (no-such-form there enough _ none) = formed there enough none
+  not-broken least most whole formed (control-byte _ small _) = omega arith
+  not-broken least most whole formed (delete _ is) = omega arith
 
   module _ (least : 0x20 ≤ byte) (most : byte ≤ 0x7E) where
     -- After ESC.
     module _ (esc : half .kind ≡ 1) where
       unspoilt : SpoiltOrBrokenOff half byte → ⊥
-      unspoilt = not-broken least most (λ final _. let there = final .after-bracket in omega arith)
+      unspoilt = not-broken least most (λ final _. let there = final .after-bracket in omega arith) (λ there _ _. omega arith)
 
       none-after-esc : (0x30 ≤ byte → NoneOf (bytes "[DEMHVWSc`b") byte → ⊥) → NoneHolds t byte
       none-after-esc listed = record { no-3 = unspoilt; no-1 = no-1; no-2 = λ line. let there = line .0 .after-bracket in omega arith }
@@ -200,7 +216,7 @@ module _ (t : Terminal) (valid : Valid t) (byte : ℕ) (low : byte < 0x80) where
     -- After ESC and an intermediate.
     module _ (between : half .kind ≡ 2) where
       unspoilt-between : SpoiltOrBrokenOff half byte → ⊥
-      unspoilt-between = not-broken least most (λ final _. let there = final .after-bracket in omega arith)
+      unspoilt-between = not-broken least most (λ final _. let there = final .after-bracket in omega arith) (λ there _ _. omega arith)
 
       none-between : byte ≤ 0x2F → NoneHolds t byte
       none-between small = record { no-3 = unspoilt-between; no-1 = no-1; no-2 = λ line. let there = line .0 .after-bracket in omega arith }
@@ -217,26 +233,27 @@ module _ (t : Terminal) (valid : Valid t) (byte : ℕ) (low : byte < 0x80) where
           (λ more. let enough = leb-false byte 0x2F more in
           by-1 low unspoilt-between (after-intermediate between (omega arith) most) (refusing-tells UnknownCommand byte _))
 
-    -- After ESC [.
-    module _ (bracket : half .kind ≡ 3) where
-      none-before-final : byte < 0x40 → NoneHolds t byte
-      none-before-final small = record {
-        no-3 = not-broken least most (λ final _. let enough = final .least in omega arith);
-        no-1 = no-1;
-        no-2 = λ line. let enough = line .0 .least in omega arith;
-      }
-        where
-          no-1 : Unlisted half byte → ⊥
-          no-1 (after-intermediate there _ _) = omega arith
-          no-1 (after-esc there _ _ _) = omega arith
-          no-1 (after-bracket final _) = let enough = final .least in omega arith
+    -- After ESC [: nothing is refused before the final byte.
+    none-before-final : 3 ≤ half .kind → byte < 0x40 → NoneHolds t byte
+    none-before-final bracket small = record {
+      no-3 = not-broken least most (λ final _. let enough = final .least in omega arith) (λ _ enough _. omega arith);
+      no-1 = no-1;
+      no-2 = λ line. let enough = line .0 .least in omega arith;
+    }
+      where
+        no-1 : Unlisted half byte → ⊥
+        no-1 (after-intermediate there _ _) = omega arith
+        no-1 (after-esc there _ _ _) = omega arith
+        no-1 (after-bracket final _) = let enough = final .least in omega arith
+
+    -- After ESC [ and more, and right after it; `from` is the record that is read on.
+    module _ (bracket : 3 ≤ half .kind) (no-mark : half .kind ≤ 4) where
+      ends-there : 0x40 ≤ byte → Final half byte
+      ends-there enough = record { after-bracket = bracket; without-mark = no-mark; least = enough; most = most }
 
       module _ (enough : 0x40 ≤ byte) (whole : half .spoilt ≡ false) where
-        ends : Final half byte
-        ends = record { after-bracket = bracket; least = enough; most = most }
-
         not-spoilt : SpoiltOrBrokenOff half byte → ⊥
-        not-spoilt = not-broken least most (λ _ was. not-both was whole)
+        not-spoilt = not-broken least most (λ _ was. not-both was whole) (λ there _ _. omega arith)
 
         listed : 1 ≤ allowed byte .most → Unlisted half byte → ⊥
         listed some (after-intermediate there _ _) = omega arith
@@ -244,28 +261,84 @@ module _ (t : Terminal) (valid : Valid t) (byte : ℕ) (low : byte < 0x80) where
         listed some (after-bracket _ none) = omega arith
 
         weighed : {step : Stepped} → 1 ≤ allowed byte .most → Weighed t byte step → Judged t byte step
-        weighed some (not-allowed wrong was told) = by-2 low not-spoilt (listed some) (ends, wrong) (record { refused = was; shows = told })
+        weighed some (not-allowed wrong was told) = by-2 low not-spoilt (listed some) (ends-there enough, wrong) (record { refused = was; shows = told })
         weighed some (is-allowed fine accepts) = by-none low (record { no-3 = not-spoilt; no-1 = listed some; no-2 = λ line. fine (line .1) }) accepts
 
         bracket-judged : Judged t byte (bracketStep byte half (reading t nothingRead))
         unfolding bracketStep messageOf
         bracket-judged =
             either-line (Judged t byte) _ _ _
-            (λ none. by-1 low not-spoilt (after-bracket ends (eqb-true _ 0 none)) (refusing-tells UnknownCommand byte _))
+            (λ none. by-1 low not-spoilt (after-bracket (ends-there enough) (eqb-true _ 0 none)) (refusing-tells UnknownCommand byte _))
             (λ not-none. let some = eqb-false (allowed byte .most) 0 not-none in
             either-line (Judged t byte) _ _ _
-            (λ more. by-2 low not-spoilt (listed (omega arith)) (ends, too-many byte (omega arith) (ltb-true _ _ more)) (refusing-tells WrongArguments byte _))
+            (λ more. by-2 low not-spoilt (listed (omega arith)) (ends-there enough, too-many byte (omega arith) (ltb-true _ _ more)) (refusing-tells WrongArguments byte _))
             (λ few. weighed (omega arith) (listed-weighed t byte (ltb-false _ _ few) valid (omega arith))))
 
-      after-bracket-judged : Does (afterBracket half byte)
+      after-bracket-judged : (from : HalfRead) → from .spoilt ≡ half .spoilt → Does (afterBracket from byte)
       unfolding afterBracket eventStep messageOf
-      after-bracket-judged =
-          either-line Does _ _ _ (λ digit. let range = range-holds byte 0x30 0x39 digit in by-none low (none-before-final (omega arith)) refl)
-          (λ _. either-line Does _ _ _ (λ is. let same = eqb-true byte 0x3B is in by-none low (none-before-final (omega arith)) refl)
-          (λ _. either-line Does _ _ _ (λ small. by-none low (none-before-final (ltb-true _ _ small)) refl)
+      after-bracket-judged from as-spoilt =
+          either-line Does _ _ _ (λ digit. let range = range-holds byte 0x30 0x39 digit in by-none low (none-before-final bracket (omega arith)) refl)
+          (λ _. either-line Does _ _ _ (λ is. let same = eqb-true byte 0x3B is in by-none low (none-before-final bracket (omega arith)) refl)
+          (λ _. either-line Does _ _ _ (λ small. by-none low (none-before-final bracket (ltb-true _ _ small)) refl)
           (λ enough. either-line Does _ _ _
-          (λ was. by-3 low (spoilt (record { after-bracket = bracket; least = ltb-false _ _ enough; most = most }) was) (refusing-tells BrokenSequence byte _))
-          (λ whole. bracket-judged (ltb-false _ _ enough) whole))))
+          (λ was. by-3 low (spoilt (ends-there (ltb-false _ _ enough)) (sym as-spoilt ∙ was)) (refusing-tells BrokenSequence byte _))
+          (λ whole. bracket-judged (ltb-false _ _ enough) (sym as-spoilt ∙ whole)))))
+
+    right-after-bracket-judged : half .kind ≡ 4 → half .spoilt ≡ false → Does (rightAfterBracket byte)
+    unfolding rightAfterBracket eventStep
+    right-after-bracket-judged alone whole =
+        either-line Does _ _ _ (λ is. let same = eqb-true byte 0x3E is in by-none low (none-before-final (omega arith) (omega arith)) refl)
+        (λ _. after-bracket-judged (omega arith) (omega arith) argumentRead (sym whole))
+
+    -- After ESC [ >.
+    module _ (private : half .kind ≡ 5) where
+      -- The two forms.
+      none-of-form : PrivateForm (argumentOf half 0) byte → NoneHolds t byte
+      none-of-form form = record {
+        no-3 = not-broken least most (λ final _. let there = final .without-mark in omega arith) (λ _ _ none. none form);
+        no-1 = no-1;
+        no-2 = λ line. let there = line .0 .without-mark in omega arith;
+      }
+        where
+          no-1 : Unlisted half byte → ⊥
+          no-1 (after-intermediate there _ _) = omega arith
+          no-1 (after-esc there _ _ _) = omega arith
+          no-1 (after-bracket final _) = let there = final .without-mark in omega arith
+
+      a-form : (argument final : ℕ) → PrivateForm argument final → argumentOf half 0 ≡ argument → byte ≡ final → PrivateForm (argumentOf half 0) byte
+      a-form argument final form is ends = rw (is, ends) form
+
+      private-judged : 0x40 ≤ byte → Judged t byte (privateStep byte (argumentOf half 0) (reading t nothingRead))
+      unfolding privateStep messageOf
+      private-judged enough =
+          either-line (Judged t byte) _ _ _
+          (λ is. by-none low (none-of-form (a-form 6 0x68 set-6 (eqb-true _ 6 (both is .0)) (eqb-true _ 0x68 (both is .1)))) refl)
+          (λ not-set. either-line (Judged t byte) _ _ _
+          (λ is. by-none low (none-of-form (a-form 6 0x6C reset-6 (eqb-true _ 6 (both is .0)) (eqb-true _ 0x6C (both is .1)))) refl)
+          (λ not-reset. by-3 low (no-such-form private enough most (no-form (argumentOf half 0) byte not-set not-reset)) (refusing-tells BrokenSequence byte _)))
+
+      after-private-mark-judged : Does (afterPrivateMark half byte)
+      unfolding afterPrivateMark eventStep
+      after-private-mark-judged =
+          either-line Does _ _ _ (λ digit. let range = range-holds byte 0x30 0x39 digit in by-none low (none-before-final (omega arith) (omega arith)) refl)
+          (λ _. either-line Does _ _ _ (λ small. by-none low (none-before-final (omega arith) (ltb-true _ _ small)) refl)
+          (λ enough. private-judged (ltb-false _ _ enough)))
+
+    read-on-judged : Inside half → Does (sequenceReadOn half byte)
+    unfolding sequenceReadOn
+    read-on-judged inside =
+        let kind = parts (t .state) (valid .state) .half in
+        either-line Does _ _ _ (λ is. after-esc-judged (eqb-true _ 1 is))
+        (λ not-esc. either-line Does _ _ _ (λ is. after-intermediate-judged (eqb-true _ 2 is))
+        (λ not-between. either-line Does _ _ _ (λ is. right-after-bracket-judged (eqb-true _ 4 is) (unspoilt-alone (eqb-true _ 4 is)))
+        (λ not-alone. either-line Does _ _ _ (λ is. after-private-mark-judged (eqb-true _ 5 is))
+        (λ not-private. let three = is-bracket half kind (past-2 (half .kind) inside (eqb-false _ 1 not-esc) (eqb-false _ 2 not-between)) (eqb-false _ 4 not-alone) (eqb-false _ 5 not-private) in
+        after-bracket-judged (omega arith) (omega arith) half refl))))
+      where
+        unspoilt-alone : half .kind ≡ 4 → half .spoilt ≡ false
+        unspoilt-alone alone =
+            one-of-five half (parts (t .state) (valid .state) .half)
+            (λ k c f. absurd (omega arith)) (λ s k l m f. s) (λ s k c f. s) (λ s k c f. s) (λ s k c f. s)
 
   inside-judged : Inside half → Does (insideSequence half byte)
   unfolding insideSequence isCancel eventStep NoneOf messageOf
@@ -280,11 +353,7 @@ module _ (t : Terminal) (valid : Valid t) (byte : ℕ) (low : byte < 0x80) where
       either-line Does _ _ _
       (λ is. let same = eqb-true byte 0x1B is in by-none low (dropped (omega arith) (λ none. none .1 .1 .0 same)) refl)
       (λ no-esc. either-line Does _ _ _
-      (λ printable. let range = range-holds byte 0x20 0x7E printable in
-      either-line Does _ _ _ (λ is. after-esc-judged (range .0) (range .1) (eqb-true _ 1 is))
-      (λ not-esc. either-line Does _ _ _ (λ is. after-intermediate-judged (range .0) (range .1) (eqb-true _ 2 is))
-      (λ not-between. after-bracket-judged (range .0) (range .1)
-      (is-bracket half (parts (t .state) (valid .state) .half) inside (eqb-false _ 1 not-esc) (eqb-false _ 2 not-between)))))
+      (λ printable. let range = range-holds byte 0x20 0x7E printable in read-on-judged (range .0) (range .1) inside)
       (λ other. either-line Does _ _ _ (λ high. let much = leb-true 0x80 byte high in absurd (omega arith))
       (λ _. by-3 low
       (⊎-elim

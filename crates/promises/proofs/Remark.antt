@@ -1,21 +1,24 @@
 -- Demands 2 and 3 worked out on a form whose remark field, ABC, begins in the last two cells of row 1 and ends in row
 -- 2; behind it are a protected point and a field D.
-use mathlib.Core.Path.{_≡_, refl, sym, _∙_}
-use mathlib.Core.List.{List, [], _∷_}
+use mathlib.Core.Path.{_≡_, refl, sym, ap, _∙_}
+use mathlib.Core.List.{List, [], _∷_, _++_}
 use mathlib.Core.Bool.{true, false}
 use Prim.Native.Nat.{ℕ}
 use native.Mathlib.Omega.{arith}
-use lib.ListN.{replicate}
+use lib.ListN.{length, replicate}
 use Rattle.words.specs.Text.{bytes}
+use Rattle.words.specs.Output.{placed}
 use Rattle.page.specs.Page.{Page, closedUp}
 use Rattle.blocks.specs.Blocks.{block}
 use Rattle.blocks.specs.Lay.{lay}
 use Rattle.steps.specs.Steps.{Terminal, Valid}
 use Rattle.steps.specs.Seen.{fieldsHere}
 use Rattle.keys.specs.Keys.{restShifted}
+use Rattle.terminal.specs.Runs.{stepsOf, bytesSentBy}
 use Rattle.terminal.specs.Calls.{hostCall, keyCall}
+use Rattle.terminal.proofs.Cases.{host-did}
 use Rattle.promises.proofs.Sheets.{sheetAfter, atPlace, fields-amid, block-amid}
-use Rattle.promises.proofs.Worked.{leaves, sends-known}
+use Rattle.promises.proofs.Worked.{escS, leaves, sends-known}
 use Rattle.promises.proofs.Computing.{validity, blockBytes, laying, hostSteps, keySteps, calls}
 
 -- Cells 78 to 82, counted from 0: 1;79 and 1;80, 2;1 to 2;3.
@@ -49,11 +52,15 @@ pub full-block : block true 80 (sender .page) ≡ fullBytes
 unfolding blockBytes
 full-block = block-amid 78 (bytes "ABC.D") noTag (omega arith) refl refl true ∙ refl
 
-call-267 : keyCall sender 267 (replicate 18 0) ≡ leaves 0 0 0 fullBytes sender
-unfolding validity keySteps calls
-call-267 =
-    sends-known sender 267 fullBytes (replicate 18 0) (record { valid = sender-valid; known = refl; not-locked-out = refl; has-cell = refl; taken = refl })
-    full-block refl refl refl refl refl
+sender-sends : bytesSentBy (stepsOf sender escS) ≡ fullBytes
+unfolding hostSteps stepsOf bytesSentBy
+sender-sends = λ i. full-block i ++ []
+
+call-esc-s : hostCall sender escS (replicate 18 0) ≡ leaves 0 2 0 fullBytes sender
+unfolding hostSteps calls
+call-esc-s =
+    host-did sender escS (replicate 18 0) sender-valid (omega arith) (omega (arith, ap length sender-sends))
+    ∙ (λ i. record { number = 0; taken = 2; sent = length (sender-sends i); stored = 0; refused = 0; protection = false; terminal = sender; output = placed 0 (sender-sends i) (replicate 18 0) })
 
 -- Fed back: all 18 bytes are taken, four cells stored, nothing sent or refused, and the second terminal has the
 -- sender's page. The cursor is behind D.

@@ -1,4 +1,5 @@
--- Demand 3 worked out on a form: two fields in row 1, AB and CD, with a protected colon between them.
+-- Demand 3 worked out on a form: two fields in row 1, AB and CD, with a protected colon between them. What 266 sends is
+-- switched on the way (M-106), and the copy is right after each block.
 use mathlib.Core.Path.{_≡_, refl, ap, _∙_}
 use mathlib.Core.List.{List, [], _∷_, _++_, map}
 use mathlib.Core.Bool.{true, false}
@@ -11,7 +12,8 @@ use Rattle.blocks.specs.Decode.{decode}
 use Rattle.blocks.specs.Lay.{lay}
 use Rattle.blocks.specs.Finding.{blocksIn}
 use Rattle.page.specs.Page.{Page}
-use Rattle.steps.specs.Steps.{Terminal, bytesOf, silent, report, fullBlock, changedBlock, Stepped, Valid}
+use Rattle.state.specs.Pen.{withFull}
+use Rattle.steps.specs.Steps.{Terminal, withState, bytesOf, silent, report, fullBlock, changedBlock, Stepped, Valid}
 use Rattle.words.specs.Output.{placed}
 use Rattle.words.specs.Text.{bytes}
 use Rattle.keys.specs.Keys.{keyStep}
@@ -45,27 +47,44 @@ firstTagged = 2 ∷ 0 ∷ 1 ∷ 0 ∷ 0 ∷ []
 abbrev secondTagged : List ℕ
 secondTagged = 0 ∷ 0 ∷ 1 ∷ 2 ∷ 0 ∷ []
 
--- Where it begins: cursor 1;1, AB and CD, nothing modified.
+-- Where it begins: cursor 1;1, AB and CD, nothing modified, 266 sends what changed.
 abbrev pub start : Terminal
 start = at 1 (form "A" "C" noTag)
+
+-- A terminal whose 266 sends all.
+abbrev inFull : Terminal → Terminal
+inFull t = withState t (withFull (t .state) true)
 
 pub start-valid : Valid start
 unfolding validity
 start-valid = record { size = refl; state = refl; page = refl }
 
--- What happens: 267; X is typed; the host sends ESC S, ESC [ 6 n, ESC S; right, right; Y is typed; 266.
-abbrev hostBytes : List ℕ
-hostBytes = bytes "\u{1b}S\u{1b}[6n\u{1b}S"
+-- What happens: the host sends ESC S; X is typed; 266; the host sends ESC [ > 6 l and ESC [ 6 n; 266; right, right; Y
+-- is typed; the host sends ESC [ > 6 h; 266.
+abbrev pub escS : List ℕ
+escS = bytes "\u{1b}S"
+
+abbrev resets : List ℕ
+resets = bytes "\u{1b}[>6l\u{1b}[6n"
+
+abbrev sets : List ℕ
+sets = bytes "\u{1b}[>6h"
 
 abbrev afterFirst : List Input
-afterFirst = press (code "X") ∷ (map byte hostBytes ++ (press 259 ∷ press 259 ∷ press (code "Y") ∷ press 266 ∷ []))
+afterFirst =
+    press (code "X") ∷ press 266
+    ∷ (map byte resets ++ (press 266 ∷ press 259 ∷ press 259 ∷ press (code "Y") ∷ (map byte sets ++ (press 266 ∷ []))))
 
--- The blocks: ESC [ 1 ; 1 f .. B ESC [ 1 ; 4 f .. D 03, and ESC [ 1 ; 4 f Y D 03; the report: ESC [ 1 ; 2 R.
+-- The blocks: ESC [ 1 ; 1 f .. B ESC [ 1 ; 4 f .. D 03; ESC [ 1 ; 1 f X B 03; ESC [ 1 ; 4 f Y D 03. The report: ESC [ 1
+-- ; 2 R.
 abbrev pub fullBytes : Char → Char → List ℕ
 fullBytes one other = bytes "\u{1b}[1;1f" ++ (code one ∷ (bytes "B\u{1b}[1;4f" ++ (code other ∷ bytes "D\u{3}")))
 
-abbrev changedBytes : List ℕ
-changedBytes = bytes "\u{1b}[1;4fYD\u{3}"
+abbrev firstBytes : List ℕ
+firstBytes = bytes "\u{1b}[1;1fXB\u{3}"
+
+abbrev secondBytes : List ℕ
+secondBytes = bytes "\u{1b}[1;4fYD\u{3}"
 
 abbrev reportBytes : List ℕ
 reportBytes = bytes "\u{1b}[1;2R"
@@ -74,60 +93,78 @@ pub full-noTag : (one other : Char) → block true 80 (form one other noTag) ≡
 unfolding blockBytes
 full-noTag one other = sheet-block (texts one other) noTag refl refl true ∙ refl
 
-full-firstTagged : block true 80 (form "X" "C" firstTagged) ≡ fullBytes "X" "C"
+changed-firstTagged : block false 80 (form "X" "C" firstTagged) ≡ firstBytes
 unfolding blockBytes
-full-firstTagged = sheet-block (texts "X" "C") firstTagged refl refl true ∙ refl
+changed-firstTagged = sheet-block (texts "X" "C") firstTagged refl refl false ∙ refl
 
-changed-secondTagged : block false 80 (form "X" "Y" secondTagged) ≡ changedBytes
+changed-secondTagged : block false 80 (form "X" "Y" secondTagged) ≡ secondBytes
 unfolding blockBytes
 changed-secondTagged = sheet-block (texts "X" "Y") secondTagged refl refl false ∙ refl
 
 -- The transmissions of the steps, one for each key and each host byte.
-transmissions : map (λ (step : Stepped). step .transmission) (steps ourRules start (press 267 ∷ afterFirst))
-    ≡ fullBlock (fullBytes "A" "C")  -- 267
+transmissions : map (λ (step : Stepped). step .transmission) (steps ourRules start (map byte escS ++ afterFirst))
+    ≡ silent ∷ fullBlock (fullBytes "A" "C")  -- ESC S
     ∷ silent  -- X
-    ∷ silent ∷ fullBlock (fullBytes "X" "C")  -- ESC S
+    ∷ changedBlock firstBytes  -- 266
+    ∷ silent ∷ silent ∷ silent ∷ silent ∷ silent  -- ESC [ > 6 l
     ∷ silent ∷ silent ∷ silent ∷ report reportBytes  -- ESC [ 6 n
-    ∷ silent ∷ fullBlock (fullBytes "X" "C")  -- ESC S
+    ∷ fullBlock (fullBytes "X" "C")  -- 266
     ∷ silent ∷ silent ∷ silent  -- right, right, Y
-    ∷ changedBlock changedBytes  -- 266
+    ∷ silent ∷ silent ∷ silent ∷ silent ∷ silent  -- ESC [ > 6 h
+    ∷ changedBlock secondBytes  -- 266
     ∷ []
 unfolding hostSteps keySteps streams
 transmissions = λ i.
-    fullBlock (full-noTag "A" "C" i)
+    silent ∷ fullBlock (full-noTag "A" "C" i)
     ∷ silent
-    ∷ silent ∷ fullBlock (full-firstTagged i)
+    ∷ changedBlock (changed-firstTagged i)
+    ∷ silent ∷ silent ∷ silent ∷ silent ∷ silent
     ∷ silent ∷ silent ∷ silent ∷ report reportBytes
-    ∷ silent ∷ fullBlock (full-noTag "X" "C" i)
+    ∷ fullBlock (full-noTag "X" "C" i)
     ∷ silent ∷ silent ∷ silent
+    ∷ silent ∷ silent ∷ silent ∷ silent ∷ silent
     ∷ changedBlock (changed-secondTagged i)
     ∷ []
 
--- The host stored nothing.
-stores-nothing : HostStoresNothing ourRules (stepOf ourRules (press 267) start .terminal) afterFirst
-unfolding hostSteps keySteps streams HostStoresNothing
-stores-nothing = (refl, (refl, (refl, (refl, (refl, (refl, (refl, (refl, tt))))))))
+-- S after ESC.
+abbrev afterEsc : Terminal
+afterEsc = stepOf ourRules (byte 0x1B) start .terminal
 
--- The changed block has one field, the second, whose cell was stored since the block before; the first is omitted.
-one-field : decode changedBytes ≡ record { row = 1; column = 4; characters = bytes "YD" } ∷ []
+abbrev sentFirst : Terminal
+sentFirst = stepOf ourRules (byte 0x53) afterEsc .terminal
+
+-- The host stored nothing.
+stores-nothing : HostStoresNothing ourRules sentFirst afterFirst
+unfolding hostSteps keySteps streams HostStoresNothing
+stores-nothing = (refl, (refl, (refl, (refl, (refl, (refl, (refl, (refl, (refl, (refl, (refl, (refl, (refl, (refl, tt))))))))))))))
+
+-- A changed block has one field, whose cell was stored since the block before; the other is omitted.
+first-field : decode firstBytes ≡ record { row = 1; column = 1; characters = bytes "XB" } ∷ []
 unfolding laying
-one-field = refl
+first-field = refl
+
+second-field : decode secondBytes ≡ record { row = 1; column = 4; characters = bytes "YD" } ∷ []
+unfolding laying
+second-field = refl
 
 -- The host's copy: AB CD, and with each block laid over it XB CD, XB CD, XB YD.
-copies : (lay (fullBytes "X" "C") (fullBytes "A" "C") ≡ fullBytes "X" "C") × (lay (fullBytes "X" "C") (fullBytes "X" "C") ≡ fullBytes "X" "C") × (lay changedBytes (fullBytes "X" "C") ≡ fullBytes "X" "Y")
+copies : (lay firstBytes (fullBytes "A" "C") ≡ fullBytes "X" "C") × (lay (fullBytes "X" "C") (fullBytes "X" "C") ≡ fullBytes "X" "C") × (lay secondBytes (fullBytes "X" "C") ≡ fullBytes "X" "Y")
 unfolding laying
 copies = (refl, refl, refl)
 
 -- As calls, with a Y besides that is typed on the colon: it is given 7.
 abbrev session : List Call
 session =
-    keyPress 267 (replicate 17 0)
+    read escS (replicate 17 0)
     ∷ keyPress (code "X") []
-    ∷ read hostBytes (replicate 40 0)
+    ∷ keyPress 266 (replicate 9 0)
+    ∷ read resets (replicate 6 0)
+    ∷ keyPress 266 (replicate 17 0)
     ∷ keyPress 259 []
     ∷ keyPress (code "Y") []
     ∷ keyPress 259 []
     ∷ keyPress (code "Y") []
+    ∷ read sets []
     ∷ keyPress 266 (replicate 9 0)
     ∷ []
 
@@ -163,12 +200,12 @@ next-call {calls} call outcome is later = record {
 abbrev pub leaves : ℕ → ℕ → ℕ → List ℕ → Terminal → Outcome
 leaves number taken stored sent t = record { number = number; taken = taken; sent = length sent; stored = stored; refused = 0; protection = false; terminal = t; output = sent }
 
--- The terminals that the calls leave: after X, after the host's bytes with the cursor in a column, after Y, after 266.
+-- The terminals that the calls leave: after X, after the first 266 with the cursor in a column, after Y, at the end.
 abbrev typedX : Terminal
 typedX = at 2 (form "X" "C" firstTagged)
 
-abbrev sentTwice : ℕ → Terminal
-sentTwice column = at column (form "X" "C" noTag)
+abbrev sentX : ℕ → Terminal
+sentX column = at column (form "X" "C" noTag)
 
 abbrev typedY : Terminal
 typedY = at 5 (form "X" "Y" secondTagged)
@@ -195,67 +232,83 @@ sends-known t key sent lent passes is no-cell not-refused kept room all =
     })
 
 -- The calls that send.
-pub call-267 : keyCall start 267 (replicate 17 0) ≡ leaves 0 0 0 (fullBytes "A" "C") start
-unfolding validity keySteps calls
-call-267 =
-    sends-known start 267 (fullBytes "A" "C") (replicate 17 0) (record { valid = start-valid; known = refl; not-locked-out = refl; has-cell = refl; taken = refl })
-    (full-noTag "A" "C") refl refl refl refl refl
+start-sends : bytesSentBy (stepsOf start escS) ≡ fullBytes "A" "C"
+unfolding hostSteps stepsOf bytesSentBy
+start-sends = λ i. full-noTag "A" "C" i ++ []
+
+call-esc-s : hostCall start escS (replicate 17 0) ≡ leaves 0 2 0 (fullBytes "A" "C") start
+unfolding hostSteps calls
+call-esc-s =
+    host-did start escS (replicate 17 0) start-valid (omega arith) (omega (arith, ap length start-sends))
+    ∙ (λ i. record { number = 0; taken = 2; sent = length (start-sends i); stored = 0; refused = 0; protection = false; terminal = start; output = placed 0 (start-sends i) (replicate 17 0) })
 
 typedX-valid : Valid typedX
 unfolding validity
 typedX-valid = record { size = refl; state = refl; page = refl }
 
-host-sends : bytesSentBy (stepsOf typedX hostBytes) ≡ fullBytes "X" "C" ++ (reportBytes ++ fullBytes "X" "C")
-unfolding hostSteps stepsOf bytesSentBy
-host-sends = λ i. full-firstTagged i ++ (reportBytes ++ (full-noTag "X" "C" i ++ []))
+call-first : keyCall typedX 266 (replicate 9 0) ≡ leaves 0 0 0 firstBytes (sentX 2)
+unfolding validity keySteps calls
+call-first =
+    sends-known typedX 266 firstBytes (replicate 9 0) (record { valid = typedX-valid; known = refl; not-locked-out = refl; has-cell = refl; taken = refl })
+    changed-firstTagged refl refl refl refl refl
 
-call-host : hostCall typedX hostBytes (replicate 40 0) ≡ leaves 0 8 0 (fullBytes "X" "C" ++ (reportBytes ++ fullBytes "X" "C")) (sentTwice 2)
-unfolding hostSteps calls
-call-host =
-    host-did typedX hostBytes (replicate 40 0) typedX-valid (omega arith) (omega (arith, ap length host-sends))
-    ∙ (λ i. record { number = 0; taken = 8; sent = length (host-sends i); stored = 0; refused = 0; protection = false; terminal = sentTwice 2; output = placed 0 (host-sends i) (replicate 40 0) })
+sentX-valid : Valid (inFull (sentX 2))
+unfolding validity
+sentX-valid = record { size = refl; state = refl; page = refl }
+
+call-full : keyCall (inFull (sentX 2)) 266 (replicate 17 0) ≡ leaves 0 0 0 (fullBytes "X" "C") (inFull (sentX 2))
+unfolding validity keySteps calls
+call-full =
+    sends-known (inFull (sentX 2)) 266 (fullBytes "X" "C") (replicate 17 0) (record { valid = sentX-valid; known = refl; not-locked-out = refl; has-cell = refl; taken = refl })
+    (full-noTag "X" "C") refl refl refl refl refl
 
 typedY-valid : Valid typedY
 unfolding validity
 typedY-valid = record { size = refl; state = refl; page = refl }
 
-call-266 : keyCall typedY 266 (replicate 9 0) ≡ leaves 0 0 0 changedBytes end
+call-second : keyCall typedY 266 (replicate 9 0) ≡ leaves 0 0 0 secondBytes end
 unfolding validity keySteps calls
-call-266 =
-    sends-known typedY 266 changedBytes (replicate 9 0) (record { valid = typedY-valid; known = refl; not-locked-out = refl; has-cell = refl; taken = refl })
+call-second =
+    sends-known typedY 266 secondBytes (replicate 9 0) (record { valid = typedY-valid; known = refl; not-locked-out = refl; has-cell = refl; taken = refl })
     changed-secondTagged refl refl refl refl refl
 
 -- All that is seen, call by call; and the inputs that these calls did are those above.
 session-told : Told start session
     (gives 0 0 (fullBytes "A" "C")
     ∷ gives 0 1 []
-    ∷ gives 0 0 (fullBytes "X" "C" ++ (reportBytes ++ fullBytes "X" "C"))
+    ∷ gives 0 0 firstBytes
+    ∷ gives 0 0 reportBytes
+    ∷ gives 0 0 (fullBytes "X" "C")
     ∷ gives 0 0 []
     ∷ gives 7 0 []
     ∷ gives 0 0 []
     ∷ gives 0 1 []
-    ∷ gives 0 0 changedBytes
+    ∷ gives 0 0 []
+    ∷ gives 0 0 secondBytes
     ∷ [])
-    (press 267 ∷ afterFirst)
-unfolding keySteps calls outcomeOf inputsOf
+    (map byte escS ++ afterFirst)
+unfolding hostSteps keySteps calls outcomeOf inputsOf
 session-told =
-    next-call _ (leaves 0 0 0 (fullBytes "A" "C") start) call-267
+    next-call _ (leaves 0 2 0 (fullBytes "A" "C") start) call-esc-s
     (next-call _ (leaves 0 0 1 [] typedX) refl
-    (next-call _ (leaves 0 8 0 (fullBytes "X" "C" ++ (reportBytes ++ fullBytes "X" "C")) (sentTwice 2)) call-host
-    (next-call _ (leaves 0 0 0 [] (sentTwice 3)) refl
-    (next-call _ (leaves 7 0 0 [] (sentTwice 3)) refl
-    (next-call _ (leaves 0 0 0 [] (sentTwice 4)) refl
-    (next-call _ (leaves 0 0 1 [] typedY) refl
-    (next-call _ (leaves 0 0 0 changedBytes end) call-266 no-calls)))))))
+    (next-call _ (leaves 0 0 0 firstBytes (sentX 2)) call-first
+    (next-call _ (leaves 0 9 0 reportBytes (inFull (sentX 2))) refl
+    (next-call _ (leaves 0 0 0 (fullBytes "X" "C") (inFull (sentX 2))) call-full
+    (next-call _ (leaves 0 0 0 [] (inFull (sentX 3))) refl
+    (next-call _ (leaves 7 0 0 [] (inFull (sentX 3))) refl
+    (next-call _ (leaves 0 0 0 [] (inFull (sentX 4))) refl
+    (next-call _ (leaves 0 0 1 [] (inFull typedY)) refl
+    (next-call _ (leaves 0 5 0 [] typedY) refl
+    (next-call _ (leaves 0 0 0 secondBytes end) call-second no-calls))))))))))
 
 -- All that the calls sent is one stream, and the host finds the four blocks in it; the report is none.
-blocks-found : blocksIn (fullBytes "A" "C" ++ (fullBytes "X" "C" ++ (reportBytes ++ (fullBytes "X" "C" ++ changedBytes))))
-    ≡ fullBytes "A" "C" ∷ fullBytes "X" "C" ∷ fullBytes "X" "C" ∷ changedBytes ∷ []
+blocks-found : blocksIn (fullBytes "A" "C" ++ (firstBytes ++ (reportBytes ++ (fullBytes "X" "C" ++ secondBytes))))
+    ≡ fullBytes "A" "C" ∷ firstBytes ∷ fullBytes "X" "C" ∷ secondBytes ∷ []
 unfolding finding
 blocks-found = refl
 
--- So demand 3 speaks of this session: the copy is right after each of the three blocks that follow, and the changed one
--- omits what was not stored.
-session-copied : CopyHolds blocksIn ourRules start (callAll ourEntries start session .bytesSent) [] (fullBytes "A" "C") (stepOf ourRules (press 267) start .terminal) afterFirst
-unfolding keySteps streams after
-session-copied = demand-3 .copying start session [] (press 267) afterFirst (fullBytes "A" "C") (session-told .inputs-are) (ap fullBlock (full-noTag "A" "C")) stores-nothing
+-- So demand 3 speaks of this session: the copy is right after each of the three blocks that follow, whatever 266 was to
+-- send, and a changed one omits what was not stored.
+session-copied : CopyHolds blocksIn ourRules start (callAll ourEntries start session .bytesSent) (byte 0x1B ∷ []) (fullBytes "A" "C") sentFirst afterFirst
+unfolding hostSteps keySteps streams after
+session-copied = demand-3 .copying start session (byte 0x1B ∷ []) (byte 0x53) afterFirst (fullBytes "A" "C") (session-told .inputs-are) (ap fullBlock (full-noTag "A" "C")) stores-nothing

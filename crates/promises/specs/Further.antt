@@ -8,6 +8,8 @@ use mathlib.Core.Logic.{_↔_}
 use Prim.Native.Nat.{ℕ, _*_, _<_, _≤_}
 use Prim.Native.Char.{code}
 use lib.ListN.{length, getD}
+use Rattle.sequence.specs.declared.HalfRead.{HalfRead}
+use Rattle.sequence.specs.Range.{argumentOf}
 use Rattle.page.specs.Marks.{isProtected, isNumeric, isAlphabetic}
 use Rattle.page.specs.Page.{Page, markAfterBlock}
 use Rattle.state.specs.declared.Size.{Size}
@@ -15,6 +17,7 @@ use Rattle.state.specs.Lines.{Line1, Line2}
 use Rattle.steps.specs.Steps.{Terminal, fullBlock, blockTransmission, Valid}
 use Rattle.steps.specs.Seen.{seen, characterAt, unprotectedAt, modifiedAt, takesAt, fieldsHere, blockHere}
 use Rattle.steps.specs.Claims.{CellKept}
+use Rattle.sending.specs.Sending.{sendsFull}
 use Rattle.terminal.specs.declared.Reply.{Reply}
 use Rattle.terminal.specs.Claims.{SameResult}
 use Rattle.promises.specs.Rules.{Rules, Input, byte, press, stepOf, steps, byteSteps, totalOf}
@@ -105,11 +108,10 @@ BlocksKeep rules =
     (t : Terminal) → Valid t → (asks : Input) (full : Bool) (bytes : List ℕ) →
     stepOf rules asks t .transmission ≡ blockTransmission full bytes → LeftByBlock t (stepOf rules asks t .terminal)
 
--- What asks for a block, full or changed: 266, 267, and S after ESC. A step sends one exactly when it is asked for, and
--- it is that of the page as it stands.
+-- What asks for a block: 266, full or changed by its mode, and S after ESC, full. A step sends one exactly when it is
+-- asked for, and it is that of the page as it stands.
 pub data Asks (t : Terminal) : Bool → Input → Type 0 where
-  changed-by-266 : Asks t false (press 266)
-  full-by-267 : Asks t true (press 267)
+  by-266 : (full : Bool) → sendsFull (t .state) ≡ full → Asks t full (press 266)
   full-by-esc-s : t .state .half .kind ≡ 1 → Asks t true (byte (code "S"))
 
 abbrev pub SendsBlocks : Rules → Type 0
@@ -117,6 +119,24 @@ SendsBlocks rules =
     (t : Terminal) → Valid t → (input : Input) (full : Bool) (bytes : List ℕ) →
     (stepOf rules input t .transmission ≡ blockTransmission full bytes)
     ↔ (Asks t full input × (bytes ≡ blockHere full t))
+
+-- M-106. Which host bytes say what 266 sends from there on: >6 set (h), what changed; >6 reset (l), all; ESC c, what
+-- changed, and so does a start. No other host byte changes it, nor any key.
+pub data Chooses (half : HalfRead) : Bool → ℕ → Type 0 where
+  set-by-h : half .kind ≡ 5 → argumentOf half 0 ≡ 6 → Chooses half false (code "h")
+  reset-by-l : half .kind ≡ 5 → argumentOf half 0 ≡ 6 → Chooses half true (code "l")
+  fresh-by-esc-c : half .kind ≡ 1 → Chooses half false (code "c")
+
+pub record SendModeStays (rules : Rules) (entries : Entries) : Type 0 where
+  pub chosen-by-host : (t : Terminal) → Valid t → (full : Bool) (byte : ℕ) → Chooses (t .state .half) full byte →
+      sendsFull (rules .onByte byte t .terminal .state) ≡ full
+  pub left-by-host : (t : Terminal) → Valid t → (byte : ℕ) →
+      ((full : Bool) → Chooses (t .state .half) full byte → ⊥) →
+      sendsFull (rules .onByte byte t .terminal .state) ≡ sendsFull (t .state)
+  pub left-by-keys : (t : Terminal) (key : ℕ) →
+      sendsFull (rules .onKey key t .terminal .state) ≡ sendsFull (t .state)
+  pub fresh-by-start : (size : Size) (page : Page) → entries .start size page .number ≡ 0 →
+      sendsFull (entries .start size page .terminal .state) ≡ false
 
 -- M-103. After any key each cell that it stored holds a character that the cell takes (20 is taken everywhere), and
 -- every cell keeps its bits 0, 7 and 8.

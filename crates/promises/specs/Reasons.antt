@@ -1,5 +1,6 @@
--- Document 02, M-102: why a host byte is refused. Each line is a proposition about the terminal before the byte, in the
--- request's words, with a clause for each command. Lines may hold together: the first in the order 4, 3, 1, 2 decides.
+-- Document 02, M-102 and M-106: why a host byte is refused. Each line is a proposition about the terminal before the
+-- byte, in the request's words, with a clause for each command. Lines may hold together: the first in the order 4, 3,
+-- 1, 2 decides.
 use mathlib.Core.Path.{_≡_}
 use mathlib.Core.Bool.{true, false}
 use mathlib.Core.List.{List, [], _∷_}
@@ -25,9 +26,10 @@ NoneOf (one ∷ others) n = (n ≡ one → ⊥) × NoneOf others n
 abbrev pub Inside : HalfRead → Type 0
 Inside half = half .kind ≡ 0 → ⊥
 
--- The byte is the final one of a sequence of ESC [.
+-- The byte is the final one of a sequence of ESC [ without >: kinds 3 and 4.
 pub record Final (half : HalfRead) (byte : ℕ) : Type 0 where
-  pub after-bracket : half .kind ≡ 3
+  pub after-bracket : 3 ≤ half .kind
+  pub without-mark : half .kind ≤ 4
   pub least : 0x40 ≤ byte
   pub most : byte ≤ 0x7E
 
@@ -39,9 +41,17 @@ argumentsRead half = take (half .count) (half .arguments)
 abbrev pub HighByteCame : ℕ → Type 0
 HighByteCame byte = 0x80 ≤ byte
 
--- 3: a sequence spoilt, at its final byte; or broken off by a control byte. 18, 1A and 1B drop it and are not refused.
+-- M-106: the private forms, by their argument and final byte.
+pub data PrivateForm : ℕ → ℕ → Type 0 where
+  set-6 : PrivateForm 6 (code "h")
+  reset-6 : PrivateForm 6 (code "l")
+
+-- 3: a sequence spoilt, at its final byte, or one with > that is no private form; or broken off by a control byte. 18,
+-- 1A and 1B drop it and are not refused.
 pub data SpoiltOrBrokenOff (half : HalfRead) (byte : ℕ) : Type 0 where
   spoilt : Final half byte → half .spoilt ≡ true → SpoiltOrBrokenOff half byte
+  no-such-form : half .kind ≡ 5 → 0x40 ≤ byte → byte ≤ 0x7E → (PrivateForm (argumentOf half 0) byte → ⊥)
+      → SpoiltOrBrokenOff half byte
   control-byte : Inside half → byte < 0x20 → NoneOf (0x18 ∷ 0x1A ∷ 0x1B ∷ []) byte → SpoiltOrBrokenOff half byte
   delete : Inside half → byte ≡ 0x7F → SpoiltOrBrokenOff half byte
 

@@ -42,7 +42,7 @@ past-2 (suc zero) not-0 not-1 not-2 = absurd (not-1 refl)
 past-2 (suc (suc zero)) not-0 not-1 not-2 = absurd (not-2 refl)
 past-2 (suc (suc (suc kind))) not-0 not-1 not-2 = omega arith
 
-is-bracket : (half : HalfRead) → Valid half → 3 ≤ half .kind → (half .kind ≡ 4 → ⊥) → (half .kind ≡ 5 → ⊥) → half .kind ≡ 3
+pub is-bracket : (half : HalfRead) → Valid half → 3 ≤ half .kind → (half .kind ≡ 4 → ⊥) → (half .kind ≡ 5 → ⊥) → half .kind ≡ 3
 is-bracket half v high not-4 not-5 =
     one-of-five half v (λ k c f. k) (λ s k l m f. k) (λ s k c f. absurd (not-4 k)) (λ s k c f. absurd (not-5 k)) (λ s k c f. absurd (omega arith))
 
