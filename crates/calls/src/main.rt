@@ -165,7 +165,7 @@ fn print_changed(changed: usize)
 
 // All parts of a state, two bytes each.
 fn print_state(state: State) {
-    let mut bytes = [0u8; 362];
+    let mut bytes = [0u8; 364];
     let mut part = 0;
     while part < damage::PARTS {
         let value = damage::part_of(state, part);

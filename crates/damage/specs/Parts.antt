@@ -1,7 +1,7 @@
 -- The state's parts by number, in the order of second/FORMATS.md, section "calls": a test reads and sets any of them.
 -- 0 rows, 1 columns, 2 the cursor's row, 3 its column, 4 pen, 5 erasure mode, 6 manual lock, 7 soft lock, 8 message,
 -- 9 kind of the half-read record, 10 its spoilt flag, 11 its count, 12 to 19 its arguments, 20 to 179 the tab stops,
--- 180 the byte beside the message.
+-- 180 the byte beside the message, 181 whether the Send key sends all fields.
 use mathlib.Core.Bool.{Bool, false}
 use mathlib.Core.List.{List, [], _∷_}
 use Prim.Native.Nat.{ℕ, _-_, _%_}
@@ -43,6 +43,7 @@ partOf s part =
     else if ltb part 20 then getD (s .half .arguments) (part - 12) 0
     else if ltb part 180 then flagNumber (getD (s .stops) (part - 20) false)
     else if eqb part 180 then s .locks .byte
+    else if eqb part 181 then flagNumber (s .modes .full)
     else 0
 
 -- What a part of this number becomes where a part is set: only that one changes. One that is a byte takes the value's
@@ -71,6 +72,7 @@ withPart s part value =
           record {
             pen = chosen 4 part value (s .modes .pen);
             erasure = chosen 5 part (isOn value) (s .modes .erasure);
+            full = chosen 181 part (isOn value) (s .modes .full);
           };
       locks =
           record {

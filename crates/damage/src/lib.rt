@@ -12,7 +12,7 @@ ghost use Rattle.damage.specs.Parts.{flagNumber, isOn, firstParts, partO
 ghost use Rattle.damage.specs.Parts.{chosen, argumentsWith, stopsWith, withPart};
 
 // As many parts as a state has.
-pub const PARTS: usize = 181;
+pub const PARTS: usize = 182;
 
 fn flag_number(flag: bool) -> usize
     ensures { λ r. ⌜ r ≡ flagNumber flag ⌝ }
@@ -61,6 +61,9 @@ pub fn part_of(state: State, part: usize) -> usize
     }
     if part == 180 {
         return state.locks.byte as usize;
+    }
+    if part == 181 {
+        return flag_number(state.modes.full);
     }
     0
 }
@@ -147,6 +150,7 @@ pub fn with_part(state: State, part: usize, value: u16) -> State
         modes: Modes {
             pen: mark_with(4, part, value, state.modes.pen),
             erasure: flag_with(5, part, value, state.modes.erasure),
+            full: flag_with(181, part, value, state.modes.full),
         },
         locks: Locks {
             manual: flag_with(6, part, value, state.locks.manual),

@@ -19,7 +19,7 @@ use Rattle.words.proofs.Pieces.{flat-length}
 use Rattle.numerals.proofs.Digits.{pairs-length}
 use Rattle.drawing.specs.Drawing.{lineEnd, stopOf, spaced, penLine, locksLine, allStops, stopsLine, allArguments, halfLine, stateLines, rowsOf, characterLine, markLine, rowLines, drawn}
 
-pub pen-length : (modes : Modes) → length (penLine modes) ≡ 19
+pub pen-length : (modes : Modes) → length (penLine modes) ≡ 26
 unfolding penLine
 pen-length modes = refl
 
@@ -41,7 +41,7 @@ pub half-length : (half : HalfRead) → length (halfLine half) ≡ 90
 unfolding halfLine
 half-length half = simp (length-append, all-arguments-length (half .arguments))
 
-pub state-length : (state : State) → length (stateLines state) ≡ 350
+pub state-length : (state : State) → length (stateLines state) ≡ 357
 unfolding stateLines
 state-length state = simp (length-append, pen-length (state .modes), locks-length (state .locks), stops-length (state .stops), half-length (state .half))
 
@@ -68,7 +68,7 @@ module _ (state : State) (characters marks : List ℕ) where
   parts-length = simp length-append
 
   -- For a caller's room.
-  pub drawn-length : length characters ≡ state .size .rows * state .size .columns → length marks ≡ state .size .rows * state .size .columns → length (drawn state characters marks) ≡ 350 + state .size .rows * (state .size .columns + 3) + state .size .rows * (4 * state .size .columns + 2)
+  pub drawn-length : length characters ≡ state .size .rows * state .size .columns → length marks ≡ state .size .rows * state .size .columns → length (drawn state characters marks) ≡ 357 + state .size .rows * (state .size .columns + 3) + state .size .rows * (4 * state .size .columns + 2)
   drawn-length c m =
       let columns = state .size .columns in
       let shown = rows-length characterLine columns (columns + 3) (λ row h. rw h at (character-line-length row)) (state .size .rows) characters c in

@@ -1,7 +1,7 @@
 -- A terminal drawn as text: six lines for the state, then each row's characters, then each row's marks.
 --     size 00024 00080
 --     cursor 00001 00006
---     pen 0000 erasure 0
+--     pen 0000 erasure 0 full 0
 --     manual 0 soft 0 message 00000 byte 00
 --     stops ....T...                                      (160 of them, column 1 first)
 --     half 00003 spoilt 0 count 00002 arguments 00001 00005 00000 00000 00000 00000 00000 00000
@@ -47,7 +47,12 @@ abbrev pub pairLine : List ℕ → ℕ → ℕ → List ℕ
 pairLine word first second = numbered word first ++ spaced second ++ lineEnd
 
 unfoldable pub penLine : Modes → List ℕ
-penLine modes = bytes "pen " ++ hexPair (modes .pen) ++ flagged (bytes " erasure ") (modes .erasure) ++ lineEnd
+penLine modes =
+    bytes "pen "
+    ++ hexPair (modes .pen)
+    ++ flagged (bytes " erasure ") (modes .erasure)
+    ++ flagged (bytes " full ") (modes .full)
+    ++ lineEnd
 
 unfoldable pub locksLine : Locks → List ℕ
 locksLine locks =

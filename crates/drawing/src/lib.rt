@@ -50,12 +50,13 @@ fn put_pair(text: &mut [u8], at: usize, word: &[u8], first: usize, second: usize
 }
 
 fn put_modes(text: &mut [u8], at: usize, modes: Modes) -> usize
-    requires { ⌜ at + 19 ≤ length (now text) ⌝ }
+    requires { ⌜ at + 26 ≤ length (now text) ⌝ }
     ensures { λ r. ⌜ Wrote at (penLine modes) (now (text .entry)) r (now (text .exit)) ⌝ }
 {
     let pen = output::put_all(text, at, b"pen ");
     let erasure = numerals::put_hex_pair(text, pen, modes.pen);
-    let end = put_flag(text, erasure, b" erasure ", modes.erasure);
+    let full = put_flag(text, erasure, b" erasure ", modes.erasure);
+    let end = put_flag(text, full, b" full ", modes.full);
     output::put_byte(text, end, b'\n')
 }
 
@@ -128,7 +129,7 @@ fn put_half(text: &mut [u8], at: usize, half: HalfRead) -> usize
 
 fn put_state(text: &mut [u8], at: usize, state: State) -> usize
     requires { ⌜ FiveDigitsEach state ⌝ }
-    requires { ⌜ at + 350 ≤ length (now text) ⌝ }
+    requires { ⌜ at + 357 ≤ length (now text) ⌝ }
     ensures { λ r. ⌜ Wrote at (stateLines state) (now (text .entry)) r (now (text .exit)) ⌝ }
 {
     let stops = state.stops;

@@ -52,7 +52,7 @@ fn tell(result: &mut [u8], number: u8, taken: usize, sent: usize, stored: usize)
 
 // The state's record. One that is the same already is not written: a refused call writes nothing there.
 fn pack(packed: &mut [u8], state: State)
-    requires { ⌜ length (now packed) ≡ 194 ⌝ }
+    requires { ⌜ length (now packed) ≡ 195 ⌝ }
     ensures { λ _. ⌜ now (packed .exit) ≡ recordOf state ⌝ }
 {
     let bytes = record::record_of(state);
@@ -88,7 +88,7 @@ fn pack_marks(marks: &mut [u8], own: &[Mark])
 
 // What an entry handed back, told to C.
 fn hand_on(packed: &mut [u8], result: &mut [u8], reply: Reply) -> u8
-    requires { ⌜ length (now packed) ≡ 194 ⌝ }
+    requires { ⌜ length (now packed) ≡ 195 ⌝ }
     requires { ⌜ length (now result) ≡ 13 ⌝ }
     ensures { λ r. ⌜ r ≡ numberOf (reply .answer) ⌝ }
     ensures { λ _. ⌜ now (packed .exit) ≡ recordOf (reply .state) ⌝ }

@@ -9,7 +9,7 @@ use borrow.Author.Tests.{eqb-true}
 use lib.Dec.{eqb}
 use lib.ListN.{length, getD, length-append}
 use lib.Seq.{getD-append-add}
-use Rattle.words.specs.Choice.{if_then_else_, _or_}
+use Rattle.words.specs.Choice.{if_then_else_, _and_, _or_, _is_to_}
 use Rattle.words.specs.Lists.{exactly}
 use Rattle.words.proofs.Choosing.{one-holds, range-holds, range-is}
 use Rattle.words.proofs.Elements.{exactly-these}
@@ -35,20 +35,29 @@ stop-small (stop ∷ later) (suc k) = stop-small later k
 record-flags : (s : State) (place : ℕ) → holdsFlag place ≡ true → getD (recordOf s) place 0 ≤ 1
 unfolding holdsFlag recordOf firstBytes numberBytes
 record-flags s place holds =
-    ⊎-elim (λ e. rw (eqb-true place 10 e) (flag-small (s .modes .erasure)))
-    (λ more. ⊎-elim (λ e. rw (eqb-true place 11 e) (flag-small (s .locks .manual)))
-    (λ more. ⊎-elim (λ e. rw (eqb-true place 12 e) (flag-small (s .locks .soft)))
-    (λ more. ⊎-elim (λ e. rw (eqb-true place 16 e) (flag-small (s .half .spoilt)))
-    (λ stop. stop-here (range-holds place 34 193 stop .0)) (one-holds more)) (one-holds more)) (one-holds more)) (one-holds holds)
+    ⊎-elim (λ low. let h = range-holds place 10 13 low in low-here (h .0) (h .1))
+    (λ more. ⊎-elim (λ e. rw (eqb-true place 17 e) (flag-small (s .half .spoilt)))
+    (λ stop. stop-here (range-holds place 35 194 stop .0)) (one-holds more)) (one-holds holds)
   where
-    stop-here : 34 ≤ place → getD (recordOf s) place 0 ≤ 1
+    -- erasure, full, manual and soft
+    four : (k : ℕ) → k < 4 → getD (recordOf s) (10 + k) 0 ≤ 1
+    four zero h = flag-small (s .modes .erasure)
+    four (suc zero) h = flag-small (s .modes .full)
+    four (suc (suc zero)) h = flag-small (s .locks .manual)
+    four (suc (suc (suc zero))) h = flag-small (s .locks .soft)
+    four (suc (suc (suc (suc k)))) h = absurd (omega arith)
+
+    low-here : 10 ≤ place → place ≤ 13 → getD (recordOf s) place 0 ≤ 1
+    low-here low high = let there : 10 + (place - 10) ≡ place = omega arith in rw there at (four (place - 10) (omega arith))
+
+    stop-here : 35 ≤ place → getD (recordOf s) place 0 ≤ 1
     stop-here late =
         let before = firstBytes s ++ argumentBytes (s .half .arguments) in
-        let long : length before ≡ 34 = length-append (firstBytes s) (argumentBytes (s .half .arguments)) ∙ (λ i. first-length s i + arguments-length (s .half .arguments) i) in
-        let there : length before + (place - 34) ≡ place = omega arith in
-        let same : getD (recordOf s) place 0 ≡ getD (stopBytes (s .stops)) (place - 34) 0 =
-        rw there at (getD-append-add before (stopBytes (s .stops)) (place - 34) 0) in
-        rw same (stop-small (exactly 160 false (s .stops)) (place - 34))
+        let long : length before ≡ 35 = length-append (firstBytes s) (argumentBytes (s .half .arguments)) ∙ (λ i. first-length s i + arguments-length (s .half .arguments) i) in
+        let there : length before + (place - 35) ≡ place = omega arith in
+        let same : getD (recordOf s) place 0 ≡ getD (stopBytes (s .stops)) (place - 35) 0 =
+        rw there at (getD-append-add before (stopBytes (s .stops)) (place - 35) 0) in
+        rw same (stop-small (exactly 160 false (s .stops)) (place - 35))
 
 -- A flag that is 0 or 1 is written again as it was read.
 flag-again : (byte : ℕ) → byte ≤ 1 → flagByte (eqb byte 1) ≡ byte
@@ -78,29 +87,29 @@ module _ (bytes : List ℕ) (lent : AsLent bytes) where
     two : (at : ℕ) → numberBytes 2 (numberAt 2 bytes at) ≡ readEach byte 1 at 2
     two = number-again bytes (lent .are-bytes) 2
 
-    first-again : firstBytes (stateIn bytes) ≡ readEach byte 1 0 18
-    unfolding firstBytes stateIn numberBytes numberAt readEach holdsFlag _or_
+    first-again : firstBytes (stateIn bytes) ≡ readEach byte 1 0 19
+    unfolding firstBytes stateIn numberBytes numberAt readEach holdsFlag _is_to_ _and_ _or_
     first-again = λ i.
         two 0 i ++ two 2 i ++ two 4 i ++ two 6 i ++ two 8 i
-        ++ flag-at-place 10 refl i ∷ flag-at-place 11 refl i ∷ flag-at-place 12 refl i ∷ byte 13 ∷ byte 14
-        ∷ byte 15 ∷ flag-at-place 16 refl i ∷ byte 17 ∷ []
+        ++ flag-at-place 10 refl i ∷ flag-at-place 11 refl i ∷ flag-at-place 12 refl i ∷ flag-at-place 13 refl i
+        ∷ byte 14 ∷ byte 15 ∷ byte 16 ∷ flag-at-place 17 refl i ∷ byte 18 ∷ []
 
-    stop-place : (place : ℕ) → 34 ≤ place → place < 194 → holdsFlag place ≡ true
+    stop-place : (place : ℕ) → 35 ≤ place → place < 195 → holdsFlag place ≡ true
     unfolding holdsFlag
     stop-place place low high =
-        let most : place ≤ 193 = omega arith in
-        second-holds _ _ (second-holds _ _ (second-holds _ _ (second-holds _ _ (range-is place 34 193 low most))))
+        let most : place ≤ 194 = omega arith in
+        second-holds _ _ (second-holds _ _ (range-is place 35 194 low most))
 
     good-again : Good bytes
     unfolding recordOf stateIn
     good-again =
-        let eight = exactly-these 0 (readEach (numberAt 2 bytes) 2 18 8) (length-each (numberAt 2 bytes) 2 18 8) in
-        let all = exactly-these false (readEach (flagAt bytes) 1 34 160) (length-each (flagAt bytes) 1 34 160) in
-        let arguments = ap (flatMap (numberBytes 2)) eight ∙ numbers-again bytes (lent .are-bytes) 2 18 8 in
-        let stops = ap (flatMap flagBytes) all ∙ stops-again 34 160 (λ k low high. right k (stop-place k low high)) in
+        let eight = exactly-these 0 (readEach (numberAt 2 bytes) 2 19 8) (length-each (numberAt 2 bytes) 2 19 8) in
+        let all = exactly-these false (readEach (flagAt bytes) 1 35 160) (length-each (flagAt bytes) 1 35 160) in
+        let arguments = ap (flatMap (numberBytes 2)) eight ∙ numbers-again bytes (lent .are-bytes) 2 19 8 in
+        let stops = ap (flatMap flagBytes) all ∙ stops-again 35 160 (λ k low high. right k (stop-place k low high)) in
         (λ i. first-again i ++ arguments i ++ stops i)
-        ∙ ap (λ (l : List ℕ). l ++ readEach byte 1 34 160) (sym (split-read byte 0 18 16))
-        ∙ sym (split-read byte 0 34 160)
+        ∙ ap (λ (l : List ℕ). l ++ readEach byte 1 35 160) (sym (split-read byte 0 19 16))
+        ∙ sym (split-read byte 0 35 160)
         ∙ (rw (lent .as-many) at (whole-read bytes))
 
 pub good-by-flags : (bytes : List ℕ) → AsLent bytes → Good bytes ↔ FlagsRight bytes

@@ -13,7 +13,7 @@ use Rattle.state.specs.declared.State.{State}
 use Rattle.record.specs.Bytes.{numberBytes, flagBytes}
 use Rattle.record.specs.Record.{recordLength, firstBytes, argumentBytes, stopBytes, recordOf}
 
-pub first-length : (s : State) → length (firstBytes s) ≡ 18
+pub first-length : (s : State) → length (firstBytes s) ≡ 19
 unfolding firstBytes numberBytes
 first-length s = refl
 

@@ -47,15 +47,15 @@ split-read read at (suc n) m =
 
 -- A loop that reads the stops of a record and has come to column i, counted from 0.
 abbrev pub stopsRead : List ℕ → List Bool
-stopsRead bytes = readEach (flagAt bytes) 1 34 160
+stopsRead bytes = readEach (flagAt bytes) 1 35 160
 
 module _ (bytes : List ℕ) (start now : List Bool) (i : ℕ) (all : length start ≡ 160) (so-far : now ≡ upTo i (stopsRead bytes) start) where
-  pub next-stop-read : i < 160 → (stop : Bool) → stop ≡ flagAt bytes (34 + i) → set now i stop ≡ upTo (i + 1) (stopsRead bytes) start
+  pub next-stop-read : i < 160 → (stop : Bool) → stop ≡ flagAt bytes (35 + i) → set now i stop ≡ upTo (i + 1) (stopsRead bytes) start
   next-stop-read here stop is =
-      let size = length-each (flagAt bytes) 1 34 160 in
-      let place : 34 + i * 1 ≡ 34 + i = omega arith in
+      let size = length-each (flagAt bytes) 1 35 160 in
+      let place : 35 + i * 1 ≡ 35 + i = omega arith in
       next-put false (stopsRead bytes) start now i so-far stop (omega (arith, here, size)) (omega (arith, here, all))
-      (is ∙ sym (rw place at (each-there (flagAt bytes) 1 false 34 160 i here)))
+      (is ∙ sym (rw place at (each-there (flagAt bytes) 1 false 35 160 i here)))
 
   pub stops-read : 160 ≤ i → now ≡ stopsRead bytes
-  stops-read h = so-far ∙ all-written (stopsRead bytes) start i (length-each (flagAt bytes) 1 34 160 ∙ sym all) (omega (arith, h, all))
+  stops-read h = so-far ∙ all-written (stopsRead bytes) start i (length-each (flagAt bytes) 1 35 160 ∙ sym all) (omega (arith, h, all))

@@ -38,11 +38,14 @@ each-argument-fits reached i (argument ∷ later) fit x among =
 arguments-fit : (half : HalfRead) → validHalfRead half ≡ true → (x : ℕ) → List·Memᴰ x (half .arguments) → x ≤ 9999
 unfolding validHalfRead
 arguments-fit half =
-    either-line (λ (t : Bool). t ≡ true → (x : ℕ) → List·Memᴰ x (half .arguments) → x ≤ 9999) _ _ _
-    (λ _ v. each-argument-fits 0 0 (half .arguments) (both (both v .1) .1))
-    (λ _. either-line (λ (t : Bool). t ≡ true → (x : ℕ) → List·Memᴰ x (half .arguments) → x ≤ 9999) _ _ _
-    (λ _ v. each-argument-fits (half .count) 0 (half .arguments) (both v .1))
-    (λ _ v. each-argument-fits 0 0 (half .arguments) (both (both v .1) .1)))
+    either-line Told _ _ _ (λ _ v. each-argument-fits 0 0 (half .arguments) (both (both v .1) .1))
+    (λ _. either-line Told _ _ _ (λ _ v. each-argument-fits (half .count) 0 (half .arguments) (both v .1))
+    (λ _. either-line Told _ _ _ (λ _ v. each-argument-fits 0 0 (half .arguments) (both v .1))
+    (λ _. either-line Told _ _ _ (λ _ v. each-argument-fits (half .count) 0 (half .arguments) (both v .1))
+    (λ _ v. each-argument-fits 0 0 (half .arguments) (both (both v .1) .1)))))
+  where
+    Told : Bool → Type 0
+    Told test = test ≡ true → (x : ℕ) → List·Memᴰ x (half .arguments) → x ≤ 9999
 
 two-bytes-fit : (n : ℕ) → n < 65536 → n < many 2
 unfolding many
@@ -55,7 +58,7 @@ flag-here : (flag : Bool) → flagAt (flagBytes flag) 0 ≡ flag
 flag-here flag = flag-back flag [] []
 
 module _ (s : State) (listed : listedSize (s .size) ≡ true) (valid : validState s ≡ true) (has : Arrays s) where
-  arguments-back : readEach (numberAt 2 (recordOf s)) 2 18 8 ≡ s .half .arguments
+  arguments-back : readEach (numberAt 2 (recordOf s)) 2 19 8 ≡ s .half .arguments
   unfolding recordOf numberBytes
   arguments-back =
       let arguments = s .half .arguments in
@@ -66,13 +69,13 @@ module _ (s : State) (listed : listedSize (s .size) ≡ true) (valid : validStat
       rw grouped
       (rw (first-length s, has .arguments) at (each-back (numberBytes 2) (numberAt 2) 2 (λ _. refl) (λ n. n < many 2) (λ n fits before after. number-back 2 n fits before after) arguments (λ n among. two-bytes-fit n (argument-fits n among)) (firstBytes s) (stopBytes (s .stops))))
 
-  stops-back : readEach (flagAt (recordOf s)) 1 34 160 ≡ s .stops
+  stops-back : readEach (flagAt (recordOf s)) 1 35 160 ≡ s .stops
   unfolding recordOf
   stops-back =
       let stops = s .stops in
       let all = exactly-these false stops (has .stops) in
       let before = firstBytes s ++ argumentBytes (s .half .arguments) in
-      let long : length before ≡ 34 = length-append (firstBytes s) (argumentBytes (s .half .arguments)) ∙ (λ i. first-length s i + arguments-length (s .half .arguments) i) in
+      let long : length before ≡ 35 = length-append (firstBytes s) (argumentBytes (s .half .arguments)) ∙ (λ i. first-length s i + arguments-length (s .half .arguments) i) in
       let grouped : recordOf s ≡ before ++ (flatMap flagBytes stops ++ []) =
       ap (λ (l : List Bool). before ++ flatMap flagBytes l) all ∙ ap (λ (l : List ℕ). before ++ l) (sym (append-nil (flatMap flagBytes stops))) in
       rw grouped
@@ -88,7 +91,7 @@ module _ (s : State) (listed : listedSize (s .size) ≡ true) (valid : validStat
       (λ i. record {
         size = record { rows = two-back (s .size .rows) (omega arith) i; columns = two-back (s .size .columns) (omega arith) i };
         cursor = record { row = two-back (s .cursor .row) (omega arith) i; column = two-back (s .cursor .column) (omega arith) i };
-        modes = record { pen = two-back (s .modes .pen) (omega arith) i; erasure = flag-here (s .modes .erasure) i };
+        modes = record { pen = two-back (s .modes .pen) (omega arith) i; erasure = flag-here (s .modes .erasure) i; full = flag-here (s .modes .full) i };
         locks = record { manual = flag-here (s .locks .manual) i; soft = flag-here (s .locks .soft) i; message = s .locks .message; byte = s .locks .byte };
         stops = stops-back i;
         half = record { kind = s .half .kind; arguments = arguments-back i; count = s .half .count; spoilt = flag-here (s .half .spoilt) i };
@@ -105,11 +108,11 @@ pub one-record : (one other : List ℕ) → Good one → Good other → stateIn 
 one-record one other good other-good same = sym good ∙ ap recordOf same ∙ other-good
 
 -- The record of the all-zero state is all zeros.
-pub zeros : recordOf zeroState ≡ replicate 194 0
+pub zeros : recordOf zeroState ≡ replicate 195 0
 unfolding recordOf firstBytes numberBytes flagByte exactly flatMap if_then_else_
 zeros = refl
 
 -- What bytes say has the arrays of the code, whatever they are.
 pub said-arrays : (bytes : List ℕ) → Arrays (stateIn bytes)
 unfolding stateIn
-said-arrays bytes = record { stops = length-each (flagAt bytes) 1 34 160; arguments = length-each (numberAt 2 bytes) 2 18 8 }
+said-arrays bytes = record { stops = length-each (flagAt bytes) 1 35 160; arguments = length-each (numberAt 2 bytes) 2 19 8 }

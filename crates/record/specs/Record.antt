@@ -1,10 +1,10 @@
--- Document 02, M-100: the state as a record of 194 bytes. docs/PANEL.md has the same layout for who writes C.
+-- Document 02, M-100: the state as a record of 195 bytes. docs/PANEL.md has the same layout for who writes C.
 --     0  rows, 2 columns, 4 the cursor's row, 6 its column, 8 pen    two bytes each
---     10 erasure mode
---     11 manual lock, 12 soft lock, 13 message, 14 byte
---     15 kind of the half-read sequence, 16 its spoilt flag, 17 its count of arguments
---     18 its eight arguments                                         two bytes each
---     34 the tab stops of columns 1 to 160                           a flag each
+--     10 erasure mode, 11 the Send key sends all fields (M-106)
+--     12 manual lock, 13 soft lock, 14 message, 15 byte
+--     16 kind of the half-read sequence, 17 its spoilt flag, 18 its count of arguments
+--     19 its eight arguments                                         two bytes each
+--     35 the tab stops of columns 1 to 160                           a flag each
 -- Nothing is reserved: where a later request adds to the state the record is longer, and an old one is refused.
 use mathlib.Core.Bool.{Bool, true, false}
 use mathlib.Core.List.{List, [], _∷_, _++_, flatMap}
@@ -19,7 +19,7 @@ use Rattle.record.specs.Bytes.{numberBytes, numberAt, flagByte, flagByte
 use Rattle.record.specs.Bytes.{AreBytes, sameBytes}
 
 abbrev pub recordLength : ℕ
-recordLength = 194
+recordLength = 195
 
 -- The bytes of a state.
 unfoldable pub firstBytes : State → List ℕ
@@ -30,6 +30,7 @@ firstBytes s =
     ++ numberBytes 2 (s .cursor .column)
     ++ numberBytes 2 (s .modes .pen)
     ++ flagByte (s .modes .erasure)
+    ∷ flagByte (s .modes .full)
     ∷ flagByte (s .locks .manual)
     ∷ flagByte (s .locks .soft)
     ∷ s .locks .message
@@ -54,21 +55,21 @@ stateIn bytes =
     record {
       size = record { rows = numberAt 2 bytes 0; columns = numberAt 2 bytes 2 };
       cursor = record { row = numberAt 2 bytes 4; column = numberAt 2 bytes 6 };
-      modes = record { pen = numberAt 2 bytes 8; erasure = flagAt bytes 10 };
+      modes = record { pen = numberAt 2 bytes 8; erasure = flagAt bytes 10; full = flagAt bytes 11 };
       locks =
           record {
-            manual = flagAt bytes 11;
-            soft = flagAt bytes 12;
-            message = getD bytes 13 0;
-            byte = getD bytes 14 0;
+            manual = flagAt bytes 12;
+            soft = flagAt bytes 13;
+            message = getD bytes 14 0;
+            byte = getD bytes 15 0;
           };
-      stops = readEach (flagAt bytes) 1 34 160;
+      stops = readEach (flagAt bytes) 1 35 160;
       half =
           record {
-            kind = getD bytes 15 0;
-            arguments = readEach (numberAt 2 bytes) 2 18 8;
-            count = getD bytes 17 0;
-            spoilt = flagAt bytes 16;
+            kind = getD bytes 16 0;
+            arguments = readEach (numberAt 2 bytes) 2 19 8;
+            count = getD bytes 18 0;
+            spoilt = flagAt bytes 17;
           };
     }
 
@@ -82,7 +83,7 @@ isGood bytes = sameBytes bytes (recordOf (stateIn bytes))
 
 -- The places that hold a flag.
 unfoldable pub holdsFlag : ℕ → Bool
-holdsFlag place = eqb place 10 or eqb place 11 or eqb place 12 or eqb place 16 or place is 34 to 193
+holdsFlag place = place is 10 to 13 or eqb place 17 or place is 35 to 194
 
 -- Bytes as the code has them, as many as a record has.
 pub record AsLent (bytes : List ℕ) : Type 0 where

@@ -31,26 +31,28 @@ const PEN: usize = 8;
 
 const ERASURE: usize = 10;
 
-const MANUAL: usize = 11;
+const FULL: usize = 11;
 
-const SOFT: usize = 12;
+const MANUAL: usize = 12;
 
-const MESSAGE: usize = 13;
+const SOFT: usize = 13;
 
-const BYTE: usize = 14;
+const MESSAGE: usize = 14;
 
-const KIND: usize = 15;
+const BYTE: usize = 15;
 
-const SPOILT: usize = 16;
+const KIND: usize = 16;
 
-const COUNT: usize = 17;
+const SPOILT: usize = 17;
 
-const ARGUMENTS: usize = 18;
+const COUNT: usize = 18;
 
-const STOPS: usize = 34;
+const ARGUMENTS: usize = 19;
+
+const STOPS: usize = 35;
 
 // As many bytes as a record has.
-pub const LENGTH: usize = 194;
+pub const LENGTH: usize = 195;
 
 // The lowest byte of a number.
 pub fn low_byte(number: usize) -> u8
@@ -85,6 +87,7 @@ fn first_bytes(state: State) -> [u8; ARGUMENTS]
         low_byte(pen),
         low_byte(pen / 256),
         flag_byte(state.modes.erasure),
+        flag_byte(state.modes.full),
         flag_byte(state.locks.manual),
         flag_byte(state.locks.soft),
         state.locks.message,
@@ -147,7 +150,7 @@ fn flag_at(bytes: &[u8], at: usize) -> bool
 
 // The number that two bytes say.
 fn number_at(bytes: &[u8], at: usize) -> usize
-    requires { ⌜ at < 194 ⌝ }
+    requires { ⌜ at < 195 ⌝ }
     ensures { λ r. ⌜ (r ≡ numberAt 2 (now (bytes .entry)) at) × (r ≤ 65535) ⌝ }
 {
     let low = byte_at(bytes, at) as usize;
@@ -156,7 +159,7 @@ fn number_at(bytes: &[u8], at: usize) -> usize
 }
 
 fn arguments_in(bytes: &[u8]) -> [u16; 8]
-    ensures { λ r. ⌜ r ≡ readEach (numberAt 2 (now (bytes .entry))) 2 18 8 ⌝ }
+    ensures { λ r. ⌜ r ≡ readEach (numberAt 2 (now (bytes .entry))) 2 19 8 ⌝ }
 {
     let mut arguments = [0u16; 8];
     let mut i = 0;
@@ -169,8 +172,8 @@ fn arguments_in(bytes: &[u8]) -> [u16; 8]
 
 // The stops of a whole record. Here no byte is past the end, and the compiler takes many at a time.
 fn stops_there(bytes: &[u8]) -> [bool; 160]
-    requires { ⌜ 194 ≤ length (now bytes) ⌝ }
-    ensures { λ r. ⌜ r ≡ readEach (flagAt (now (bytes .entry))) 1 34 160 ⌝ }
+    requires { ⌜ 195 ≤ length (now bytes) ⌝ }
+    ensures { λ r. ⌜ r ≡ readEach (flagAt (now (bytes .entry))) 1 35 160 ⌝ }
 {
     let mut stops = [false; 160];
     let mut i = 0;
@@ -182,7 +185,7 @@ fn stops_there(bytes: &[u8]) -> [bool; 160]
 }
 
 fn stops_in(bytes: &[u8]) -> [bool; 160]
-    ensures { λ r. ⌜ r ≡ readEach (flagAt (now (bytes .entry))) 1 34 160 ⌝ }
+    ensures { λ r. ⌜ r ≡ readEach (flagAt (now (bytes .entry))) 1 35 160 ⌝ }
 {
     if LENGTH <= bytes.len() {
         return stops_there(bytes);
@@ -214,6 +217,7 @@ pub fn state_in(bytes: &[u8]) -> State
         modes: Modes {
             pen: number_at(bytes, PEN) as Mark,
             erasure: flag_at(bytes, ERASURE),
+            full: flag_at(bytes, FULL),
         },
         locks: Locks {
             manual: flag_at(bytes, MANUAL),

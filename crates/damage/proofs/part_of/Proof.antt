@@ -22,4 +22,6 @@ part-of-spec =
     (λ c. rw (c .flag-number .ensures) (search tests))
     (λ c. search needs)
     (λ c. search tests)
+    (λ c κs. search needs)
+    (λ c. rw (c .flag-number2 .ensures) (search tests))
     (λ c. search tests))

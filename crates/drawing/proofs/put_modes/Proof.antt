@@ -10,9 +10,14 @@ use Rattle.drawing.proofs.put_modes.Tie as tie
 returns : tie.Need-returns
 unfolding penLine
 returns c =
-    let start = c .before .before .before .before .before .before .before .before .before .before .before .before .before .before .before .before .before .before .before in
+    let full = c .before .before .before .before .before .before in
+    let erasure = full .before .before .before .before .before in
+    let pen = erasure .before .before .before .before .before in
+    let word = pen .before .before .before .before in
+    let start = word .before .before .before .before in
     let room : start .args .at ≤ length (start .args .text .now) = omega arith in
-    wrote-then room (wrote-then room (wrote-then room (c .before .before .before .before .before .before .before .before .before .before .before .before .before .before .before .put-all .ensures) (c .before .before .before .before .before .before .before .before .before .before .before .put-hex-pair .ensures)) (c .before .before .before .before .before .before .put-flag .ensures)) (c .before .before .put-byte .ensures)
+    let so-far = wrote-then room (wrote-then room (word .put-all .ensures) (pen .put-hex-pair .ensures)) (erasure .put-flag .ensures) in
+    wrote-then room (wrote-then room so-far (full .put-flag2 .ensures)) (c .before .before .put-byte .ensures)
 
 pub put-modes-spec : {M : Type 1} → statement M
 put-modes-spec =
@@ -20,6 +25,8 @@ put-modes-spec =
     (tie.spec
     (λ c. search needs)
     (λ c κs. search needs)
+    (λ c κs. search needs)
+    (λ c. search needs)
     (λ c κs. search needs)
     (λ c. search needs)
     (λ c κs. search needs)

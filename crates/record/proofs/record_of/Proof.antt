@@ -20,7 +20,7 @@ unfolding recordOf
 returns c =
     let first = c .before .before .before .before .before .before .before in
     let s = first .before .before .before .before .before .before .args .state in
-    let zeros : List ℕ = replicate 194 0 in
+    let zeros : List ℕ = replicate 195 0 in
     let room : 0 ≤ length zeros = omega arith in
     let all = wrote-then room (wrote-then room (first .put-all .ensures) (c .before .before .before .before .put-arguments .ensures)) (c .before .put-stops .ensures) in
     let joined = ap (λ (l : List ℕ). l ++ argumentBytes (s .half .arguments) ++ stopBytes (s .stops)) (first .before .before .before .first-bytes .ensures) in
