@@ -19,18 +19,18 @@ use Rattle.panel.proofs.Laws.{start-untouched, start-done, untouched-ca
 
 pub record RightLengths (lent : Lent) : Type 0 where
   pub result : length (lent .result) ≡ 13
-  pub packed : length (lent .packed) ≡ 194
+  pub packed : length (lent .packed) ≡ 195
 
 pub data CallCase (call : Terminal → Outcome) (lent : Lent) : Type 0 where
   other-result : (length (lent .result) ≡ 13 → ⊥) → onTerminal call lent ≡ untouched 1 lent → CallCase call lent
-  other-record : length (lent .result) ≡ 13 → (length (lent .packed) ≡ 194 → ⊥) → onTerminal call lent ≡ untouched 2 lent → CallCase call lent
+  other-record : length (lent .result) ≡ 13 → (length (lent .packed) ≡ 195 → ⊥) → onTerminal call lent ≡ untouched 2 lent → CallCase call lent
   wrong-size : RightLengths lent → sizeFits (stateIn (lent .packed) .size) (pageIn lent) ≡ false → onTerminal call lent ≡ refusedWith 1 lent → CallCase call lent
   bad-content : RightLengths lent → sizeFits (stateIn (lent .packed) .size) (pageIn lent) ≡ true → (Good (lent .packed) → ⊥) → onTerminal call lent ≡ refusedWith 2 lent → CallCase call lent
   called : RightLengths lent → sizeFits (stateIn (lent .packed) .size) (pageIn lent) ≡ true → Good (lent .packed) → onTerminal call lent ≡ leftBy lent (call (terminalIn lent)) → CallCase call lent
 
 pub data StartCase (rows columns : ℕ) (lent : Lent) : Type 0 where
   other-result : (length (lent .result) ≡ 13 → ⊥) → panelStart rows columns lent ≡ untouched 1 lent → StartCase rows columns lent
-  other-record : length (lent .result) ≡ 13 → (length (lent .packed) ≡ 194 → ⊥) → panelStart rows columns lent ≡ untouched 2 lent → StartCase rows columns lent
+  other-record : length (lent .result) ≡ 13 → (length (lent .packed) ≡ 195 → ⊥) → panelStart rows columns lent ≡ untouched 2 lent → StartCase rows columns lent
   called : RightLengths lent → panelStart rows columns lent ≡ leftBy lent (startCall (record { rows = rows; columns = columns }) (pageIn lent)) → StartCase rows columns lent
 
 module _ (lent : Lent) where
@@ -38,11 +38,11 @@ module _ (lent : Lent) where
   unfolding wrongLength
   result-wrong other = then-case {A = ℕ} _ _ _ (ap not other)
 
-  record-wrong : eqb (length (lent .result)) 13 ≡ true → eqb (length (lent .packed)) 194 ≡ false → wrongLength (lent .packed) (lent .result) ≡ 2
+  record-wrong : eqb (length (lent .result)) 13 ≡ true → eqb (length (lent .packed)) 195 ≡ false → wrongLength (lent .packed) (lent .result) ≡ 2
   unfolding wrongLength
   record-wrong same other = else-case {A = ℕ} _ _ _ (ap not same) ∙ then-case {A = ℕ} _ _ _ (ap not other)
 
-  none-wrong : eqb (length (lent .result)) 13 ≡ true → eqb (length (lent .packed)) 194 ≡ true → wrongLength (lent .packed) (lent .result) ≡ 0
+  none-wrong : eqb (length (lent .result)) 13 ≡ true → eqb (length (lent .packed)) 195 ≡ true → wrongLength (lent .packed) (lent .result) ≡ 0
   unfolding wrongLength
   none-wrong same same-too = else-case {A = ℕ} _ _ _ (ap not same) ∙ else-case {A = ℕ} _ _ _ (ap not same-too)
 
@@ -61,14 +61,14 @@ module _ (lent : Lent) where
   pub start-case : (rows columns : ℕ) → StartCase rows columns lent
   start-case rows columns =
       either-way (eqb (length (lent .result)) 13)
-      (λ same. either-way (eqb (length (lent .packed)) 194)
+      (λ same. either-way (eqb (length (lent .packed)) 195)
       (λ same-too. called (record { result = eqb-true _ _ same; packed = eqb-true _ _ same-too })
       (sym (start-done lent 0 (sym (none-wrong same same-too)) rows columns (omega arith) _ refl)))
       (λ other. other-record (eqb-true _ _ same) (eqb-false _ _ other) (sym (start-untouched lent 2 (sym (record-wrong same other)) rows columns (omega arith)))))
       (λ other. other-result (eqb-false _ _ other) (sym (start-untouched lent 1 (sym (result-wrong other)) rows columns (omega arith))))
 
   module _ (call : Terminal → Outcome) where
-    content-case : eqb (length (lent .result)) 13 ≡ true → eqb (length (lent .packed)) 194 ≡ true → CallCase call lent
+    content-case : eqb (length (lent .result)) 13 ≡ true → eqb (length (lent .packed)) 195 ≡ true → CallCase call lent
     content-case same same-too =
         let right : RightLengths lent = record { result = eqb-true _ _ same; packed = eqb-true _ _ same-too } in
         let none = sym (none-wrong same same-too) in
@@ -81,6 +81,6 @@ module _ (lent : Lent) where
     pub call-case : CallCase call lent
     call-case =
         either-way (eqb (length (lent .result)) 13)
-        (λ same. either-way (eqb (length (lent .packed)) 194) (content-case same)
+        (λ same. either-way (eqb (length (lent .packed)) 195) (content-case same)
         (λ other. other-record (eqb-true _ _ same) (eqb-false _ _ other) (sym (untouched-call lent 2 (sym (record-wrong same other)) call (omega arith)))))
         (λ other. other-result (eqb-false _ _ other) (sym (untouched-call lent 1 (sym (result-wrong other)) call (omega arith))))

@@ -21,12 +21,12 @@ unfolding resultBytes numberBytes
 result-length number taken sent stored = refl
 
 -- Where neither length is wrong.
-pub right-lengths : (packed result : List ℕ) → wrongLength packed result ≤ 0 → (length packed ≡ 194) × (length result ≡ 13)
+pub right-lengths : (packed result : List ℕ) → wrongLength packed result ≤ 0 → (length packed ≡ 195) × (length result ≡ 13)
 unfolding wrongLength
 right-lengths packed result =
-    either-line (λ (wrong : ℕ). wrong ≤ 0 → (length packed ≡ 194) × (length result ≡ 13)) _ _ _
+    either-line (λ (wrong : ℕ). wrong ≤ 0 → (length packed ≡ 195) × (length result ≡ 13)) _ _ _
     (λ _ none. absurd (omega arith))
-    (λ thirteen. either-line (λ (wrong : ℕ). wrong ≤ 0 → (length packed ≡ 194) × (length result ≡ 13)) _ _ _
+    (λ thirteen. either-line (λ (wrong : ℕ). wrong ≤ 0 → (length packed ≡ 195) × (length result ≡ 13)) _ _ _
     (λ _ none. absurd (omega arith))
     (λ long none. (eqb-true _ _ (not-false _ long), eqb-true _ _ (not-false _ thirteen))))
 

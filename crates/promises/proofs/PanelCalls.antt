@@ -159,7 +159,7 @@ same-shown a b = λ i. record {
 lengths-or-not : {A : Type 0} (lent : Lent) → (OtherLength lent → A) → ((OtherLength lent → ⊥) → length (lent .result) ≡ 13 → A) → A
 lengths-or-not lent other right =
     either-way (eqb (length (lent .result)) 13)
-    (λ same. either-way (eqb (length (lent .packed)) 194)
+    (λ same. either-way (eqb (length (lent .packed)) 195)
     (λ same-too. right (λ is. ⊎-elim (λ no-result. no-result (eqb-true _ _ same)) (λ no-record. no-record (eqb-true _ _ same-too)) is) (eqb-true _ _ same))
     (λ differ. other (inr (eqb-false _ _ differ))))
     (λ differ. other (inl (eqb-false _ _ differ)))

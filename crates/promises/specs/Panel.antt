@@ -48,7 +48,7 @@ pub record ValidState (s : State) : Type 0 where
   pub valid : validState s ≡ true
   pub arrays : Arrays s
 
--- One record for each valid state, and its state back. A record has 194 bytes, that of the all-zero state all zeros.
+-- One record for each valid state, and its state back. A record has 195 bytes, that of the all-zero state all zeros.
 pub record OneRecord (coding : Coding) : Type 0 where
   pub fixed-length : (s : State) → length (coding .write s) ≡ recordLength
   pub taken : (s : State) → ValidState s → coding .takes (coding .write s) ≡ true

@@ -6,10 +6,10 @@ use Rattle.calls.proofs.print_state.Statement.{statement}
 use Rattle.calls.proofs.print_state.Tie as tie
 
 abbrev Inv-loop : tie.InvT-loop
-Inv-loop state bytes₀ part₀ bytes part = length bytes ≡ 362
+Inv-loop state bytes₀ part₀ bytes part = length bytes ≡ 364
 
 abbrev μ-loop : tie.MeasureT-loop
-μ-loop state bytes₀ part₀ bytes part = 181 - part
+μ-loop state bytes₀ part₀ bytes part = 182 - part
 
 pub print-state-spec : {M : Type 1} → statement M
 print-state-spec =
