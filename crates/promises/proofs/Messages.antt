@@ -14,7 +14,7 @@ use Rattle.sequence.specs.Reading.{ends, isCancel, afterEsc, sequenceReadOn, in
 use Rattle.sequence.proofs.Events.{Tells, event-tells}
 use Rattle.state.specs.declared.Locks.{Locks}
 use Rattle.state.specs.declared.State.{State}
-use Rattle.state.specs.State.{inputDisabled, inputEnabled}
+use Rattle.state.specs.State.{refused, inputDisabled, inputEnabled}
 use Rattle.state.specs.Moves.{upBy, downBy, rightBy, leftBy, toMargin, toNextCell}
 use Rattle.state.specs.Tabs.{stopSet, stopCleared, stopsCleared, tabbedOn, tabbedBack}
 use Rattle.steps.specs.Steps.{Terminal, Stepped}
@@ -102,7 +102,7 @@ module _ (t : Terminal) where
 
     -- After ESC, but for c and b.
     esc-leaves : (byte : ℕ) → (byte ≡ 0x63 → ⊥) → (byte ≡ 0x62 → ⊥) → Leaves t (escStep byte here)
-    unfolding escStep areaSet stopSet sendBlock inputDisabled
+    unfolding escStep areaSet stopSet sendBlock inputDisabled refused
     esc-leaves byte not-c not-b =
         line _ _ _ line-down-leaves
         (line _ _ _ next-line-leaves
@@ -116,7 +116,7 @@ module _ (t : Terminal) where
         (either-line (Leaves t) _ _ _ (λ b. absurd (not-b (eqb-true byte 0x62 b))) (λ _. refuses refl refl))))))))))
 
     move-leaves : (final : ℕ) (arguments : List ℕ) → Leaves t (moveStep final arguments here)
-    unfolding moveStep upBy downBy rightBy leftBy toMargin toColumn toRow toPlace tabbedOn tabbedBack
+    unfolding refused moveStep upBy downBy rightBy leftBy toMargin toColumn toRow toPlace tabbedOn tabbedBack
     move-leaves final arguments =
         line _ _ _ (same refl refl refl)
         (line _ _ _ (same refl refl refl)
@@ -131,15 +131,15 @@ module _ (t : Terminal) where
         (line _ _ _ (same refl refl refl) (same refl refl refl)))))))))))
 
     erase-leaves : (final what first end : ℕ) → Leaves t (erasePart final what first end here)
-    unfolding erasePart erasing
+    unfolding refused erasePart erasing
     erase-leaves final what first end = line _ _ _ (same refl refl refl) (line _ _ _ (same refl refl refl) (line _ _ _ (same refl refl refl) (refuses refl refl)))
 
     mode-leaves : (final : ℕ) (on : Bool) (values : List ℕ) → Leaves t (setMode final on values here)
-    unfolding setMode
+    unfolding refused setMode
     mode-leaves final on values = line _ _ _ (same refl refl refl) (refuses refl refl)
 
     listed-leaves : (final : ℕ) (arguments : List ℕ) (count : ℕ) → Leaves t (listedStep final arguments count here)
-    unfolding listedStep tabControl stopSet stopCleared stopsCleared areaQualified areaSet rendition statusReport readyReport cursorReport
+    unfolding refused listedStep tabControl stopSet stopCleared stopsCleared areaQualified areaSet rendition statusReport readyReport cursorReport
     listed-leaves final arguments count =
         line _ _ _ (move-leaves final arguments)
         (line _ _ _ (line _ _ _ (same refl refl refl) (line _ _ _ (same refl refl refl) (line _ _ _ (same refl refl refl) (refuses refl refl))))
@@ -152,7 +152,7 @@ module _ (t : Terminal) where
         (line _ _ _ (same refl refl refl) (line _ _ _ (same refl refl refl) (refuses refl refl))))))))))
 
     pub event-leaves : (event : Event) → Ordinary event → Leaves t (eventStep (t .state .half) event here)
-    unfolding eventStep bracketStep Ordinary
+    unfolding refused eventStep bracketStep Ordinary
     event-leaves Nothing _ = same refl refl refl
     event-leaves (Text character) _ = text-leaves character
     event-leaves (Control control) _ = control-leaves control

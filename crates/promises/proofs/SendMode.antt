@@ -14,7 +14,7 @@ use Rattle.sequence.specs.Reading.{ends, isCancel, afterPrivateMark, sequenceRe
 use Rattle.sequence.proofs.Events.{Tells, event-tells}
 use Rattle.state.specs.declared.Modes.{Modes}
 use Rattle.state.specs.declared.State.{State}
-use Rattle.state.specs.State.{inputEnabled}
+use Rattle.state.specs.State.{refused, inputEnabled}
 use Rattle.steps.specs.Steps.{Terminal, Stepped}
 use Rattle.table.specs.PrivateForms.{privateStep}
 use Rattle.table.proofs.PrivateForms.{mode-set, mode-reset}
@@ -61,14 +61,14 @@ module _ (t : Terminal) where
     unfolding eventStep Ordinary
     esc-leaves command not-c =
         either-way (eqb command 0x62)
-        (λ is. b-leaves command (eqb-true _ _ is))
+        (λ b. b-leaves command (eqb-true _ _ b))
         (λ other. mode-left (event-leaves t half (EscCommand command) (not-c, eqb-false _ _ other)))
 
     private-leaves : (final argument : ℕ) → (argument ≡ 6 → final ≡ 0x68 → ⊥) → (argument ≡ 6 → final ≡ 0x6C → ⊥) → SameMode t (privateStep final argument here)
-    unfolding privateStep
+    unfolding privateStep refused
     private-leaves final argument not-set not-reset =
-        either-line (SameMode t) _ _ _ (λ is. absurd (not-set (eqb-true _ _ (both is .0)) (eqb-true _ _ (both is .1))))
-        (λ _. either-line (SameMode t) _ _ _ (λ is. absurd (not-reset (eqb-true _ _ (both is .0)) (eqb-true _ _ (both is .1)))) (λ _. refl))
+        either-line (SameMode t) _ _ _ (λ set. absurd (not-set (eqb-true _ _ (both set .0)) (eqb-true _ _ (both set .1))))
+        (λ _. either-line (SameMode t) _ _ _ (λ reset. absurd (not-reset (eqb-true _ _ (both reset .0)) (eqb-true _ _ (both reset .1)))) (λ _. refl))
 
     event-left : (byte : ℕ) (event : Event) → Tells (t .state .half) byte event → ((full : Bool) → Chooses (t .state .half) full byte → ⊥) → SameMode t (eventStep (t .state .half) event here)
     unfolding eventStep Tells Ordinary

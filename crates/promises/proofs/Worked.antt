@@ -52,7 +52,7 @@ abbrev pub start : Terminal
 start = at 1 (form "A" "C" noTag)
 
 -- A terminal whose 266 sends all.
-abbrev inFull : Terminal → Terminal
+abbrev pub inFull : Terminal → Terminal
 inFull t = withState t (withFull (t .state) true)
 
 pub start-valid : Valid start
