@@ -2,6 +2,7 @@ pub mod WrongAnswers
 pub mod WrongReasons
 pub mod WrongContracts
 pub mod WrongReads
+pub mod WrongModes
 pub mod WrongKeys
 pub mod WrongBounds
 pub mod WrongFields

@@ -24,10 +24,12 @@ use Rattle.terminal.specs.Calls.{hostCall}
 use Rattle.terminal.specs.Lines.{Line3, this-holds, not-this}
 use Rattle.words.specs.Text.{bytes}
 use Rattle.promises.specs.Rules.{ourRules, press, byteSteps}
-use Rattle.promises.specs.Further.{changed-by-266, Progress, SendsBlocks, Bounded}
+use Rattle.promises.specs.Further.{by-266, Progress, SendsBlocks, Bounded}
 use Rattle.wrong.specs.Entries.{stopsAtOnce, hidesSentOn3}
 use Rattle.wrong.specs.Rules.{isBlock, withholdsChanged, endsTwice, sendsFixedBlock}
 use Rattle.promises.proofs.Theorems.{demand-1, valid-by-the-table}
+use Rattle.promises.proofs.Worked.{inFull}
+use Rattle.wrong.proofs.WrongModes.{in-full-valid}
 use Rattle.promises.proofs.Computing.{validity, hostSteps, keySteps, calls, streams}
 
 -- 48 rows of 160 columns with a field in each even column; the first begins in column 1.
@@ -38,11 +40,18 @@ pub many-valid : Valid manyFields
 unfolding validity eachFrom firstAndEven placeOf
 many-valid = record { size = refl; state = refl; page = refl }
 
+-- The same where 266 sends all.
+abbrev pub manyInFull : Terminal
+manyInFull = inFull manyFields
+
+pub many-in-full-valid : Valid manyInFull
+many-in-full-valid = in-full-valid many-valid
+
 pub endsTwice-breaks-bounded : Bounded endsTwice → ⊥
 unfolding keySteps streams
 endsTwice-breaks-bounded kept =
     let longest = block true 160 (manyFields .page) in
-    let bound : length (longest ++ (0x03 ∷ [])) ≤ 35138 = kept manyFields many-valid (press 267) true (longest ++ (0x03 ∷ [])) refl in
+    let bound : length (longest ++ (0x03 ∷ [])) ≤ 35138 = kept manyInFull many-in-full-valid (press 266) true (longest ++ (0x03 ∷ [])) refl in
     omega (arith, bound, length-append longest (0x03 ∷ []), longest-reached)
 
 pub sendsFixedBlock-breaks-bounded : Bounded sendsFixedBlock → ⊥
@@ -56,13 +65,13 @@ pub endsTwice-breaks-sends-blocks : SendsBlocks endsTwice → ⊥
 unfolding keySteps streams
 endsTwice-breaks-sends-blocks kept =
     let longest = block true 160 (manyFields .page) in
-    let is-block = kept manyFields many-valid (press 267) true (longest ++ (0x03 ∷ [])) .0 refl .1 in
+    let is-block = kept manyInFull many-in-full-valid (press 266) true (longest ++ (0x03 ∷ [])) .0 refl .1 in
     omega (arith, ap length is-block, length-append longest (0x03 ∷ []))
 
 pub withholdsChanged-breaks-sends-blocks : SendsBlocks withholdsChanged → ⊥
 unfolding keySteps streams isBlock
 withholdsChanged-breaks-sends-blocks kept =
-    let sent = kept manyFields many-valid (press 266) false (block false 160 (manyFields .page)) .1 (changed-by-266, refl) in
+    let sent = kept manyFields many-valid (press 266) false (block false 160 (manyFields .page)) .1 (by-266 false refl, refl) in
     true-is-not-false (sym (ap isBlock sent))
 
 -- With room for the longest block, a call that is given 3 has sent something: of two blocks, asked for in one call, the

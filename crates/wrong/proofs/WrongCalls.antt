@@ -11,7 +11,7 @@ use Rattle.words.specs.Output.{placed}
 use Rattle.words.proofs.Choosing.{then-case}
 use Rattle.blocks.specs.Blocks.{block}
 use Rattle.blocks.specs.Finding.{blocksIn}
-use Rattle.steps.specs.Steps.{Terminal, Transmission, fullBlock, changedBlock, sends}
+use Rattle.steps.specs.Steps.{Terminal, changedBlock, sends}
 use Rattle.terminal.specs.Runs.{stepsOf, bytesSentBy}
 use Rattle.terminal.specs.Answers.{Outcome, bytesSent}
 use Rattle.terminal.specs.Calls.{hostCall}
@@ -26,28 +26,40 @@ use Rattle.wrong.specs.Rules.{keyCallBy, keysBy, neverTags, tagsOnlyChan
 use Rattle.wrong.specs.Finding.{upTo03, by03Alone, orElseOne, inventsBlock, findsNone}
 use Rattle.promises.proofs.Calling.{inputs-in-front}
 use Rattle.promises.proofs.Sheets.{sheet}
+use Rattle.promises.proofs.Worked.{escS, leaves}
 use Rattle.wrong.proofs.WrongCopies.{texts, clear, before, after, B-valid, fieldBlock, emptyBlock, firstBlock, full-block-is, untagged-block, copy-is-stale, second-copy, typeX, field-listed, wrongly-omitted, typeB}
 use Rattle.promises.proofs.Computing.{tests, blockBytes, finding, hostSteps, keySteps, calls, streams}
 
--- 267, a character, 266, with room for either block.
+-- ESC S, a character, 266, with room for either block.
 abbrev room : List ℕ
 room = replicate 10 0
 
 abbrev start : Terminal
 start = before "B" clear
 
-abbrev keyCalls : ℕ → List Call
-keyCalls character = keyPress 267 room ∷ keyPress character [] ∷ keyPress 266 room ∷ []
+abbrev typing : ℕ → List Call
+typing character = read escS room ∷ keyPress character [] ∷ keyPress 266 room ∷ []
 
--- A key call that sends a block and leaves the terminal.
-abbrev sending : Transmission → Terminal → ℕ → Outcome
-sending transmission t key = keyCallBy (λ _ _. sends transmission (t .state) (t .page)) t key room
+-- The host call with ESC S.
+start-sends : bytesSentBy (stepsOf start escS) ≡ fieldBlock "B"
+unfolding hostSteps stepsOf bytesSentBy
+start-sends = λ i. full-block-is "B" i ++ []
 
-full-sent : sending (fullBlock firstBlock) start 267 ≡ sending (fullBlock (fieldBlock "B")) start 267
-full-sent = ap (λ (bytes : List ℕ). sending (fullBlock bytes) start 267) (full-block-is "B")
+abbrev fullSent : Outcome
+fullSent = leaves 0 2 0 (fieldBlock "B") start
 
-changed-sent : (second : Char) → sending (changedBlock (block false 80 (sheet (texts second) clear))) (after second clear) 266 ≡ sending (changedBlock emptyBlock) (after second clear) 266
-changed-sent second = ap (λ (bytes : List ℕ). sending (changedBlock bytes) (after second clear) 266) (untagged-block second)
+full-sent : hostCall start escS room ≡ fullSent
+unfolding hostSteps calls
+full-sent =
+    host-did start escS room B-valid (omega arith) (omega (arith, ap length start-sends))
+    ∙ (λ i. record { number = 0; taken = 2; sent = length (start-sends i); stored = 0; refused = 0; protection = false; terminal = start; output = placed 0 (start-sends i) room })
+
+-- A call with 266 that sends a changed block and leaves the terminal.
+abbrev sending : List ℕ → Terminal → Outcome
+sending bytes t = keyCallBy (λ _ _. sends (changedBlock bytes) (t .state) (t .page)) t 266 room
+
+changed-sent : (second : Char) → sending (block false 80 (sheet (texts second) clear)) (after second clear) ≡ sending emptyBlock (after second clear)
+changed-sent second = ap (λ (bytes : List ℕ). sending bytes (after second clear)) (untagged-block second)
 
 -- A key call given 0 did its key.
 key-in-front : (entries : Entries) (t : Terminal) (key : ℕ) (output : List ℕ) (later : List Call) {inputs : List Input} {outcome : Outcome} → entries .key t key output ≡ outcome → outcome .number ≡ 0 → inputsDone entries (outcome .terminal) later ≡ inputs → inputsDone entries t (keyPress key output ∷ later) ≡ press key ∷ inputs
@@ -57,29 +69,30 @@ key-in-front entries t key output later {outcome} is zero further =
     ∙ ap (λ (now : List Input). now ++ inputsDone entries (outcome .terminal) later) (then-case _ _ _ (eq-eqb _ _ zero))
     ∙ ap (λ (inputs : List Input). press key ∷ inputs) further
 
--- So did these three, where each is given 0.
-keys-done : (entries : Entries) (character : ℕ) {full typed changed : Outcome} → entries .key start 267 room ≡ full → entries .key (full .terminal) character [] ≡ typed → entries .key (typed .terminal) 266 room ≡ changed
-    → full .number ≡ 0 → typed .number ≡ 0 → changed .number ≡ 0 → inputsDone entries start (keyCalls character) ≡ press 267 ∷ press character ∷ press 266 ∷ []
-unfolding inputsDone
-keys-done entries character {full} {typed} {changed} sends types sends-again done-first done-second done-third =
-    key-in-front entries start 267 room (keyPress character [] ∷ keyPress 266 room ∷ []) sends done-first
-    (key-in-front entries (full .terminal) character [] (keyPress 266 room ∷ []) types done-second
+-- So did those two after ESC S, where each is given 0.
+typing-done : (entries : Entries) (character : ℕ) {typed changed : Outcome} → entries .host start escS room ≡ fullSent → entries .key start character [] ≡ typed → entries .key (typed .terminal) 266 room ≡ changed
+    → typed .number ≡ 0 → changed .number ≡ 0 → inputsDone entries start (typing character) ≡ byte 0x1B ∷ byte (code "S") ∷ press character ∷ press 266 ∷ []
+unfolding outcomeOf inputsOf inputsDone
+typing-done entries character {typed} sends types sends-again done-second done-third =
+    inputs-in-front entries start (read escS room) (keyPress character [] ∷ keyPress 266 room ∷ []) sends
+    ∙ ap (λ (inputs : List Input). byte 0x1B ∷ byte (code "S") ∷ inputs)
+    (key-in-front entries start character [] (keyPress 266 room ∷ []) types done-second
     (key-in-front entries (typed .terminal) 266 room [] sends-again done-third refl))
 
 -- X is typed, and not tagged: the copy has B still.
 pub neverTags-breaks-copying : Copying blocksIn neverTags (keysBy neverTags) → ⊥
-unfolding keySteps calls streams HostStoresNothing blockIn blocksSent standings copies
+unfolding hostSteps keySteps calls streams HostStoresNothing blockIn blocksSent standings copies
 neverTags-breaks-copying kept =
-    let did = keys-done (keysBy neverTags) (code "X") full-sent refl (changed-sent "X") refl refl refl in
-    copy-is-stale (untagged-block "X") (second-copy (kept start (keyCalls (code "X")) [] (press 267) typeX firstBlock did refl tt .copy))
+    let did = typing-done (keysBy neverTags) (code "X") full-sent refl (changed-sent "X") refl refl in
+    copy-is-stale (untagged-block "X") (second-copy (kept start (typing (code "X")) (byte 0x1B ∷ []) (byte (code "S")) typeX firstBlock did refl tt .copy))
 
 -- B is typed where B stands, and not tagged: the copy is right, and the changed block omits what was stored.
 pub tagsOnlyChanges-breaks-copying : Copying blocksIn tagsOnlyChanges (keysBy tagsOnlyChanges) → ⊥
-unfolding blockBytes keySteps calls streams HostStoresNothing OmissionHolds OmitsExactly storedSince
+unfolding blockBytes hostSteps keySteps calls streams HostStoresNothing OmissionHolds OmitsExactly storedSince
 tagsOnlyChanges-breaks-copying kept =
-    let did = keys-done (keysBy tagsOnlyChanges) (code "B") full-sent refl (changed-sent "B") refl refl refl in
+    let did = typing-done (keysBy tagsOnlyChanges) (code "B") full-sent refl (changed-sent "B") refl refl in
     wrongly-omitted clear (block false 80 (sheet (texts "B") clear)) (field-listed clear refl refl) (untagged-block "B")
-    (kept start (keyCalls (code "B")) [] (press 267) typeB firstBlock did refl tt .omission .1 .0)
+    (kept start (typing (code "B")) (byte 0x1B ∷ []) (byte (code "S")) typeB firstBlock did refl tt .omission .1 .0)
 
 -- The first of some blocks.
 firstOf : List (List ℕ) → List ℕ

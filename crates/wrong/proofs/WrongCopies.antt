@@ -8,6 +8,7 @@ use native.Mathlib.Omega.{arith}
 use borrow.Author.Tests.{eqb-false}
 use lib.ListN.{length, getD, replicate}
 use Rattle.words.specs.Lists.{selected}
+use Rattle.sequence.specs.Record.{escRead}
 use Rattle.page.specs.Marks.{isModified, unprotected}
 use Rattle.page.specs.Page.{cells}
 use Rattle.fields.specs.Fields.{Field, fieldsFrom, fieldsOf}
@@ -17,12 +18,13 @@ use Rattle.blocks.specs.Lay.{lay}
 use Rattle.steps.specs.Steps.{Terminal, changedBlock, Valid}
 use Rattle.steps.specs.Seen.{fieldsHere}
 use Rattle.words.specs.Text.{bytes}
-use Rattle.promises.specs.Rules.{Input, press}
+use Rattle.promises.specs.Rules.{Input, byte, press}
 use Rattle.promises.specs.Copying.{HostStoresNothing, blockIn, blocksSent, standings, copies, OmitsExactly, storedSince, OmissionHolds}
 use Rattle.promises.specs.Further.{CopyingSteps, OmissionSteps}
 use Rattle.wrong.specs.Rules.{firstCellBlock, looksAtFirstCells, feignsChangedBlocks, neverTags, tagsOnlyChanges, isBlock, keepsTags}
 use Rattle.promises.proofs.Sheets.{sheet, at, sheet-fields, sheet-block}
-use Rattle.promises.proofs.Computing.{validity, blockBytes, laying, keySteps, streams}
+use Rattle.wrong.proofs.WrongModes.{halfRead}
+use Rattle.promises.proofs.Computing.{validity, blockBytes, laying, hostSteps, keySteps, streams}
 
 -- A field of three cells: A, some second character, C. Its marks: no tag, a tag on the first cell, one on the second.
 abbrev pub texts : Char → List ℕ
@@ -47,6 +49,14 @@ after second marks = at 3 (sheet (texts second) marks)
 pub B-valid : Valid (before "B" clear)
 unfolding validity
 B-valid = record { size = refl; state = refl; page = refl }
+
+-- With ESC half read, S asks for a full block.
+abbrev asking : List ℕ → Terminal
+asking marks = halfRead escRead (before "B" marks)
+
+asking-valid : Valid (asking clear)
+unfolding validity
+asking-valid = record { size = B-valid .size; state = refl; page = B-valid .page }
 
 -- ESC [ 1 ; 1 f, the three characters, 03; and 03 alone.
 abbrev pub fieldBlock : Char → List ℕ
@@ -93,19 +103,19 @@ abbrev pub typeX : List Input
 typeX = press (code "X") ∷ press 266 ∷ []
 
 pub looksAtFirstCells-breaks-copying-steps : CopyingSteps looksAtFirstCells → ⊥
-unfolding keySteps streams HostStoresNothing blockIn blocksSent standings copies
+unfolding hostSteps keySteps streams HostStoresNothing blockIn blocksSent standings copies
 looksAtFirstCells-breaks-copying-steps kept =
-    copy-is-stale (by-first-cells "X") (second-copy (kept (before "B" clear) B-valid (press 267) firstBlock refl typeX tt))
+    copy-is-stale (by-first-cells "X") (second-copy (kept (asking clear) asking-valid (byte (code "S")) firstBlock refl typeX tt))
 
 pub feignsChangedBlocks-breaks-copying-steps : CopyingSteps feignsChangedBlocks → ⊥
-unfolding keySteps streams HostStoresNothing blockIn blocksSent standings copies
+unfolding hostSteps keySteps streams HostStoresNothing blockIn blocksSent standings copies
 feignsChangedBlocks-breaks-copying-steps kept =
-    copy-is-stale refl (second-copy (kept (before "B" clear) B-valid (press 267) firstBlock refl typeX tt))
+    copy-is-stale refl (second-copy (kept (asking clear) asking-valid (byte (code "S")) firstBlock refl typeX tt))
 
 pub neverTags-breaks-copying-steps : CopyingSteps neverTags → ⊥
-unfolding keySteps streams HostStoresNothing blockIn blocksSent standings copies
+unfolding hostSteps keySteps streams HostStoresNothing blockIn blocksSent standings copies
 neverTags-breaks-copying-steps kept =
-    copy-is-stale (untagged-block "X") (second-copy (kept (before "B" clear) B-valid (press 267) firstBlock refl typeX tt))
+    copy-is-stale (untagged-block "X") (second-copy (kept (asking clear) asking-valid (byte (code "S")) firstBlock refl typeX tt))
 
 -- Omission. The field; and a changed block that omits it, though its second cell was stored.
 abbrev threeCells : Field
@@ -126,23 +136,23 @@ abbrev pub typeB : List Input
 typeB = press (code "B") ∷ press 266 ∷ []
 
 pub looksAtFirstCells-breaks-omission-steps : OmissionSteps looksAtFirstCells → ⊥
-unfolding blockBytes keySteps streams HostStoresNothing OmissionHolds OmitsExactly storedSince
+unfolding blockBytes hostSteps keySteps streams HostStoresNothing OmissionHolds OmitsExactly storedSince
 looksAtFirstCells-breaks-omission-steps kept =
     wrongly-omitted secondTagged (firstCellBlock (after "B" secondTagged)) (field-listed secondTagged refl refl) (by-first-cells "B")
-    (kept (before "B" clear) B-valid (press 267) firstBlock refl typeB tt .1 .0)
+    (kept (asking clear) asking-valid (byte (code "S")) firstBlock refl typeB tt .1 .0)
 
 pub tagsOnlyChanges-breaks-omission-steps : OmissionSteps tagsOnlyChanges → ⊥
-unfolding blockBytes keySteps streams HostStoresNothing OmissionHolds OmitsExactly storedSince
+unfolding blockBytes hostSteps keySteps streams HostStoresNothing OmissionHolds OmitsExactly storedSince
 tagsOnlyChanges-breaks-omission-steps kept =
     wrongly-omitted clear (block false 80 (sheet (texts "B") clear)) (field-listed clear refl refl) (untagged-block "B")
-    (kept (before "B" clear) B-valid (press 267) firstBlock refl typeB tt .1 .0)
+    (kept (asking clear) asking-valid (byte (code "S")) firstBlock refl typeB tt .1 .0)
 
 -- Where the first cell is modified before the full block, a changed block right after it is to have no field.
 first-tagged-block : block false 80 (sheet (texts "B") firstTagged) ≡ fieldBlock "B"
 unfolding blockBytes
 first-tagged-block = sheet-block (texts "B") firstTagged refl refl false ∙ refl
 
-first-tagged-valid : Valid (before "B" firstTagged)
+first-tagged-valid : Valid (asking firstTagged)
 unfolding validity
 first-tagged-valid = record { size = refl; state = refl; page = refl }
 
@@ -154,6 +164,6 @@ wrongly-sent exactly =
     omitted .no-entry entry (subst (λ (bytes : List ℕ). List·Memᴰ entry (decode bytes)) (sym first-tagged-block) (List·Memᴰ·head refl)) refl refl
 
 pub keepsTags-breaks-omission-steps : OmissionSteps keepsTags → ⊥
-unfolding keySteps streams isBlock HostStoresNothing OmissionHolds OmitsExactly storedSince
+unfolding hostSteps keySteps streams isBlock HostStoresNothing OmissionHolds OmitsExactly storedSince
 keepsTags-breaks-omission-steps kept =
-    wrongly-sent (kept (before "B" firstTagged) first-tagged-valid (press 267) (block true 80 (sheet (texts "B") firstTagged)) refl (press 266 ∷ []) tt .0)
+    wrongly-sent (kept (asking firstTagged) first-tagged-valid (byte (code "S")) (block true 80 (sheet (texts "B") firstTagged)) refl (press 266 ∷ []) tt .0)

@@ -13,27 +13,28 @@ use Rattle.promises.specs.Demands.{FeedingBack}
 use Rattle.wrong.specs.Entries.{storesNoText, fixedAnswer, refusesLongReads}
 use Rattle.promises.proofs.Calling.{first-done}
 use Rattle.promises.proofs.Sheets.{sheet, at}
-use Rattle.promises.proofs.Worked.{noTag, start, start-valid, fullBytes, full-noTag}
+use Rattle.promises.proofs.Worked.{noTag, start, inFull, start-valid, fullBytes, full-noTag}
+use Rattle.wrong.proofs.WrongModes.{in-full-valid}
 use Rattle.promises.proofs.Computing.{validity, keySteps, calls, streams}
 
 -- The sender has AB and CD, with a protected cell between them; the receiver has the same form, empty.
 abbrev receiver : Terminal
 receiver = at 1 (sheet (replicate 5 0x20) noTag)
 
-receives : Receives start receiver
+receives : Receives (inFull start) receiver
 unfolding validity
 receives = record { valid = record { size = refl; state = refl; page = refl }; size = refl; protection = λ cell. refl; nothing-half-read = refl; unprotected-pen = refl }
 
--- What 267 sends at the sender is fed in one read with no room.
+-- What 266 sends at the sender, where it sends all, is fed in one read with no room.
 abbrev sent : List ℕ
 sent = fullBytes "A" "C"
 
 abbrev oneRead : List Read
 oneRead = record { bytes = sent; output = [] } ∷ []
 
-fed : (entries : Entries) → FeedingBack ourRules entries → FedBack ourRules entries start receiver sent oneRead
+fed : (entries : Entries) → FeedingBack ourRules entries → FedBack ourRules entries (inFull start) receiver sent oneRead
 unfolding streams keySteps
-fed entries kept = kept start receiver (press 267) sent oneRead start-valid (ap fullBlock (full-noTag "A" "C")) receives refl
+fed entries kept = kept (inFull start) receiver (press 266) sent oneRead (in-full-valid start-valid) (ap fullBlock (full-noTag "A" "C")) receives refl
 
 -- Then the first cell has the sender's A, and not the receiver's 20.
 pub storesNoText-breaks-feeding-back : FeedingBack ourRules storesNoText → ⊥

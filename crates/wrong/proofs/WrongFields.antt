@@ -29,7 +29,9 @@ use Rattle.promises.proofs.Remark.{sender, sender-valid, the-fields, full-block
 use Rattle.promises.proofs.Computing.{validity, blockBytes, keySteps, calls, streams}
 use Rattle.wrong.specs.Entries.{startKeepsMarks, startProtectsFirst}
 use Rattle.wrong.specs.Rules.{cutAtRowEnd, cutsAtRowEnd, joinsLastToFirst}
-use Rattle.wrong.proofs.WrongBounds.{manyFields, many-valid}
+use Rattle.promises.proofs.Worked.{inFull}
+use Rattle.wrong.proofs.WrongModes.{in-full-valid}
+use Rattle.wrong.proofs.WrongBounds.{manyFields, manyInFull, many-in-full-valid}
 
 -- A B at 1;79, C at 2;1, D: six bytes too many.
 cut-block : encode (map (entryHere sender) (flatMap (cutAtRowEnd 80) (fieldsHere sender))) ≡ bytes "\u{1b}[1;79fAB\u{1b}[2;1fC\u{1b}[2;3fD\u{3}"
@@ -40,7 +42,7 @@ pub cutsAtRowEnd-breaks-sends-blocks : SendsBlocks cutsAtRowEnd → ⊥
 unfolding keySteps streams
 cutsAtRowEnd-breaks-sends-blocks kept =
     let sent = encode (map (entryHere sender) (flatMap (cutAtRowEnd 80) (fieldsHere sender))) in
-    let is-block = kept sender sender-valid (press 267) true sent .0 refl .1 in
+    let is-block = kept (inFull sender) (in-full-valid sender-valid) (press 266) true sent .0 refl .1 in
     omega (arith, ap length (sym cut-block ∙ is-block ∙ full-block))
 
 -- The field at 1;1 is left out: by its bytes the block is too short.
@@ -58,7 +60,7 @@ pub joinsLastToFirst-breaks-sends-blocks : SendsBlocks joinsLastToFirst → ⊥
 unfolding validity eachFrom firstAndEven placeOf unprotected keySteps streams block encode entryBytes placeBytes
 joinsLastToFirst-breaks-sends-blocks kept =
     let sent : List Field → List ℕ = λ fields. encode (map (entryHere manyFields) (drop 1 fields)) in
-    let is-block = kept manyFields many-valid (press 267) true (sent (fieldsHere manyFields)) .0 refl .1 in
+    let is-block = kept manyInFull many-in-full-valid (press 266) true (sent (fieldsHere manyFields)) .0 refl .1 in
     let whole = is-block ∙ ap encode (all-sent 160 (manyFields .page) ∙ ap (map (entryHere manyFields)) many-listed) in
     omega (arith, ap length (ap sent (sym many-listed) ∙ whole), length-append (entryBytes (entryHere manyFields firstField)) (encode (map (entryHere manyFields) otherFields)))
 

@@ -1,7 +1,7 @@
 -- Keys that change protected cells are caught by demand 2, and those that bring a character where it isn't taken by
 -- `KeysTake`; blocks that clear too much or too little, by what a block leaves.
 use mathlib.Core.Path.{refl, sym}
-use mathlib.Core.Bool.{true}
+use mathlib.Core.Bool.{true, false}
 use mathlib.Core.List.{[], _∷_, List·Memᴰ·head}
 use Prim.Native.Nat.{ℕ}
 use Prim.Native.Char.{code}
@@ -10,8 +10,7 @@ use lib.ListN.{replicate}
 use Rattle.words.proofs.Choosing.{true-is-not-false}
 use Rattle.sequence.specs.Record.{escRead}
 use Rattle.blocks.specs.Blocks.{block}
-use Rattle.state.specs.State.{withHalf}
-use Rattle.steps.specs.Steps.{Terminal, withState, Valid}
+use Rattle.steps.specs.Steps.{Terminal, Valid}
 use Rattle.words.specs.Text.{bytes}
 use Rattle.promises.specs.Rules.{byte, press}
 use Rattle.promises.specs.Demands.{KeysKeep}
@@ -19,6 +18,7 @@ use Rattle.promises.specs.Further.{BlocksKeep, KeysTake}
 use Rattle.wrong.specs.Entries.{blanksRow, typesOnProtected}
 use Rattle.wrong.specs.Rules.{isBlock, clearsAllTags, unprotectsFirst, clearsLooks, keepsTags, typesAnything, carriesAnything, makesPlain}
 use Rattle.promises.proofs.Sheets.{sheet, at}
+use Rattle.wrong.proofs.WrongModes.{halfRead}
 use Rattle.promises.proofs.Computing.{validity, hostSteps, keySteps, calls, streams}
 
 -- A field of one cell, and after it a protected B.
@@ -41,15 +41,15 @@ typesOnProtected-breaks-keys-keep kept =
 abbrev taggedLabel : Terminal
 taggedLabel = at 1 (sheet (replicate 5 0x20) (3 ∷ 0 ∷ 0 ∷ 0 ∷ 0 ∷ []))
 
--- 267 from there; and S, where ESC is half read.
+-- 266 from there; and S, where ESC is half read.
 pub clearsAllTags-breaks-blocks-keep : BlocksKeep clearsAllTags → ⊥
 unfolding validity keySteps streams isBlock
 clearsAllTags-breaks-blocks-keep kept =
     let valid : Valid taggedLabel = record { size = refl; state = refl; page = refl } in
-    eqb-false 1 3 refl (kept taggedLabel valid (press 267) true (block true 80 (taggedLabel .page)) refl .protected-cells 0 refl .mark)
+    eqb-false 1 3 refl (kept taggedLabel valid (press 266) false (block false 80 (taggedLabel .page)) refl .protected-cells 0 refl .mark)
 
 abbrev afterEscape : Terminal
-afterEscape = withState taggedLabel (withHalf (taggedLabel .state) escRead)
+afterEscape = halfRead escRead taggedLabel
 
 pub unprotectsFirst-breaks-blocks-keep : BlocksKeep unprotectsFirst → ⊥
 unfolding validity hostSteps keySteps streams isBlock
@@ -57,7 +57,7 @@ unprotectsFirst-breaks-blocks-keep kept =
     let valid : Valid afterEscape = record { size = refl; state = refl; page = refl } in
     eqb-false 0 3 refl (kept afterEscape valid (byte (code "S")) true (block true 80 (afterEscape .page)) refl .protected-cells 0 refl .mark)
 
--- A field of one cell that is modified, and is so still after 267.
+-- A field of one cell that is modified, and is so still after 266.
 abbrev taggedField : Terminal
 taggedField = at 1 (sheet (replicate 5 0x20) (2 ∷ 1 ∷ 1 ∷ 1 ∷ 1 ∷ []))
 
@@ -65,9 +65,9 @@ pub keepsTags-breaks-blocks-keep : BlocksKeep keepsTags → ⊥
 unfolding validity keySteps streams isBlock
 keepsTags-breaks-blocks-keep kept =
     let valid : Valid taggedField = record { size = refl; state = refl; page = refl } in
-    true-is-not-false (kept taggedField valid (press 267) true (block true 80 (taggedField .page)) refl .none-modified 0 refl)
+    true-is-not-false (kept taggedField valid (press 266) false (block false 80 (taggedField .page)) refl .none-modified 0 refl)
 
--- A field of one cell that is bold, and is not after 267.
+-- A field of one cell that is bold, and is not after 266.
 abbrev boldField : Terminal
 boldField = at 1 (sheet (replicate 5 0x20) (4 ∷ 1 ∷ 1 ∷ 1 ∷ 1 ∷ []))
 
@@ -75,7 +75,7 @@ pub clearsLooks-breaks-blocks-keep : BlocksKeep clearsLooks → ⊥
 unfolding validity keySteps streams isBlock
 clearsLooks-breaks-blocks-keep kept =
     let valid : Valid boldField = record { size = refl; state = refl; page = refl } in
-    eqb-false 0 4 refl (kept boldField valid (press 267) true (block true 80 (boldField .page)) refl .marks 0)
+    eqb-false 0 4 refl (kept boldField valid (press 266) false (block false 80 (boldField .page)) refl .marks 0)
 
 -- A field of one numeric cell and a plain one, with a 1 and an A.
 abbrev mixedField : Terminal

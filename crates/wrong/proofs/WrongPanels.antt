@@ -46,7 +46,7 @@ panels = tt
 
 -- A record of zeros but for the erasure mode's flag.
 abbrev flagged : ℕ → List ℕ
-flagged byte = set (replicate 194 0) 10 byte
+flagged byte = set (replicate 195 0) 10 byte
 
 -- 1 and 2 in that flag are two records of one state.
 pub takesAnyFlag-breaks-one-record : OneRecord takesAnyFlag → ⊥
@@ -107,7 +107,7 @@ bad-done : hostCall (record { state = stateIn (badLent .packed); page = oneField
 unfolding records calls
 bad-done = refl
 
-bad-length : length (badLent .packed) ≡ 194
+bad-length : length (badLent .packed) ≡ 195
 unfolding records
 bad-length = refl
 
@@ -184,7 +184,7 @@ takesOneByteMarks-breaks-numbers kept =
 
 -- A result slice of one byte.
 abbrev shortResult : Lent
-shortResult = lentOf (replicate 194 0) [] [] [] (7 ∷ [])
+shortResult = lentOf (replicate 195 0) [] [] [] (7 ∷ [])
 
 pub zeroesResults-breaks-refusals : PanelRefusals zeroesResults → ⊥
 unfolding panels
@@ -205,7 +205,7 @@ esc = 0x1B ∷ []
 
 half-is-told : recordOf (oneField .state) ≡ recordOf (hostCall oneField esc [] .terminal .state) → ⊥
 unfolding records calls hostSteps
-half-is-told same = eqb-false 0 1 refl (ap (λ (bytes : List ℕ). getD bytes 15 0) same)
+half-is-told same = eqb-false 0 1 refl (ap (λ (bytes : List ℕ). getD bytes 16 0) same)
 
 pub forgetsTheRecord-breaks-as-called : AsCalled ourEntries forgetsTheRecord → ⊥
 forgetsTheRecord-breaks-as-called kept =
@@ -326,7 +326,7 @@ pub leavesNoSize-breaks-leaves-valid : LeavesValid leavesNoSize → ⊥
 leavesNoSize-breaks-leaves-valid kept =
     let shown = key-shown 259 in
     let done = shown .number ∙ first-key in
-    let left : leavesNoSize .key formLent 259 ≡ withRecord (replicate 194 0) (panelKey formLent 259) = then-case _ _ _ (eq-eqb _ _ done) in
+    let left : leavesNoSize .key formLent 259 ≡ withRecord (replicate 195 0) (panelKey formLent 259) = then-case _ _ _ (eq-eqb _ _ done) in
     let holds = kept .of-key formLent 259 (ap (λ (l : Left). l .number) left ∙ done) in
     rows-are-not-0 (holds .state .size .rows) (rows-listed-of (holds .state) _ (holds .valid .size))
     (ap (λ (l : Left). getD (l .lent .packed) 0 0) (sym left)

@@ -1,5 +1,5 @@
 -- Wrong entries: each is ours with a fault, under the promise that it breaks (proofs/).
-use mathlib.Core.Bool.{Bool, false}
+use mathlib.Core.Bool.{Bool, true, false}
 use mathlib.Core.List.{List, [], _∷_, reverse}
 use Prim.Native.Nat.{ℕ, _+_}
 use Prim.Native.Char.{code}
@@ -12,6 +12,7 @@ use Rattle.page.specs.Page.{Page, pageOf, typed, blanked, partStored, modifiedC
 use Rattle.state.specs.declared.Locks.{Locks}
 use Rattle.state.specs.declared.Size.{Size}
 use Rattle.state.specs.State.{withCursor, cursorAt, withLocks, withHalf}
+use Rattle.state.specs.Pen.{withFull}
 use Rattle.steps.specs.Steps.{Terminal, Stepped, withState, stores, cursorCell, rowStart}
 use Rattle.commands.specs.Host.{hostStep}
 use Rattle.keys.specs.Keys.{isTyping, isEditing, isLocked, cellsFrom, keyStep}
@@ -114,7 +115,7 @@ blanksRefusedStart = withStart (λ size page.
     if eqb (outcome .number) 0 then outcome
     else leaving (withPage blank (outcome .terminal)) outcome)
 
--- 266 or 267 given 3 clears modified all the same.
+-- 266 given 3 clears modified all the same.
 abbrev pub clearsTagsRefused : Entries
 clearsTagsRefused = withKey (λ t key output. on3 (leaving (withTagsCleared t)) (keyCall t key output))
 
@@ -150,6 +151,13 @@ startProtectsFirst = withStart (λ size page.
     let outcome = startCall size page in
     let left = outcome .terminal .page in
     on0 (leaving (withPage (pageOf (left .characters) (set (left .marks) 0 1)) (outcome .terminal))) outcome)
+
+-- What 266 sends. After a start it sends all.
+abbrev pub startSendsAll : Entries
+startSendsAll = withStart (λ size page.
+    let outcome = startCall size page in
+    let left = outcome .terminal in
+    on0 (leaving (withState left (withFull (left .state) true))) outcome)
 
 -- With the start of `paintsStart`, some keys are given what ours are given and move the cursor as ours do, and nothing
 -- is stored, counted or tagged:

@@ -57,7 +57,7 @@ takesAnyFlag = record {
 
 -- The tab stop of column 160 is written as 0.
 abbrev pub losesLastStop : Coding
-losesLastStop = record { write = λ s. set (recordOf s) 193 0; read = stateIn; takes = isGood }
+losesLastStop = record { write = λ s. set (recordOf s) 194 0; read = stateIn; takes = isGood }
 
 -- The rows are written with the high byte first, and read with the low one first.
 abbrev pub firstTwoSwapped : List ℕ → List ℕ

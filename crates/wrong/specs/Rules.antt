@@ -3,21 +3,26 @@
 use mathlib.Core.Bool.{Bool, true, false, not}
 use mathlib.Core.List.{List, [], _∷_, _++_, map, flatMap}
 use Prim.Native.Nat.{ℕ, _+_, _-_, _%_}
+use Prim.Native.Char.{code}
 use lib.Dec.{eqb, leb}
 use lib.ListN.{length, take, drop, getD, set, replicate}
 use Rattle.words.specs.Choice.{if_then_else_, _and_, _is_to_}
 use Rattle.words.specs.Lists.{selected}
 use Rattle.sequence.specs.declared.Reason.the-variants.{UnknownCommand}
+use Rattle.sequence.specs.Range.{argumentOf}
 use Rattle.page.specs.Marks.{withoutBits, isProtected, withoutModified}
 use Rattle.page.specs.Page.{Page, pageOf}
 use Rattle.fields.specs.Fields.{Field}
 use Rattle.blocks.specs.Blocks.{encode}
 use Rattle.state.specs.declared.Locks.{Locks}
+use Rattle.state.specs.declared.State.{State}
 use Rattle.state.specs.State.{withLocks, noLocks}
+use Rattle.state.specs.Pen.{withFull}
 use Rattle.steps.specs.Steps.{Terminal, Transmission, silent, report, fullBlock, changedBlock, Stepped, stores, sends}
 use Rattle.steps.specs.Steps.{cursorCell, withState, refusing}
 use Rattle.steps.specs.Seen.{cellsHere, characterAt, unprotectedAt, modifiedAt, fieldsHere, entryHere, blockHere}
 use Rattle.table.specs.Table.{allowed}
+use Rattle.sending.specs.Sending.{sendsFull, sendBlock}
 use Rattle.commands.specs.Host.{hostStep}
 use Rattle.keys.specs.Keys.{isTyping, takenStep, keyStep}
 use Rattle.terminal.specs.declared.Answer.the-variants.{NoRoom}
@@ -45,11 +50,25 @@ keyCallBy onKey t key output =
 abbrev pub keysBy : Rules → Entries
 keysBy rules = withKey (keyCallBy (rules .onKey))
 
--- Another transmission for 266 or 267.
-abbrev sendingOn : ℕ → (Terminal → Transmission) → Rules
-sendingOn sendKey transmission = withOnKey (λ key t.
-    if eqb key sendKey then sends (transmission t) (t .state) (withTagsCleared t .page)
+-- Another transmission for 266 in one of its modes: where it sends all, or where it sends what changed (M-106).
+abbrev sendsChanged : State → Bool
+sendsChanged s = not (sendsFull s)
+
+abbrev sendingWhere : (State → Bool) → (Terminal → Transmission) → Rules
+sendingWhere mode transmission = withOnKey (λ key t.
+    if eqb key 266 and mode (t .state) then sends (transmission t) (t .state) (withTagsCleared t .page)
     else keyStep key t)
+
+-- A step that leaves another terminal.
+abbrev leavingTerminal : Terminal → Stepped → Stepped
+leavingTerminal t step =
+    record {
+      terminal = t;
+      transmission = step .transmission;
+      cells = step .cells;
+      wasRefused = step .wasRefused;
+      protection = step .protection;
+    }
 
 -- Blocks keep. What a step that sends a block leaves of the page, changed.
 unfoldable pub isBlock : Transmission → Bool
@@ -61,13 +80,7 @@ isBlock (changedBlock bytes) = true
 abbrev pageAfterBlock : (Page → Page) → Stepped → Stepped
 pageAfterBlock change step =
     if isBlock (step .transmission) then
-    record {
-      terminal = withPage (change (step .terminal .page)) (step .terminal);
-      transmission = step .transmission;
-      cells = step .cells;
-      wasRefused = step .wasRefused;
-      protection = step .protection;
-    }
+    leavingTerminal (withPage (change (step .terminal .page)) (step .terminal)) step
     else step
 
 -- Sending clears modified on protected cells too.
@@ -87,17 +100,23 @@ abbrev pub unprotectsFirst : Rules
 unprotectsFirst = withOnByte (λ b t.
     pageAfterBlock (λ page. pageOf (page .characters) (set (page .marks) 0 0)) (hostStep b t))
 
--- Blocks asked for. 266 clears modified and sends nothing.
+-- Blocks asked for. Where 266 is to send what changed it clears modified and sends nothing,
 abbrev pub withholdsChanged : Rules
-withholdsChanged = sendingOn 266 (λ t. silent)
+withholdsChanged = sendingWhere sendsChanged (λ t. silent)
 
--- Blocks asked for, and the bound. A full block ends with 03 twice,
+-- or ESC S sends by the mode of 266.
+abbrev pub escSByMode : Rules
+escSByMode = withOnByte (λ b t.
+    if eqb (t .state .half .kind) 1 and eqb b (code "S") then sendBlock (sendsFull (t .state)) (withNothingRead t)
+    else hostStep b t)
+
+-- Blocks asked for, and the bound. A full block by 266 ends with 03 twice,
 abbrev pub endsTwice : Rules
-endsTwice = sendingOn 267 (λ t. fullBlock (blockHere true t ++ (0x03 ∷ [])))
+endsTwice = sendingWhere sendsFull (λ t. fullBlock (blockHere true t ++ (0x03 ∷ [])))
 
 -- or a changed block is 35,139 bytes of 03, whatever the page.
 abbrev pub sendsFixedBlock : Rules
-sendsFixedBlock = sendingOn 266 (λ t. changedBlock (replicate 35139 0x03))
+sendsFixedBlock = sendingWhere sendsChanged (λ t. changedBlock (replicate 35139 0x03))
 
 -- What a field is. One that runs over its first row's end is sent as two,
 unfoldable pub cutAtRowEnd : ℕ → Field → List Field
@@ -109,12 +128,12 @@ cutAtRowEnd columns field =
     else begun ∷ rest ∷ []
 
 abbrev pub cutsAtRowEnd : Rules
-cutsAtRowEnd = sendingOn 267 (λ t.
+cutsAtRowEnd = sendingWhere sendsFull (λ t.
     fullBlock (encode (map (entryHere t) (flatMap (cutAtRowEnd (t .state .size .columns)) (fieldsHere t)))))
 
 -- or the last cell is joined to the first, so that where both are unprotected no field starts at the first.
 abbrev pub joinsLastToFirst : Rules
-joinsLastToFirst = sendingOn 267 (λ t.
+joinsLastToFirst = sendingWhere sendsFull (λ t.
     let both = unprotectedAt t 0 and unprotectedAt t (cellsHere t - 1) in
     fullBlock (encode (map (entryHere t) (drop (if both then 1 else 0) (fieldsHere t)))))
 
@@ -127,14 +146,7 @@ unknownBeforeSpoilt = withOnByte (λ b t.
 
 -- A step that leaves other locks; one that leaves another byte beside the message.
 abbrev leavingLocks : Locks → Stepped → Stepped
-leavingLocks locks step =
-    record {
-      terminal = withState (step .terminal) (withLocks (step .terminal .state) locks);
-      transmission = step .transmission;
-      cells = step .cells;
-      wasRefused = step .wasRefused;
-      protection = step .protection;
-    }
+leavingLocks locks step = leavingTerminal (withState (step .terminal) (withLocks (step .terminal .state) locks)) step
 
 abbrev leavingByte : ℕ → Stepped → Stepped
 leavingByte byte step =
@@ -199,16 +211,45 @@ unlocksOnly = withOnKey (λ key t.
     if eqb key 268 then leavingLocks locks (keyStep key t)
     else keyStep key t)
 
+-- A step that leaves the mode of 266 at full blocks, or at changed ones.
+abbrev leavingMode : Bool → Stepped → Stepped
+leavingMode full step = leavingTerminal (withState (step .terminal) (withFull (step .terminal .state) full)) step
+
+-- What 266 sends. h and l of mode >6 are swapped,
+abbrev pub swapsSetAndReset : Rules
+swapsSetAndReset = withOnByte (λ b t.
+    let half = t .state .half in
+    let swapped = if eqb b (code "h") then code "l" else if eqb b (code "l") then code "h" else b in
+    if eqb (half .kind) 5 and eqb (argumentOf half 0) 6 then hostStep swapped t
+    else hostStep b t)
+
+-- or ESC c keeps the mode,
+abbrev pub escCKeepsMode : Rules
+escCKeepsMode = withOnByte (λ b t.
+    if eqb (t .state .half .kind) 1 and eqb b (code "c") then leavingMode (sendsFull (t .state)) (hostStep b t)
+    else hostStep b t)
+
+-- or mode 6, without the >, resets it too: ESC [ 6 l,
+abbrev pub resetsWithoutMark : Rules
+resetsWithoutMark = withOnByte (λ b t.
+    let step = hostStep b t in
+    if eqb (t .state .half .kind) 3 and eqb b (code "l") and not (step .wasRefused) then leavingMode true step
+    else step)
+
+-- or 266 sends all once, and from there on what changed.
+abbrev pub sendsAllOnce : Rules
+sendsAllOnce = withOnKey (λ key t. if eqb key 266 then leavingMode false (keyStep key t) else keyStep key t)
+
 -- The copy. A changed block has those fields whose first cell is modified.
 unfoldable pub firstCellBlock : Terminal → List ℕ
 firstCellBlock t = encode (map (entryHere t) (selected (λ (field : Field). modifiedAt t (field .start)) (fieldsHere t)))
 
 abbrev pub looksAtFirstCells : Rules
-looksAtFirstCells = sendingOn 266 (λ t. changedBlock (firstCellBlock t))
+looksAtFirstCells = sendingWhere sendsChanged (λ t. changedBlock (firstCellBlock t))
 
 -- A changed block is feigned: 03 alone, whatever was typed.
 abbrev pub feignsChangedBlocks : Rules
-feignsChangedBlocks = sendingOn 266 (λ t. changedBlock (0x03 ∷ []))
+feignsChangedBlocks = sendingWhere sendsChanged (λ t. changedBlock (0x03 ∷ []))
 
 -- A typed character leaves the tag clear, always,
 abbrev untagged : Terminal → Stepped → Stepped
@@ -227,4 +268,7 @@ tagsOnlyChanges = withOnKey (λ key t.
 
 -- Sending doesn't clear modified.
 abbrev pub keepsTags : Rules
-keepsTags = withOnKey (λ key t. pageAfterBlock (λ page. t .page) (keyStep key t))
+keepsTags = record {
+  onByte = λ b t. pageAfterBlock (λ page. t .page) (hostStep b t);
+  onKey = λ key t. pageAfterBlock (λ page. t .page) (keyStep key t);
+}
