@@ -1,14 +1,14 @@
--- Demand 3: a changed block that 266 sent, laid over the full block that 267 sent before one key, is the page's copy.
+-- Demand 3: the block that 266 sent, laid over the full block that ESC S sent before one key, is the page's copy.
 use mathlib.Core.Path.{_≡_, refl, sym, ap, _∙_, subst}
 use mathlib.Core.Bool.{Bool, true, false}
 use mathlib.Core.List.{List, [], _∷_, _++_, map, append-nil}
 use Prim.Native.Nat.{ℕ, zero, suc, _≤_}
+use Prim.Native.Char.{code}
 use borrow.Author.Tests.{eqb-true}
 use denote.Enum.Declared
 use lib.Dec.{eqb}
 use lib.ListN.{length, take}
 use types.Run
-use Rattle.words.specs.Choice.{if_then_else_, _and_, _is_to_}
 use Rattle.words.proofs.Choosing.{both}
 use Rattle.page.specs.Page.{Page}
 use Rattle.blocks.specs.Blocks.{entriesSent, block}
@@ -16,28 +16,32 @@ use Rattle.blocks.specs.Lay.{lay}
 use Rattle.blocks.proofs.Pages.{valid-entries}
 use Rattle.steps.specs.Steps.{Terminal, Transmission, silent, report, fullBlock, changedBlock, Stepped, bytesOf, blockTransmission, Valid}
 use Rattle.steps.specs.Seen.{blockHere}
-use Rattle.sending.specs.Sending.{sendBlock}
-use Rattle.keys.specs.Keys.{isTyping, isNotTaken, takenStep, keyStep}
+use Rattle.steps.proofs.Writing.{block-bytes}
+use Rattle.sending.specs.Sending.{sendsFull}
+use Rattle.keys.specs.Keys.{keyStep}
 use Rattle.terminal.specs.declared.Answer.{Answer}
 use Rattle.terminal.specs.declared.Answer.the-variants.{Done, WrongSize, WrongState, NoRoom, UnknownKey, Locked, TooLong, NoCell, NotTaken}
 use Rattle.terminal.specs.declared.Reply.{Reply}
 use Rattle.terminal.specs.Runs.{after, bytesSentBy}
 use Rattle.terminal.specs.Answers.{Outcome, numberOf, given, bytesSent}
-use Rattle.terminal.specs.Calls.{keyCall}
+use Rattle.terminal.specs.Calls.{hostCall, keyCall}
 use Rattle.terminal.proofs.Answer.{the-type}
 use Rattle.terminal.proofs.Theorems.{key-done, key-found-valid, bytes-sent}
-use Rattle.promises.specs.Rules.{press, stepOf, steps}
+use Rattle.promises.specs.Rules.{byte, press, stepOf, steps}
 use Rattle.promises.specs.Copying.{HostStoresNothing, blockIn, blocksSent, standings, copies}
+use Rattle.promises.specs.Further.{by-266}
+use Rattle.promises.proofs.Asking.{block-asked}
 use Rattle.promises.proofs.Keeping.{sendable, same-full-block}
 use Rattle.promises.proofs.OurLaws.{our-step-laws}
 use Rattle.promises.proofs.Theorems as Promised
 use Rattle.copy.specs.declared.Laid.{Laid}
 use Rattle.copy.specs.Copy.{IsBlock, laying}
 use Rattle.copy.proofs.Laws.{is-block}
-use Rattle.samples.specs.declared.KeyReplies.{KeyReplies}
+use Rattle.samples.specs.declared.ThreeReplies.{ThreeReplies}
 use Rattle.samples.specs.declared.Copy.the-variants.{Made, NotSent}
-use Rattle.samples.specs.Samples.{fullCall, typedCall, changedCall, ThreeKeys, allAnswered, copying, CopyKept}
-use Rattle.samples.proofs.Laws.{sent-fits}
+use Rattle.samples.specs.Samples.{escS, fullCall, typedCall, laterCall, ThreeCalls, allAnswered, copying, CopyKept}
+use Rattle.samples.proofs.Asking.{afterEsc, onS, valid-after-esc, full-sent, FullAsked, full-asked}
+use Rattle.samples.proofs.Laws.{host-fits, key-fits}
 
 -- Every answer but the first has another number than 0.
 pub not-done : (answer : Answer) → Run.OneOf (1 ∷ 2 ∷ 3 ∷ 4 ∷ 5 ∷ 6 ∷ 7 ∷ 8 ∷ []) (Declared.tagOf the-type answer) → false ≡ eqb (numberOf answer) 0
@@ -53,38 +57,39 @@ not-done NoCell others = refl
 not-done NotTaken others = refl
 
 -- The three calls, each on what the one before left.
-module _ (t : Terminal) (key : ℕ) (lentFull lentTyped lentChanged : List ℕ) where
-  pub three-keys : {first second third : Reply} {afterFirst afterSecond page : Page} {full typed changed : List ℕ} →
-      given first afterFirst full ≡ keyCall t 267 lentFull →
+module _ (t : Terminal) (key : ℕ) (lentFull lentTyped lentLater : List ℕ) where
+  pub three-calls : {first second third : Reply} {afterFirst afterSecond page : Page} {full typed later : List ℕ} →
+      given first afterFirst full ≡ hostCall t escS lentFull →
       given second afterSecond typed ≡ keyCall (record { state = first .state; page = afterFirst }) key lentTyped →
-      given third page changed ≡ keyCall (record { state = second .state; page = afterSecond }) 266 lentChanged →
-      ThreeKeys t key lentFull lentTyped lentChanged (record { full = first; typed = second; changed = third }) page full typed changed
-  three-keys {first} {second} {third} {full} {typed} one is-second is-third =
+      given third page later ≡ keyCall (record { state = second .state; page = afterSecond }) 266 lentLater →
+      ThreeCalls t key lentFull lentTyped lentLater (record { full = first; typed = second; later = third }) page full typed later
+  three-calls {first} {second} {third} {full} {typed} one is-second is-third =
       let left = ap (λ (o : Outcome). o .terminal) one in
       let two = is-second ∙ ap (λ (u : Terminal). keyCall u key lentTyped) left in
       let left-then = ap (λ (o : Outcome). o .terminal) two in
       record {
         first = (λ i. given first (sym left i .page) full) ∙ one;
         second = (λ i. given second (sym left-then i .page) typed) ∙ two;
-        third = is-third ∙ ap (λ (u : Terminal). keyCall u 266 lentChanged) left-then;
+        third = is-third ∙ ap (λ (u : Terminal). keyCall u 266 lentLater) left-then;
       }
 
--- What the two keys that send, send.
+-- What 266 sends, by its mode: a block of the page.
 module _ (t : Terminal) where
-  abbrev blockOf : Bool → List ℕ
-  blockOf full = block full (t .state .size .columns) (t .page)
+  abbrev laterBlock : List ℕ
+  laterBlock = blockHere (sendsFull (t .state)) t
 
-  full-sent : keyStep 267 t .transmission ≡ fullBlock (blockOf true)
-  unfolding keyStep isNotTaken takenStep isTyping sendBlock blockTransmission if_then_else_ _is_to_ _and_
-  full-sent = refl
+  later-sent : keyStep 266 t .transmission ≡ blockTransmission (sendsFull (t .state)) laterBlock
+  unfolding stepOf
+  later-sent = block-asked t (sendsFull (t .state)) (press 266) (by-266 _ refl)
 
-  changed-sent : keyStep 266 t .transmission ≡ changedBlock (blockOf false)
-  unfolding keyStep isNotTaken takenStep isTyping sendBlock blockTransmission if_then_else_ _is_to_ _and_
-  changed-sent = refl
-
-  block-is-block : Valid t → (full : Bool) → IsBlock (blockOf full)
+  block-is-block : Valid t → (full : Bool) → IsBlock (blockHere full t)
   unfolding block
   block-is-block valid full = is-block (entriesSent full (t .state .size .columns) (t .page)) (valid-entries (t .state .size .columns) (t .page) (sendable valid) full)
+
+block-in : (full : Bool) (bytes : List ℕ) → blockIn (blockTransmission full bytes) ≡ bytes ∷ []
+unfolding blockIn blockTransmission
+block-in true bytes = refl
+block-in false bytes = refl
 
 -- The block at a place of a list, counted from 0.
 unfoldable place : ℕ → List (List ℕ) → List ℕ
@@ -92,10 +97,10 @@ place n [] = []
 place zero (block ∷ later) = block
 place (suc n) (block ∷ later) = place n later
 
--- The three steps.
+-- The three steps that count: S after ESC, the key, 266.
 module _ (t : Terminal) (valid : Valid t) (key : ℕ) where
   abbrev one : Stepped
-  one = keyStep 267 t
+  one = onS t
 
   abbrev two : Stepped
   two = keyStep key (one .terminal)
@@ -104,24 +109,23 @@ module _ (t : Terminal) (valid : Valid t) (key : ℕ) where
   three = keyStep 266 (two .terminal)
 
   abbrev first-block : List ℕ
-  first-block = blockOf t true
+  first-block = blockHere true t
 
   one-valid : Valid (one .terminal)
   unfolding stepOf
-  one-valid = our-step-laws .every-step (press 267) t valid .valid
+  one-valid = our-step-laws .every-step (byte (code "S")) (afterEsc t) (valid-after-esc t valid) .valid
 
-  -- After 267, the key and 266, each block laid over what the host had.
+  -- After S, the key and 266, each block laid over what the host had.
   holds : first-block ∷ copies first-block (blockIn (two .transmission) ++ (blockIn (three .transmission) ++ []))
       ≡ map (blockHere true) (one .terminal ∷ (map (λ (b : List ℕ). two .terminal) (blockIn (two .transmission)) ++ (map (λ (b : List ℕ). three .terminal) (blockIn (three .transmission)) ++ [])))
   unfolding stepOf steps HostStoresNothing blocksSent standings
-  holds = Promised.copying-steps t valid (press 267) first-block (full-sent t) (press key ∷ press 266 ∷ []) tt
+  holds = Promised.copying-steps (afterEsc t) (valid-after-esc t valid) (byte (code "S")) first-block (full-sent t) (press key ∷ press 266 ∷ []) tt
 
   -- Where the key sent nothing that is a block, where it sent one, and 266 its own.
   copies-then : (sent : List (List ℕ)) → blockIn (two .transmission) ≡ sent
-      → first-block ∷ copies first-block (sent ++ (blockOf (two .terminal) false ∷ [])) ≡ map (blockHere true) (one .terminal ∷ (map (λ (b : List ℕ). two .terminal) sent ++ (three .terminal ∷ [])))
-  unfolding blockIn
+      → first-block ∷ copies first-block (sent ++ (laterBlock (two .terminal) ∷ [])) ≡ map (blockHere true) (one .terminal ∷ (map (λ (b : List ℕ). two .terminal) sent ++ (three .terminal ∷ [])))
   copies-then sent told =
-      let last = ap blockIn (changed-sent (two .terminal)) in
+      let last = ap blockIn (later-sent (two .terminal)) ∙ block-in _ _ in
       subst (λ (blocks : List (List ℕ)). first-block ∷ copies first-block (sent ++ (blocks ++ [])) ≡ map (blockHere true) (one .terminal ∷ (map (λ (b : List ℕ). two .terminal) sent ++ (map (λ (b : List ℕ). three .terminal) blocks ++ [])))) last
       (subst (λ (blocks : List (List ℕ)). first-block ∷ copies first-block (blocks ++ (blockIn (three .transmission) ++ [])) ≡ map (blockHere true) (one .terminal ∷ (map (λ (b : List ℕ). two .terminal) blocks ++ (map (λ (b : List ℕ). three .terminal) (blockIn (three .transmission)) ++ [])))) told holds)
 
@@ -131,18 +135,18 @@ module _ (t : Terminal) (valid : Valid t) (key : ℕ) where
   page-unstored no-cell =
       sym (same-full-block (one .terminal) one-valid two (our-step-laws .every-step (press key) (one .terminal) one-valid) no-cell)
 
-  unsent : blockIn (two .transmission) ≡ [] → lay (blockOf (two .terminal) false) first-block ≡ blockHere true (three .terminal)
+  unsent : blockIn (two .transmission) ≡ [] → lay (laterBlock (two .terminal)) first-block ≡ blockHere true (three .terminal)
   unfolding copies place
   unsent none = ap (place 1) (copies-then [] none)
 
-  sent-itself : (bytes : List ℕ) → blockIn (two .transmission) ≡ bytes ∷ [] → two .cells ≡ [] → lay (blockOf (two .terminal) false) first-block ≡ blockHere true (three .terminal)
+  sent-itself : (bytes : List ℕ) → blockIn (two .transmission) ≡ bytes ∷ [] → two .cells ≡ [] → lay (laterBlock (two .terminal)) first-block ≡ blockHere true (three .terminal)
   unfolding copies place
   sent-itself bytes sent no-cell =
       let all = copies-then (bytes ∷ []) sent in
       let same : first-block ≡ lay bytes first-block = ap (place 0) all ∙ sym (page-unstored no-cell) ∙ sym (ap (place 1) all) in
-      ap (lay (blockOf (two .terminal) false)) same ∙ ap (place 2) all
+      ap (lay (laterBlock (two .terminal))) same ∙ ap (place 2) all
 
-  copy-right : (transmission : Transmission) → two .transmission ≡ transmission → lay (blockOf (two .terminal) false) first-block ≡ blockHere true (three .terminal)
+  copy-right : (transmission : Transmission) → two .transmission ≡ transmission → lay (laterBlock (two .terminal)) first-block ≡ blockHere true (three .terminal)
   unfolding blockIn stepOf
   copy-right silent sends = unsent (ap blockIn sends)
   copy-right (report bytes) sends = unsent (ap blockIn sends)
@@ -162,62 +166,60 @@ pressed t key lent is-done =
     record { valid = key-found-valid t key lent is-done; terminal = did .terminal; sent = bytes-sent did ∙ append-nil _ }
 
 -- What the calls sent, and where all were given 0, what that is.
-module _ {t : Terminal} {key : ℕ} {lentFull lentTyped lentChanged : List ℕ} {replies : KeyReplies} {page : Page} {full typed changed : List ℕ} (keys : ThreeKeys t key lentFull lentTyped lentChanged replies page full typed changed) where
+module _ {t : Terminal} {key : ℕ} {lentFull lentTyped lentLater : List ℕ} {replies : ThreeReplies} {page : Page} {full typed later : List ℕ} (calls : ThreeCalls t key lentFull lentTyped lentLater replies page full typed later) where
   pub full-fits : replies .full .sent ≤ length full
-  full-fits = sent-fits t 267 lentFull (keys .first)
+  full-fits = host-fits t escS lentFull (calls .first)
 
-  pub changed-fits : replies .changed .sent ≤ length changed
-  changed-fits = sent-fits (typedCall t key lentFull lentTyped .terminal) 266 lentChanged (keys .third)
+  pub later-fits : replies .later .sent ≤ length later
+  later-fits = key-fits (typedCall t key lentFull lentTyped .terminal) 266 lentLater (calls .third)
 
   module _ (answered : allAnswered replies ≡ true) where
-    numbers : (numberOf (replies .full .answer) ≡ 0) × (numberOf (replies .typed .answer) ≡ 0) × (numberOf (replies .changed .answer) ≡ 0)
+    numbers : (numberOf (replies .full .answer) ≡ 0) × (numberOf (replies .typed .answer) ≡ 0) × (numberOf (replies .later .answer) ≡ 0)
     unfolding allAnswered
     numbers = let p = both answered in let q = both (p .1) in (eqb-true _ _ (p .0), eqb-true _ _ (q .0), eqb-true _ _ (q .1))
 
-    first-pressed : Pressed t 267 (fullCall t lentFull)
-    first-pressed = pressed t 267 lentFull (sym (ap (λ (o : Outcome). o .number) (keys .first)) ∙ numbers .0)
+    first-asked : FullAsked t (fullCall t lentFull)
+    first-asked = full-asked t lentFull (sym (ap (λ (o : Outcome). o .number) (calls .first)) ∙ numbers .0)
 
     second-pressed : Pressed (fullCall t lentFull .terminal) key (typedCall t key lentFull lentTyped)
-    second-pressed = pressed _ key lentTyped (sym (ap (λ (o : Outcome). o .number) (keys .second)) ∙ numbers .1)
+    second-pressed = pressed _ key lentTyped (sym (ap (λ (o : Outcome). o .number) (calls .second)) ∙ numbers .1)
 
-    third-pressed : Pressed (typedCall t key lentFull lentTyped .terminal) 266 (changedCall t key lentFull lentTyped lentChanged)
-    third-pressed = pressed _ 266 lentChanged (sym (ap (λ (o : Outcome). o .number) (keys .third)) ∙ numbers .2)
+    third-pressed : Pressed (typedCall t key lentFull lentTyped .terminal) 266 (laterCall t key lentFull lentTyped lentLater)
+    third-pressed = pressed _ 266 lentLater (sym (ap (λ (o : Outcome). o .number) (calls .third)) ∙ numbers .2)
 
-    before-changed : typedCall t key lentFull lentTyped .terminal ≡ two t (first-pressed .valid) key .terminal
-    before-changed = second-pressed .terminal ∙ ap (λ (u : Terminal). keyStep key u .terminal) (first-pressed .terminal)
+    before-later : typedCall t key lentFull lentTyped .terminal ≡ two t (first-asked .valid) key .terminal
+    before-later = second-pressed .terminal ∙ ap (λ (u : Terminal). keyStep key u .terminal) (first-asked .terminal)
 
-    full-bytes : take (replies .full .sent) full ≡ blockOf t true
-    unfolding bytesOf
-    full-bytes = ap bytesSent (keys .first) ∙ first-pressed .sent ∙ ap bytesOf (full-sent t)
+    full-bytes : take (replies .full .sent) full ≡ blockHere true t
+    full-bytes = ap bytesSent (calls .first) ∙ first-asked .sent
 
-    changed-bytes : take (replies .changed .sent) changed ≡ blockOf (typedCall t key lentFull lentTyped .terminal) false
-    unfolding bytesOf
-    changed-bytes = ap bytesSent (keys .third) ∙ third-pressed .sent ∙ ap bytesOf (changed-sent (typedCall t key lentFull lentTyped .terminal))
+    later-bytes : take (replies .later .sent) later ≡ laterBlock (typedCall t key lentFull lentTyped .terminal)
+    later-bytes = ap bytesSent (calls .third) ∙ third-pressed .sent ∙ ap bytesOf (later-sent (typedCall t key lentFull lentTyped .terminal)) ∙ block-bytes _ _
 
     pub full-is-block : IsBlock (take (replies .full .sent) full)
-    full-is-block = subst IsBlock (sym full-bytes) (block-is-block t (first-pressed .valid) true)
+    full-is-block = subst IsBlock (sym full-bytes) (block-is-block t (first-asked .valid) true)
 
-    pub changed-is-block : IsBlock (take (replies .changed .sent) changed)
-    changed-is-block = subst IsBlock (sym changed-bytes) (block-is-block (typedCall t key lentFull lentTyped .terminal) (third-pressed .valid) false)
+    pub later-is-block : IsBlock (take (replies .later .sent) later)
+    later-is-block = subst IsBlock (sym later-bytes) (block-is-block (typedCall t key lentFull lentTyped .terminal) (third-pressed .valid) _)
 
-    laid-right : lay (take (replies .changed .sent) changed) (take (replies .full .sent) full) ≡ blockHere true (record { state = replies .changed .state; page = page })
+    laid-right : lay (take (replies .later .sent) later) (take (replies .full .sent) full) ≡ blockHere true (record { state = replies .later .state; page = page })
     laid-right =
-        (λ i. lay (changed-bytes i) (full-bytes i))
-        ∙ ap (λ (u : Terminal). lay (blockOf u false) (blockOf t true)) before-changed
-        ∙ copy-right t (first-pressed .valid) key (two t (first-pressed .valid) key .transmission) refl
-        ∙ ap (λ (u : Terminal). blockHere true (keyStep 266 u .terminal)) (sym before-changed)
+        (λ i. lay (later-bytes i) (full-bytes i))
+        ∙ ap (λ (u : Terminal). lay (laterBlock u) (blockHere true t)) before-later
+        ∙ copy-right t (first-asked .valid) key (two t (first-asked .valid) key .transmission) refl
+        ∙ ap (λ (u : Terminal). blockHere true (keyStep 266 u .terminal)) (sym before-later)
         ∙ ap (blockHere true) (sym (third-pressed .terminal))
-        ∙ ap (λ (o : Outcome). blockHere true (o .terminal)) (sym (keys .third))
+        ∙ ap (λ (o : Outcome). blockHere true (o .terminal)) (sym (calls .third))
 
     pub copy-made : (lent : List ℕ) {output : List ℕ} {answer : Laid} →
-        record { answer = answer; output = output } ≡ laying (lay (take (replies .changed .sent) changed) (take (replies .full .sent) full)) lent →
-        CopyKept t key lentFull lentTyped lentChanged lent (record { replies = replies; copy = Made answer }) page full typed changed output
+        record { answer = answer; output = output } ≡ laying (lay (take (replies .later .sent) later) (take (replies .full .sent) full)) lent →
+        CopyKept t key lentFull lentTyped lentLater lent (record { replies = replies; copy = Made answer }) page full typed later output
     unfolding copying
     copy-made lent made =
         let as-copy = made ∙ ap (λ (bytes : List ℕ). laying bytes lent) laid-right in
-        record { keys = keys; is-copy = (λ i. record { copy = Made (as-copy i .answer); output = as-copy i .output }) ∙ ap (λ (all : Bool). copying all (blockHere true (record { state = replies .changed .state; page = page })) lent) (sym answered) }
+        record { calls = calls; is-copy = (λ i. record { copy = Made (as-copy i .answer); output = as-copy i .output }) ∙ ap (λ (all : Bool). copying all (blockHere true (record { state = replies .later .state; page = page })) lent) (sym answered) }
 
-  pub copy-not-made : (lent : List ℕ) → allAnswered replies ≡ false → CopyKept t key lentFull lentTyped lentChanged lent (record { replies = replies; copy = NotSent }) page full typed changed lent
+  pub copy-not-made : (lent : List ℕ) → allAnswered replies ≡ false → CopyKept t key lentFull lentTyped lentLater lent (record { replies = replies; copy = NotSent }) page full typed later lent
   unfolding copying
   copy-not-made lent refused =
-      record { keys = keys; is-copy = ap (λ (all : Bool). copying all (blockHere true (record { state = replies .changed .state; page = page })) lent) (sym refused) }
+      record { calls = calls; is-copy = ap (λ (all : Bool). copying all (blockHere true (record { state = replies .later .state; page = page })) lent) (sym refused) }

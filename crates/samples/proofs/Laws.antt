@@ -3,32 +3,31 @@ use mathlib.Core.Path.{_≡_, sym, ap, _∙_, subst}
 use mathlib.Core.Bool.{true}
 use mathlib.Core.List.{List, [], _∷_, _++_, append-nil}
 use Prim.Native.Nat.{ℕ, _+_, _-_, _<_, _≤_}
+use Prim.Native.Char.{code}
 use native.Mathlib.Nat.{add-zero}
 use native.Mathlib.Omega.{arith}
-use lib.ListN.{length, take, drop, length-drop, take-append-drop, drop-of-length-le}
+use lib.ListN.{length, take, drop, length-take, length-drop, take-append-drop, drop-of-length-le}
 use lib.Seq.{take-all}
 use Rattle.words.specs.Choice.{_or_}
-use Rattle.words.proofs.Output.{placed-length}
 use Rattle.page.specs.Page.{Page}
-use Rattle.steps.specs.Steps.{Terminal, Transmission, bytesOf, blockTransmission, Valid}
+use Rattle.steps.specs.Steps.{Terminal, Stepped, Valid}
 use Rattle.steps.specs.Seen.{blockHere}
-use Rattle.keys.specs.Keys.{keyStep}
+use Rattle.terminal.specs.declared.Answer.{Answer}
 use Rattle.terminal.specs.declared.Reply.{Reply}
-use Rattle.terminal.specs.Runs.{bytesSentBy}
-use Rattle.terminal.specs.Answers.{Outcome, given, unchanged, afterSteps, bytesSent}
+use Rattle.terminal.specs.Answers.{Outcome, given, unchanged, bytesSent}
 use Rattle.terminal.specs.Calls.{hostCall, keyCall}
+use Rattle.terminal.specs.Claims.{Did}
 use Rattle.terminal.proofs.Deciding.{or-false}
-use Rattle.terminal.proofs.Cases.{KeyCase, key-case}
+use Rattle.terminal.proofs.Cases.{HostCase, host-case, KeyCase, key-case}
 use Rattle.terminal.proofs.Cases as Cases
-use Rattle.terminal.proofs.Theorems.{host-done, key-done, key-found-valid, bytes-sent}
-use Rattle.promises.specs.Rules.{ourRules, press, stepOf, byteSteps, Total, totalOf}
+use Rattle.terminal.proofs.Theorems.{leaves, did-so, host-done, bytes-sent}
+use Rattle.promises.specs.Rules.{ourRules, byte, stepOf, byteSteps, Total, totalOf}
 use Rattle.promises.specs.Entries.{outcomeOf, outcomes, total, no-more, done, joinedBytes}
 use Rattle.promises.specs.FeedingBack.{Receives}
-use Rattle.promises.specs.Further.{full-by-267}
-use Rattle.promises.proofs.Asking.{block-asked}
 use Rattle.promises.proofs.Calling.{first-done}
 use Rattle.promises.proofs.Theorems.{demand-2}
-use Rattle.samples.specs.Samples.{InTwoReads, Restored, SentOn}
+use Rattle.samples.specs.Samples.{InTwoReads, Restored, escS, SentOn}
+use Rattle.samples.proofs.Asking.{afterEsc, valid-after-esc, full-sent, full-asked}
 
 -- A cut past the end is one at the end.
 pub past-the-end : (bytes : List ℕ) (cut : ℕ) → length bytes < cut → (length bytes ≤ length bytes) × (take (length bytes) bytes ≡ take cut bytes) × (drop (length bytes) bytes ≡ drop cut bytes)
@@ -94,30 +93,50 @@ module _ (t : Terminal) (bytes : List ℕ) (cut : ℕ) (lent lentLater : List �
             ∙ cut-anywhere (sym (ap (λ (o : Outcome). o .number) one) ∙ one-done) (sym (ap (λ (o : Outcome). o .number) two) ∙ two-done);
       }
 
--- A key's bytes fit the output, whatever it is given.
-key-fits : (t : Terminal) (key : ℕ) (lent : List ℕ) → keyCall t key lent .sent ≤ length (keyCall t key lent .output)
-unfolding unchanged afterSteps bytesSentBy
-key-fits t key lent = go (key-case t key lent)
-  where
-    go : KeyCase t key lent → keyCall t key lent .sent ≤ length (keyCall t key lent .output)
-    go (Cases.refused answer not-done is) = rw is (omega arith)
-    go (Cases.pressed passes fits is) =
-        let bytes = bytesOf (keyStep key t .transmission) in
-        let same = placed-length 0 (bytes ++ []) lent (rw (append-nil bytes) (omega arith)) in
-        rw (is, same, append-nil bytes) fits
+-- The bytes sent fit the output, whatever a call is given.
+steps-fit : {taken : ℕ} {t : Terminal} {lent : List ℕ} {steps : List Stepped} {outcome : Outcome} → Did taken t lent steps outcome → outcome .sent ≤ length (outcome .output)
+steps-fit {outcome} did =
+    let all = did .sent ∙ ap length (sym (bytes-sent did)) in
+    omega (arith, all, length-take (outcome .sent) (outcome .output))
 
-pub sent-fits : (t : Terminal) (key : ℕ) (lent : List ℕ) {outcome : Outcome} → outcome ≡ keyCall t key lent → outcome .sent ≤ length (outcome .output)
-sent-fits t key lent is = subst (λ (o : Outcome). o .sent ≤ length (o .output)) (sym is) (key-fits t key lent)
+none-fit : (answer : Answer) (t : Terminal) (lent : List ℕ) {outcome : Outcome} → outcome ≡ unchanged answer t lent → outcome .sent ≤ length (outcome .output)
+none-fit answer t lent is = omega (arith, leaves answer t lent is .sent)
+
+pub host-fits : (t : Terminal) (bytes lent : List ℕ) {outcome : Outcome} → outcome ≡ hostCall t bytes lent → outcome .sent ≤ length (outcome .output)
+host-fits t bytes lent {outcome} same = go (host-case t bytes lent)
+  where
+    go : HostCase t bytes lent → outcome .sent ≤ length (outcome .output)
+    go (Cases.refused answer not-0 not-3 is) = none-fit _ _ _ (same ∙ is)
+    go (Cases.stopped valid line is) = steps-fit (did-so _ _ _ _ _ (same ∙ is))
+    go (Cases.done valid fits is) = steps-fit (did-so _ _ _ _ _ (same ∙ is))
+
+pub key-fits : (t : Terminal) (key : ℕ) (lent : List ℕ) {outcome : Outcome} → outcome ≡ keyCall t key lent → outcome .sent ≤ length (outcome .output)
+key-fits t key lent {outcome} same = go (key-case t key lent)
+  where
+    go : KeyCase t key lent → outcome .sent ≤ length (outcome .output)
+    go (Cases.refused answer not-0 is) = none-fit _ _ _ (same ∙ is)
+    go (Cases.pressed passes fits is) = steps-fit (did-so _ _ _ _ _ (same ∙ is))
 
 module _ (sender receiver : Terminal) (lentThere : List ℕ) (valid : Valid sender) (receives : Receives sender receiver) where
   abbrev block : List ℕ
   block = blockHere true sender
 
+  -- The sender after ESC has the same page.
+  receives-still : Receives (afterEsc sender) receiver
+  receives-still =
+      record {
+        valid = receives .valid;
+        size = receives .size;
+        protection = receives .protection;
+        nothing-half-read = receives .nothing-half-read;
+        unprotected-pen = receives .unprotected-pen;
+      }
+
   restored : Restored sender receiver block (hostCall receiver block lentThere)
-  unfolding outcomes outcomeOf total joinedBytes stepOf blockTransmission
+  unfolding outcomes outcomeOf total joinedBytes stepOf
   restored =
       let outcome = hostCall receiver block lentThere in
-      let fed = demand-2 .feeding-back sender receiver (press 267) block (record { bytes = block; output = lentThere } ∷ []) valid (block-asked sender true (press 267) full-by-267) receives (append-nil block) in
+      let fed = demand-2 .feeding-back (afterEsc sender) receiver (byte (code "S")) block (record { bytes = block; output = lentThere } ∷ []) (valid-after-esc sender valid) (full-sent sender) receives-still (append-nil block) in
       let number : outcome .number ≡ 0 = first-done (fed .answered) in
       let steps-done = host-done receiver block lentThere number in
       record {
@@ -129,21 +148,15 @@ module _ (sender receiver : Terminal) (lentThere : List ℕ) (valid : Valid send
         protection = fed .protection;
       }
 
--- What 267 sends where it is given 0: the full block of the page.
-full-bytes-sent : (sender : Terminal) (lent : List ℕ) → keyCall sender 267 lent .number ≡ 0 → bytesSent (keyCall sender 267 lent) ≡ blockHere true sender
-unfolding bytesSentBy bytesOf stepOf blockTransmission
-full-bytes-sent sender lent is-done =
-    bytes-sent (key-done sender 267 lent is-done) ∙ ap (λ (transmission : Transmission). bytesOf transmission ++ []) (block-asked sender true (press 267) full-by-267) ∙ append-nil _
-
-pub sent-on : (sender receiver : Terminal) (lent lentThere : List ℕ) {sends gets : Outcome} → sends ≡ keyCall sender 267 lent → gets ≡ hostCall receiver (bytesSent sends) lentThere → SentOn sender receiver lent lentThere sends gets
+pub sent-on : (sender receiver : Terminal) (lent lentThere : List ℕ) {sends gets : Outcome} → sends ≡ hostCall sender escS lent → gets ≡ hostCall receiver (bytesSent sends) lentThere → SentOn sender receiver lent lentThere sends gets
 sent-on sender receiver lent lentThere {sends} one two =
     record {
       first = one;
       second = two;
       fed-back = λ is-done receives.
-          let zero-given = sym (ap (λ (o : Outcome). o .number) one) ∙ is-done in
-          let bytes = ap bytesSent one ∙ full-bytes-sent sender lent zero-given in
+          let asked = full-asked sender lent (sym (ap (λ (o : Outcome). o .number) one) ∙ is-done) in
+          let bytes = ap bytesSent one ∙ asked .sent in
           subst (Restored sender receiver (bytesSent sends)) (sym two)
           (subst (λ (block : List ℕ). Restored sender receiver block (hostCall receiver block lentThere)) (sym bytes)
-          (restored sender receiver lentThere (key-found-valid sender 267 lent zero-given) receives));
+          (restored sender receiver lentThere (asked .valid) receives));
     }

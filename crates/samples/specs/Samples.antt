@@ -1,8 +1,9 @@
 -- Demands 2 and 3, said of calls that run: what a sample gives and leaves is that of its calls, and then the promise.
 use mathlib.Core.Path.{_≡_}
 use mathlib.Core.Bool.{Bool, true, false}
-use mathlib.Core.List.{List, _++_, List·Memᴰ}
+use mathlib.Core.List.{List, [], _∷_, _++_, List·Memᴰ}
 use Prim.Native.Nat.{ℕ, _+_}
+use Prim.Native.Char.{code}
 use lib.Dec.{eqb}
 use lib.ListN.{take, drop}
 use Rattle.words.specs.Choice.{_and_, _or_}
@@ -16,7 +17,7 @@ use Rattle.promises.specs.Rules.{ourRules, byteSteps, totalOf}
 use Rattle.promises.specs.FeedingBack.{Receives}
 use Rattle.copy.specs.Copy.{laying}
 use Rattle.samples.specs.declared.Replies.{Replies}
-use Rattle.samples.specs.declared.KeyReplies.{KeyReplies}
+use Rattle.samples.specs.declared.ThreeReplies.{ThreeReplies}
 use Rattle.samples.specs.declared.Copy.{Copy}
 use Rattle.samples.specs.declared.Copy.the-variants.{Made, NotSent}
 use Rattle.samples.specs.declared.Copied.{Copied}
@@ -50,37 +51,41 @@ pub record Restored (sender receiver : Terminal) (block : List ℕ) (outcome : O
       CellKept (receiver .page) (outcome .terminal .page) cell
   pub protection : (cell : ℕ) → unprotectedAt (outcome .terminal) cell ≡ unprotectedAt sender cell
 
--- Key 267 at the sender, and the bytes that it sent as host bytes to the receiver.
+-- ESC S, which asks for the full block.
+abbrev pub escS : List ℕ
+escS = 0x1B ∷ code "S" ∷ []
+
+-- ESC S at the sender, and the bytes that it sent as host bytes to the receiver.
 pub record SentOn (sender receiver : Terminal) (lent lentThere : List ℕ) (sends gets : Outcome) : Type 0 where
-  pub first : sends ≡ keyCall sender 267 lent
+  pub first : sends ≡ hostCall sender escS lent
   pub second : gets ≡ hostCall receiver (bytesSent sends) lentThere
   pub fed-back : sends .number ≡ 0 → Receives sender receiver → Restored sender receiver (bytesSent sends) gets
 
--- Demand 3, the copy: 267, any key, and 266, each on what the one before left, each with an output of its own.
+-- Demand 3, the copy: ESC S, any key, and 266, each on what the one before left, each with an output of its own.
 abbrev pub fullCall : Terminal → List ℕ → Outcome
-fullCall t lentFull = keyCall t 267 lentFull
+fullCall t lentFull = hostCall t escS lentFull
 
 abbrev pub typedCall : Terminal → ℕ → List ℕ → List ℕ → Outcome
 typedCall t key lentFull lentTyped = keyCall (fullCall t lentFull .terminal) key lentTyped
 
-abbrev pub changedCall : Terminal → ℕ → List ℕ → List ℕ → List ℕ → Outcome
-changedCall t key lentFull lentTyped lentChanged =
-    keyCall (typedCall t key lentFull lentTyped .terminal) 266 lentChanged
+-- By the mode, 266 sends a full block or a changed one.
+abbrev pub laterCall : Terminal → ℕ → List ℕ → List ℕ → List ℕ → Outcome
+laterCall t key lentFull lentTyped lentLater = keyCall (typedCall t key lentFull lentTyped .terminal) 266 lentLater
 
-pub record ThreeKeys
-    (t : Terminal) (key : ℕ) (lentFull lentTyped lentChanged : List ℕ)
-    (replies : KeyReplies) (page : Page) (full typed changed : List ℕ) : Type 0 where
+pub record ThreeCalls
+    (t : Terminal) (key : ℕ) (lentFull lentTyped lentLater : List ℕ)
+    (replies : ThreeReplies) (page : Page) (full typed later : List ℕ) : Type 0 where
   pub first : given (replies .full) (fullCall t lentFull .terminal .page) full ≡ fullCall t lentFull
   pub second : given (replies .typed) (typedCall t key lentFull lentTyped .terminal .page) typed
       ≡ typedCall t key lentFull lentTyped
-  pub third : given (replies .changed) page changed ≡ changedCall t key lentFull lentTyped lentChanged
+  pub third : given (replies .later) page later ≡ laterCall t key lentFull lentTyped lentLater
 
 -- All three are given 0.
-unfoldable pub allAnswered : KeyReplies → Bool
+unfoldable pub allAnswered : ThreeReplies → Bool
 allAnswered replies =
     eqb (numberOf (replies .full .answer)) 0
     and eqb (numberOf (replies .typed .answer)) 0
-    and eqb (numberOf (replies .changed .answer)) 0
+    and eqb (numberOf (replies .later .answer)) 0
 
 -- What is laid where all were given 0; else nothing is.
 pub record Left : Type 0 where
@@ -93,9 +98,9 @@ copying false bytes lent = record { copy = NotSent; output = lent }
 
 -- The bytes that the host laid are the full block of the page as it then stands.
 pub record CopyKept
-    (t : Terminal) (key : ℕ) (lentFull lentTyped lentChanged lent : List ℕ)
-    (copied : Copied) (page : Page) (full typed changed output : List ℕ) : Type 0 where
-  pub keys : ThreeKeys t key lentFull lentTyped lentChanged (copied .replies) page full typed changed
+    (t : Terminal) (key : ℕ) (lentFull lentTyped lentLater lent : List ℕ)
+    (copied : Copied) (page : Page) (full typed later output : List ℕ) : Type 0 where
+  pub calls : ThreeCalls t key lentFull lentTyped lentLater (copied .replies) page full typed later
   pub is-copy : record { copy = copied .copy; output = output }
       ≡ copying (allAnswered (copied .replies))
-      (blockHere true (record { state = copied .replies .changed .state; page = page })) lent
+      (blockHere true (record { state = copied .replies .later .state; page = page })) lent

@@ -12,8 +12,11 @@ ghost use lib.Dec.{eqb};
 ghost use lib.ListN.{length, take, drop};
 ghost use Rattle.page.specs.Page.{pageOf};
 ghost use Rattle.terminal.specs.Answers.{given, numberOf};
-ghost use Rattle.samples.specs.Samples.{InTwoReads, SentOn, allAnswered, ThreeKeys, CopyKept};
+ghost use Rattle.samples.specs.Samples.{InTwoReads, SentOn, allAnswered, ThreeCalls, CopyKept};
 ghost use Rattle.steps.specs.Steps.{terminalOf};
+
+// What asks for the full block.
+const ESC_S: [u8; 2] = [0x1B, b'S'];
 
 // What two calls handed back.
 pub struct Replies {
@@ -75,7 +78,7 @@ pub fn send_on(
         (given (r .second)
         (pageOf (now («characters_there» .exit)) (now («marks_there» .exit))) (now («out_there» .exit))) ⌝ }
 {
-    let first = terminal::key(state, characters, marks, 267, out);
+    let first = terminal::host(state, characters, marks, &ESC_S, out);
     let sent = first.sent;
     let second = terminal::host(
         state_there,
@@ -87,21 +90,21 @@ pub fn send_on(
     Replies { first, second }
 }
 
-// What keys 267, any one, and 266 handed back.
-pub struct KeyReplies {
+// What ESC S, any key, and 266 handed back.
+pub struct ThreeReplies {
     pub full: Reply,
     pub typed: Reply,
-    pub changed: Reply,
+    pub later: Reply,
 }
 
-// What became of the host's copy: it was laid, or one of the keys was refused.
+// What became of the host's copy: it was laid, or one of the calls was refused.
 pub enum Copy {
     Made(Laid),
     NotSent,
 }
 
 pub struct Copied {
-    pub replies: KeyReplies,
+    pub replies: ThreeReplies,
     pub copy: Copy,
 }
 
@@ -115,7 +118,7 @@ fn is_done(reply: Reply) -> bool
     }
 }
 
-fn all_done(replies: KeyReplies) -> bool
+fn all_done(replies: ThreeReplies) -> bool
     ensures { λ r. ⌜ r ≡ allAnswered replies ⌝ }
 {
     let full = replies.full;
@@ -126,39 +129,39 @@ fn all_done(replies: KeyReplies) -> bool
     if !is_done(typed) {
         return false;
     }
-    let changed = replies.changed;
-    is_done(changed)
+    let later = replies.later;
+    is_done(later)
 }
 
-// A full block, one key, and a changed block, each into an output of its own.
-fn press_three(
+// A full block, one key, and the block that 266 sends, each into an output of its own.
+fn call_three(
     state: State,
     characters: &mut [u8],
     marks: &mut [Mark],
     key: usize,
     full: &mut [u8],
     typed: &mut [u8],
-    changed: &mut [u8],
-) -> KeyReplies
-    ensures { λ r. ⌜ ThreeKeys
+    later: &mut [u8],
+) -> ThreeReplies
+    ensures { λ r. ⌜ ThreeCalls
         (terminalOf state (now (characters .entry)) (now (marks .entry))) key
-        (now (full .entry)) (now (typed .entry)) (now (changed .entry))
+        (now (full .entry)) (now (typed .entry)) (now (later .entry))
         r (pageOf (now (characters .exit)) (now (marks .exit)))
-        (now (full .exit)) (now (typed .exit)) (now (changed .exit)) ⌝ }
+        (now (full .exit)) (now (typed .exit)) (now (later .exit)) ⌝ }
 {
-    let first = terminal::key(state, characters, marks, 267, full);
+    let first = terminal::host(state, characters, marks, &ESC_S, full);
     let sent = first.state;
     let second = terminal::key(sent, characters, marks, key, typed);
     let pressed = second.state;
-    let third = terminal::key(pressed, characters, marks, 266, changed);
-    KeyReplies {
+    let third = terminal::key(pressed, characters, marks, 266, later);
+    ThreeReplies {
         full: first,
         typed: second,
-        changed: third,
+        later: third,
     }
 }
 
-// A full block, one key, and a changed block, which is laid over the full one: the host's copy.
+// A full block, one key, and the block that 266 sends, which is laid over the full one: the host's copy.
 pub fn keep_copy(
     state: State,
     characters: &mut [u8],
@@ -166,16 +169,16 @@ pub fn keep_copy(
     key: usize,
     full: &mut [u8],
     typed: &mut [u8],
-    changed: &mut [u8],
+    later: &mut [u8],
     copy: &mut [u8],
 ) -> Copied
     ensures { λ r. ⌜ CopyKept
         (terminalOf state (now (characters .entry)) (now (marks .entry))) key
-        (now (full .entry)) (now (typed .entry)) (now (changed .entry)) (now (copy .entry))
+        (now (full .entry)) (now (typed .entry)) (now (later .entry)) (now (copy .entry))
         r (pageOf (now (characters .exit)) (now (marks .exit)))
-        (now (full .exit)) (now (typed .exit)) (now (changed .exit)) (now (copy .exit)) ⌝ }
+        (now (full .exit)) (now (typed .exit)) (now (later .exit)) (now (copy .exit)) ⌝ }
 {
-    let replies = press_three(state, characters, marks, key, full, typed, changed);
+    let replies = call_three(state, characters, marks, key, full, typed, later);
     if !all_done(replies) {
         return Copied {
             replies,
@@ -183,8 +186,8 @@ pub fn keep_copy(
         };
     }
     let full_sent = replies.full.sent;
-    let changed_sent = replies.changed.sent;
-    let laid = copy::lay(&changed[..changed_sent], &full[..full_sent], copy);
+    let later_sent = replies.later.sent;
+    let laid = copy::lay(&later[..later_sent], &full[..full_sent], copy);
     Copied {
         replies,
         copy: Copy::Made(laid),

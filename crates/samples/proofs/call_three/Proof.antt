@@ -1,8 +1,8 @@
 use native.Mathlib.Omega.{arith}
 use borrow.Author.Needs.{needs}
-use Rattle.samples.proofs.Copying.{three-keys}
-use Rattle.samples.proofs.press_three.Statement.{statement}
-use Rattle.samples.proofs.press_three.Tie as tie
+use Rattle.samples.proofs.Copying.{three-calls}
+use Rattle.samples.proofs.call_three.Statement.{statement}
+use Rattle.samples.proofs.call_three.Tie as tie
 
 same-length : tie.Need-same-length
 same-length c =
@@ -26,12 +26,13 @@ returns c =
     let third = c .before .before .before .before .before .before in
     let second = third .before .before .before .before .before .before .before .before .before .before .before in
     let first = second .before .before .before .before .before .before .before .before .before .before .before in
-    three-keys _ _ _ _ _ (first .key .ensures) (second .key2 .ensures) (third .key3 .ensures)
+    three-calls _ _ _ _ _ (first .host .ensures) (second .key .ensures) (third .key2 .ensures)
 
-pub press-three-spec : {M : Type 1} → statement M
-press-three-spec =
+pub call-three-spec : {M : Type 1} → statement M
+call-three-spec =
     tie.close
     (tie.spec
+    (λ c. search needs)
     (λ c κs. search needs)
     (λ c κs. search needs)
     (λ c κs. search needs)
