@@ -20,4 +20,6 @@ lend-and-call-spec =
     (λ c κs. (omega arith, simp length-take (omega arith)))
     (λ c. search needs)
     (λ c. search needs)
-    (λ c. search needs))
+    (λ c.
+    let lendable = c .before .before .before .before .before .before .before .before .before .before .before .before .before .before .pre .0 .0 in
+    record { characters = lendable .characters; marks = lendable .marks; room = lendable .room }))
