@@ -7,34 +7,16 @@ use native.Mathlib.Omega.{arith}
 use lib.ListN.{length, take, drop, getD, length-append}
 use Rattle.words.specs.Choice.{if_then_else_, _and_}
 use Rattle.words.specs.Lists.{selected}
-use Rattle.words.proofs.Choosing.{then-case, else-case, both-hold, first-fails, second-fails, first-holds, second-decides}
+use Rattle.words.proofs.Choosing.{then-case, else-case, both-hold, first-fails, second-fails}
 use Rattle.words.proofs.Output.{length-part}
-use Rattle.page.specs.Marks.{isModified, unprotected}
+use Rattle.page.specs.Marks.{unprotected}
 use Rattle.page.specs.Page.{Page, cells}
 use Rattle.places.specs.declared.Place.{Place}
 use Rattle.places.specs.Places.{placeOf}
 use Rattle.fields.specs.Fields.{Field, startsField, fieldEnd, fieldFrom, fieldsFrom, fieldsOf}
 use Rattle.fields.proofs.Bounds.{end-of}
-use Rattle.blocks.specs.Blocks.{headBytes, entryBytes, entryOf, encode, someModified, isInBlock, entriesSent, block, bytesAt}
+use Rattle.blocks.specs.Blocks.{headBytes, entryBytes, entryOf, encode, isInBlock, entriesSent, block, bytesAt}
 use Rattle.blocks.proofs.Claims.{Whole}
-
--- the search for a modified cell, a turn at a time
-module _ (marks : List ℕ) (cell to : ℕ) where
-  pub modified-here : cell < to → isModified (getD marks cell 0) ≡ true → someModified marks cell (to - cell) ≡ true
-  unfolding someModified
-  modified-here h found =
-      let more : to - cell ≡ suc (to - (cell + 1)) = omega arith in
-      ap (λ (n : ℕ). someModified marks cell n) more ∙ first-holds _ _ found
-
-  pub modified-later : cell < to → isModified (getD marks cell 0) ≡ false → someModified marks cell (to - cell) ≡ someModified marks (cell + 1) (to - (cell + 1))
-  unfolding someModified
-  modified-later h not-here =
-      let more : to - cell ≡ suc (to - (cell + 1)) = omega arith in
-      ap (λ (n : ℕ). someModified marks cell n) more ∙ second-decides _ _ not-here
-
-  pub modified-nowhere : to ≤ cell → someModified marks cell (to - cell) ≡ false
-  unfolding someModified
-  modified-nowhere h = let none : to - cell ≡ 0 = omega arith in rw none
 
 -- the end of a field that starts on the page
 pub end-bounds : (isUnprotected : ℕ → Bool) (cells cell : ℕ) → cell < cells → (cell < fieldEnd isUnprotected cells cell) × (fieldEnd isUnprotected cells cell ≤ cells)

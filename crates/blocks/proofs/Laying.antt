@@ -3,7 +3,7 @@ use mathlib.Core.Path.{_≡_, refl, sym, ap, _∙_}
 use mathlib.Core.Bool.{Bool, true, false, not}
 use mathlib.Core.List.{List, [], _∷_, map, map-map, List·Memᴰ, List·Memᴰ·head, List·Memᴰ·tail, List·Memᴰ·not-nil, List·Memᴰ·cases-cons}
 use mathlib.Core.Logic.{⊎-elim}
-use Prim.Native.Nat.{ℕ, zero, suc, _+_, _-_, _*_, _/_, _%_, _<_, _≤_, min}
+use Prim.Native.Nat.{ℕ, _+_, _-_, _*_, _/_, _%_, _<_, _≤_, min}
 use native.Mathlib.Nat.{div-add-mod'}
 use native.Mathlib.Omega.{arith}
 use borrow.Author.Tests.{eqb-true, eq-eqb}
@@ -13,11 +13,12 @@ use Rattle.words.specs.Choice.{_or_}
 use Rattle.words.specs.Lists.{selected}
 use Rattle.words.proofs.Choosing.{true-is-not-false, either-line, either-way, both, both-hold, neither, less-or-not}
 use Rattle.words.proofs.Elements.{map-same}
+use Rattle.words.proofs.Ranges.{at-no-place}
 use Rattle.page.specs.Marks.{isProtected, isModified, unprotected}
 use Rattle.page.specs.Page.{Page, cells}
 use Rattle.places.specs.Places.{placeOf}
 use Rattle.fields.specs.Fields.{Field, fieldEnd, fieldsOf}
-use Rattle.blocks.specs.Blocks.{Entry, entryOf, someModified, isInBlock, entriesSent, block}
+use Rattle.blocks.specs.Blocks.{Entry, entryOf, isInBlock, entriesSent, block}
 use Rattle.blocks.specs.Lay.{samePlace, laidOn, lay}
 use Rattle.blocks.proofs.Claims.{Sendable, fieldsOn, SameForm, UnmodifiedKept}
 use Rattle.blocks.proofs.Listing.{Listed, listed, field-bounds, field-unprotected}
@@ -102,15 +103,6 @@ module _ (p q : Page) (same : SameForm p q) where
     laid sendable-p sendable-q =
         rw (decode-block columns q sendable-q full, decode-block columns p sendable-p true, all-laid)
 
--- A field with no modified cell.
-pub unmodified : (marks : List ℕ) (n cell k : ℕ) → someModified marks cell n ≡ false → cell ≤ k → k < cell + n → isModified (getD marks k 0) ≡ false
-unfolding someModified
-unmodified marks zero cell k h l m = absurd (omega arith)
-unmodified marks (suc n) cell k h l m =
-    let no = neither h in
-    less-or-not cell k (λ r. unmodified marks n (cell + 1) k (no .1) (omega arith) (omega arith))
-    (λ r. let here : cell ≡ k = omega arith in rw here at (no .0))
-
 -- Two lists with the same elements in a part.
 same-part : (a b : List ℕ) (n start : ℕ) → length a ≡ length b → ((k : ℕ) → start ≤ k → k < start + n → getD a k 0 ≡ getD b k 0)
     → take n (drop start a) ≡ take n (drop start b)
@@ -137,4 +129,4 @@ module _ (columns : ℕ) (p q : Page) (sendable-p : Sendable columns p) (sendabl
           let place = placeOf columns (field .start) in
           ap (λ (characters : List ℕ). record { row = place .row; column = place .column; characters = characters })
           (same-part (p .characters) (q .characters) (field .length) (field .start) (sym (same .size .characters))
-          (λ k l h. unchanged k (omega arith) (field-unprotected _ _ field is k l h) (unmodified (q .marks) (field .length) (field .start) k (neither unsent .1) l h)))
+          (λ k l h. unchanged k (omega arith) (field-unprotected _ _ field is k l h) (at-no-place _ (field .start) (field .length) k (neither unsent .1) l h)))

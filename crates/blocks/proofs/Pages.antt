@@ -2,20 +2,20 @@
 use mathlib.Core.Path.{_≡_, refl, ap, _∙_}
 use mathlib.Core.Bool.{Bool, true, false}
 use mathlib.Core.List.{List, [], _∷_, map, List·Memᴰ}
-use Prim.Native.Nat.{ℕ, zero, suc, _+_, _/_, _%_, _<_, _≤_}
+use Prim.Native.Nat.{ℕ, _+_, _/_, _%_, _<_, _≤_}
 use native.Mathlib.Nat.{mod-lt, div-lt-iff-lt-mul}
 use native.Mathlib.Omega.{arith}
 use borrow.Author.Tests.{lt-ltb}
-use lib.ListN.{getD}
 use Rattle.words.specs.Lists.{every}
 use Rattle.words.proofs.Choosing.{both-hold, first-holds, second-decides}
 use Rattle.words.proofs.Elements.{every-by-each, every-map, selected-all, selected-none, selected-from}
 use Rattle.words.proofs.Passing.{every-take, every-drop}
-use Rattle.page.specs.Marks.{isModified, validCharacter, unprotected}
+use Rattle.words.proofs.Ranges.{no-place-holds}
+use Rattle.page.specs.Marks.{validCharacter, unprotected}
 use Rattle.page.specs.Page.{Page, cells}
 use Rattle.places.specs.Places.{placeOf}
 use Rattle.fields.specs.Fields.{Field}
-use Rattle.blocks.specs.Blocks.{encode, entryOf, someModified, isInBlock, entriesSent, block}
+use Rattle.blocks.specs.Blocks.{encode, entryOf, isInBlock, entriesSent, block}
 use Rattle.blocks.specs.Decode.{decode, validEntry}
 use Rattle.blocks.proofs.Claims.{Sendable, fieldsOn, NothingModified}
 use Rattle.blocks.proofs.Decoding.{decode-encode}
@@ -53,11 +53,6 @@ module _ (columns : ℕ) (page : Page) where
   all-sent = ap (map (entryOf columns (page .characters))) (selected-all (isInBlock true (page .marks)) (fieldsOn page) (λ field m. first-holds true _ refl))
 
   -- A changed block of a page with no modified cell that is unprotected.
-  pub none-modified : (n cell : ℕ) → ((k : ℕ) → cell ≤ k → k < cell + n → isModified (getD (page .marks) k 0) ≡ false) → someModified (page .marks) cell n ≡ false
-  unfolding someModified
-  none-modified zero cell h = refl
-  none-modified (suc n) cell h = second-decides _ _ (h cell (omega arith) (omega arith)) ∙ none-modified n (cell + 1) (λ k l m. h k (omega arith) (omega arith))
-
   pub nothing-sent : NothingModified page → block false columns page ≡ 0x03 ∷ []
   unfolding block entriesSent isInBlock encode
   nothing-sent unmodified =
@@ -67,4 +62,4 @@ module _ (columns : ℕ) (page : Page) where
       unsent field m =
           let is : ListedOn page field = listed _ _ field m in
           let bounds = field-bounds _ _ field is in
-          second-decides false _ refl ∙ none-modified (field .length) (field .start) (λ k l h. unmodified k (omega arith) (field-unprotected _ _ field is k l h))
+          second-decides false _ refl ∙ no-place-holds _ (field .start) (field .length) (λ k l h. unmodified k (omega arith) (field-unprotected _ _ field is k l h))

@@ -1,12 +1,12 @@
 -- Document 01, "Fields, keys and blocks": the block that is sent to the host.
-use mathlib.Core.Bool.{Bool, false}
+use mathlib.Core.Bool.{Bool}
 use mathlib.Core.List.{List, [], _∷_, _++_, map}
 use Prim.Native.Char.{code}
-use Prim.Native.Nat.{ℕ, zero, suc, _+_, _-_}
+use Prim.Native.Nat.{ℕ, _-_}
 use lib.Dec.{leb}
 use lib.ListN.{length, take, drop, getD}
 use Rattle.words.specs.Choice.{if_then_else_, _and_, _or_}
-use Rattle.words.specs.Lists.{selected}
+use Rattle.words.specs.Lists.{someFrom, selected}
 use Rattle.words.specs.Output.{placed}
 use Rattle.page.specs.Marks.{isModified, unprotected}
 use Rattle.page.specs.Page.{Page, cells, modifiedCleared}
@@ -45,9 +45,8 @@ entryOf columns characters field =
     }
 
 -- One of the n cells from `cell` on is modified.
-unfoldable pub someModified : List ℕ → ℕ → ℕ → Bool
-someModified marks cell zero = false
-someModified marks cell (suc n) = isModified (getD marks cell 0) or someModified marks (cell + 1) n
+abbrev pub someModified : List ℕ → ℕ → ℕ → Bool
+someModified marks = someFrom (λ cell. isModified (getD marks cell 0))
 
 -- Which fields are sent: all, or those in which something is modified.
 unfoldable pub isInBlock : Bool → List ℕ → Field → Bool

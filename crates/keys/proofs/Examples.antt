@@ -7,14 +7,14 @@ use Prim.Native.Char.{code}
 use lib.ListN.{length, replicate}
 use Rattle.words.specs.Choice.{if_then_else_, _and_, _or_, _is_to_}
 use Rattle.words.specs.Text.{bytes}
-use Rattle.words.specs.Lists.{within, allFrom, eachFrom, numbersFrom, onPart, selected}
+use Rattle.words.specs.Lists.{within, allFrom, someFrom, eachFrom, numbersFrom, onPart, selected}
 use Rattle.page.specs.Marks.{numericTakes, alphabeticTakes, takes, unprotected}
 use Rattle.page.specs.Page.{Page, pageOf, takesFromRight, takesFromLeft, typed, tagged, blanked, closedUp, movedRight, markAfterBlock, modifiedCleared}
 use Rattle.places.specs.Places.{placeOf}
 use Rattle.output.specs.Decimal.{decimal, placeBytes}
 use Rattle.fields.specs.Fields.{joined, startsField, fieldStart, endFrom, fieldEnd, fieldsFrom, fieldsOf}
 use Rattle.fields.specs.Searches.{orElse, firstField, lastField, firstAfter, lastBefore, nextField, previousField, firstUnprotectedFrom, firstUnprotected, nextUnprotected}
-use Rattle.blocks.specs.Blocks.{entryBytes, encode, entryOf, someModified, isInBlock, entriesSent, block}
+use Rattle.blocks.specs.Blocks.{entryBytes, encode, entryOf, isInBlock, entriesSent, block}
 use Rattle.state.specs.State.{freshState, withCursor, cursorAt, withLocks, unlocked}
 use Rattle.state.specs.Moves.{backBy, onBy, upBy, downBy, rightBy, leftBy}
 use Rattle.state.specs.Pen.{withFull}
@@ -275,7 +275,7 @@ examples =
 
 -- Each key leaves what the example says.
 as-worked-out : map asRun examples ≡ map (λ (e : Example). e .seen) examples
-unfolding characters marks on asRun goesOn storedOn sentOn inFull allSentOn goes stored sent allSent closed ends whole kinds kindsAfter examples if_then_else_ _and_ _or_ _is_to_ within eachFrom numbersFrom onPart selected unprotected typed tagged blanked closedUp movedRight markAfterBlock modifiedCleared placeOf decimal placeBytes joined startsField fieldStart endFrom fieldEnd fieldsFrom fieldsOf orElse firstField lastField firstAfter lastBefore nextField previousField firstUnprotectedFrom firstUnprotected nextUnprotected entryBytes encode entryOf someModified isInBlock entriesSent block unlocked backBy onBy upBy downBy rightBy leftBy bytesOf blockTransmission sendBlock isTyping goneTo typedStep toNextField toPreviousField toFirstUnprotected fieldBlanked restShifted isNotTaken takenStep keyStep numericTakes alphabeticTakes takes allFrom takesFromRight takesFromLeft
+unfolding characters marks on asRun goesOn storedOn sentOn inFull allSentOn goes stored sent allSent closed ends whole kinds kindsAfter examples if_then_else_ _and_ _or_ _is_to_ within eachFrom numbersFrom onPart selected unprotected typed tagged blanked closedUp movedRight markAfterBlock modifiedCleared placeOf decimal placeBytes joined startsField fieldStart endFrom fieldEnd fieldsFrom fieldsOf orElse firstField lastField firstAfter lastBefore nextField previousField firstUnprotectedFrom firstUnprotected nextUnprotected entryBytes encode entryOf someFrom isInBlock entriesSent block unlocked backBy onBy upBy downBy rightBy leftBy bytesOf blockTransmission sendBlock isTyping goneTo typedStep toNextField toPreviousField toFirstUnprotected fieldBlanked restShifted isNotTaken takenStep keyStep numericTakes alphabeticTakes takes allFrom takesFromRight takesFromLeft
 as-worked-out = refl
 
 -- 268: soft lock, message and byte are cleared; the manual lock, and all else, stays. It is the one key that a lock

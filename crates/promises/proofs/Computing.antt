@@ -1,6 +1,6 @@
 -- What is opened where something is computed from the definitions: each name stands for all that its line lists.
 use Rattle.words.specs.Choice.{if_then_else_, _and_, _or_, _is_to_}
-use Rattle.words.specs.Lists.{within, every, allFrom, eachFrom, numbersFrom, onPart, selected}
+use Rattle.words.specs.Lists.{within, every, allFrom, someFrom, eachFrom, numbersFrom, onPart, selected}
 use Rattle.words.specs.Output.{placed}
 use Rattle.sequence.specs.Record.{argumentsFit, largestArgument, validHalfRead, withDigit, withNextArgument}
 use Rattle.sequence.specs.Reading.{isControl, isCancel, outsideSequence, afterEsc, afterIntermediate, afterBracket, rightAfterBracket, afterPrivateMark, sequenceReadOn, insideSequence, advanceOf}
@@ -10,7 +10,7 @@ use Rattle.places.specs.Places.{placeOf}
 use Rattle.output.specs.Decimal.{decimal, placeBytes}
 use Rattle.fields.specs.Fields.{joined, startsField, fieldStart, endFrom, fieldEnd, fieldsFrom}
 use Rattle.fields.specs.Searches.{orElse, firstUnprotectedFrom, firstUnprotected, nextUnprotected}
-use Rattle.blocks.specs.Blocks.{entryBytes, encode, entryOf, someModified, isInBlock}
+use Rattle.blocks.specs.Blocks.{entryBytes, encode, entryOf, isInBlock}
 use Rattle.blocks.specs.Decode.{inFront, split, readNumber, readEntry, decode}
 use Rattle.blocks.specs.Lay.{samePlace, laidOn, lay}
 use Rattle.blocks.specs.Finding.{endsReport, endsHead, outside, inside, afterByte, blocksFrom}
@@ -47,7 +47,7 @@ validity = tt
 
 -- The bytes of a block whose fields are known, and a block laid over a copy.
 unfoldable pub blockBytes : Unit {0}
-unfolding tests selected unprotected placeOf decimal placeBytes joined startsField endFrom fieldEnd fieldsFrom entryBytes encode entryOf someModified isInBlock
+unfolding tests selected unprotected placeOf decimal placeBytes joined startsField endFrom fieldEnd fieldsFrom entryBytes encode entryOf someFrom isInBlock
 blockBytes = tt
 
 unfoldable pub laying : Unit {0}

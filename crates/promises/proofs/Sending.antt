@@ -12,6 +12,7 @@ use Rattle.page.specs.Page.{cells, markAfterBlock}
 use Rattle.steps.specs.Steps.{Terminal, Transmission, bytesOf, blockTransmission, Stepped, Valid}
 use Rattle.steps.specs.Claims.{markLeft, TouchesOnly}
 use Rattle.steps.proofs.Measuring.{measured}
+use Rattle.steps.proofs.Writing.{block-bytes}
 use Rattle.promises.specs.Rules.{Rules, Input, stepOf, steps}
 use Rattle.promises.specs.Entries.{Entries}
 use Rattle.promises.specs.Further.{BlocksKeep, Bounded, Progress}
@@ -29,11 +30,6 @@ block-clears : (full : Bool) (bytes : List ℕ) (mark : ℕ) → markLeft (block
 unfolding blockTransmission markLeft
 block-clears true bytes mark = refl
 block-clears false bytes mark = refl
-
-block-bytes : (full : Bool) (bytes : List ℕ) → bytesOf (blockTransmission full bytes) ≡ bytes
-unfolding blockTransmission bytesOf
-block-bytes true bytes = refl
-block-bytes false bytes = refl
 
 -- Past the page there is no cell: its character and its mark are told as 0.
 past-alike : (after before : List ℕ) (cell : ℕ) → length after ≤ cell → length before ≤ cell → getD after cell 0 ≡ getD before cell 0

@@ -31,7 +31,7 @@ module _ (state : State) (listed : listedSize (state .size) ≡ true) (valid : v
       let page = on-page state listed valid in
       let long = drawn-length state characters marks c m in
       let row : state .size .columns + 3 ≤ 163 = omega arith in
-      let marks-row : 2 * state .size .columns + 2 ≤ 322 = omega arith in
+      let marks-row : 4 * state .size .columns + 2 ≤ 642 = omega arith in
       let shown : state .size .rows * (state .size .columns + 3) ≤ 48 * 163 = mul-le-mul (page .rows-most) row in
-      let marked : state .size .rows * (2 * state .size .columns + 2) ≤ 48 * 322 = mul-le-mul (page .rows-most) marks-row in
+      let marked : state .size .rows * (4 * state .size .columns + 2) ≤ 48 * 642 = mul-le-mul (page .rows-most) marks-row in
       omega arith

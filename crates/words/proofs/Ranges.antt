@@ -1,12 +1,13 @@
--- A rule that holds for each of so many numbers: antt computes the test of all, and the law says it of one.
-use mathlib.Core.Path.{_≡_, sym, ap, _∙_}
+-- A rule that holds for each of so many numbers, or for one of them: antt computes the test of all, and the law says it
+-- of one.
+use mathlib.Core.Path.{_≡_, refl, sym, ap, _∙_}
 use mathlib.Core.Bool.{Bool, true, false}
 use mathlib.Core.Logic.{⊎-elim}
 use Prim.Native.Nat.{ℕ, zero, suc, _+_, _-_, _<_, _≤_}
 use native.Mathlib.Nat.{add-zero}
 use native.Mathlib.Omega.{arith}
-use Rattle.words.specs.Lists.{allFrom}
-use Rattle.words.proofs.Choosing.{true-is-not-false, both, one-fails, first-decides, first-fails}
+use Rattle.words.specs.Lists.{allFrom, someFrom}
+use Rattle.words.proofs.Choosing.{true-is-not-false, less-or-not, both, neither, one-fails, first-decides, first-fails, first-holds, second-decides}
 
 module _ (test : ℕ → Bool) where
   at-place : (least size place : ℕ) → allFrom test least size ≡ true → place < size → test (least + place) ≡ true
@@ -42,3 +43,31 @@ module _ (test : ℕ → Bool) where
   unfolding allFrom
   place-fails i zero p some = absurd (omega arith)
   place-fails i (suc n) p some = first-fails _ _ p
+
+  -- The test of one of them fails where that of each does, and only there.
+  pub no-place-holds : (i n : ℕ) → ((k : ℕ) → i ≤ k → k < i + n → test k ≡ false) → someFrom test i n ≡ false
+  unfolding someFrom
+  no-place-holds i zero h = refl
+  no-place-holds i (suc n) h = second-decides _ _ (h i (omega arith) (omega arith)) ∙ no-place-holds (i + 1) n (λ k l m. h k (omega arith) (omega arith))
+
+  pub at-no-place : (i n k : ℕ) → someFrom test i n ≡ false → i ≤ k → k < i + n → test k ≡ false
+  unfolding someFrom
+  at-no-place i zero k h l m = absurd (omega arith)
+  at-no-place i (suc n) k h l m =
+      let no = neither h in
+      less-or-not i k (λ r. at-no-place (i + 1) n k (no .1) (omega arith) (omega arith))
+      (λ r. let here : i ≡ k = omega arith in rw here at (no .0))
+
+  -- A loop up to `to` that has come to i and found no place that passes.
+  module _ (i to : ℕ) where
+    pub place-holds : i < to → test i ≡ true → someFrom test i (to - i) ≡ true
+    unfolding someFrom
+    place-holds h found = let more : to - i ≡ suc (to - (i + 1)) = omega arith in ap (someFrom test i) more ∙ first-holds _ _ found
+
+    pub later-places : i < to → test i ≡ false → someFrom test i (to - i) ≡ someFrom test (i + 1) (to - (i + 1))
+    unfolding someFrom
+    later-places h not-here = let more : to - i ≡ suc (to - (i + 1)) = omega arith in ap (someFrom test i) more ∙ second-decides _ _ not-here
+
+    pub no-more-places : to ≤ i → someFrom test i (to - i) ≡ false
+    unfolding someFrom
+    no-more-places h = let none : to - i ≡ 0 = omega arith in rw none

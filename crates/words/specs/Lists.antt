@@ -1,10 +1,10 @@
 -- What the definitions say of lists. Places are counted from 0.
-use mathlib.Core.Bool.{Bool, true}
+use mathlib.Core.Bool.{Bool, true, false}
 use mathlib.Core.List.{List, [], _∷_, _++_}
 use Prim.Native.Nat.{ℕ, zero, suc, _+_, _-_}
 use lib.Dec.{leb, ltb}
 use lib.ListN.{take, drop}
-use Rattle.words.specs.Choice.{if_then_else_, _and_}
+use Rattle.words.specs.Choice.{if_then_else_, _and_, _or_}
 
 -- A place from `from` on and before `to`.
 unfoldable pub within : ℕ → ℕ → ℕ → Bool
@@ -15,10 +15,14 @@ unfoldable pub every : {A : Type 0} → (A → Bool) → List A → Bool
 every test [] = true
 every test (x ∷ rest) = test x and every test rest
 
--- Each of the n places from i on passes the test.
+-- Each of the n places from i on passes the test; one of them does.
 unfoldable pub allFrom : (ℕ → Bool) → ℕ → ℕ → Bool
 allFrom test i zero = true
 allFrom test i (suc n) = test i and allFrom test (i + 1) n
+
+unfoldable pub someFrom : (ℕ → Bool) → ℕ → ℕ → Bool
+someFrom test i zero = false
+someFrom test i (suc n) = test i or someFrom test (i + 1) n
 
 -- Each element x, at its place k, becomes f k x; the first one's place is i.
 unfoldable pub eachFrom : (ℕ → ℕ → ℕ) → ℕ → List ℕ → List ℕ
