@@ -56,8 +56,8 @@ module _ (page : Page) (columns : ℕ) (fits : columns ≤ length (page .charact
 pub mark-stays-valid : {n m mark after : ℕ} → StayOutside n m mark after → 0 < n → m ≤ 7 → validMark mark ≡ true → validMark after ≡ true
 mark-stays-valid {n} {m} {mark} {after} stay low high p =
     let fits = valid-mark mark p in
-    valid-from after (stays-below stay 9 (omega arith) (fits .0))
-    (lower-bit stay 0 low) (higher-bit stay 7 high) (higher-bit stay 8 (omega arith)) (fits .1)
+    valid-from after (stays-below stay 10 (omega arith) (fits .0))
+    (lower-bit stay 0 low) (higher-bit stay 7 high) (higher-bit stay 8 (omega arith)) (higher-bit stay 9 (omega arith)) (fits .1)
 
 modified-valid : (mark : ℕ) → validMark mark ≡ true → validMark (withModified mark) ≡ true
 modified-valid mark = mark-stays-valid (set-others 1 mark) (omega arith) (omega arith)

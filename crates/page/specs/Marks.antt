@@ -1,4 +1,5 @@
--- Document 01, "The terminal and its sources", and document 02, M-103: what a cell has, a character and its marks.
+-- Document 01, "The terminal and its sources", and document 02, M-103 and M-107: what a cell has, a character and its
+-- marks.
 use mathlib.Core.Bool.{Bool, true, not}
 use mathlib.Core.List.{List}
 use Prim.Native.Char.{code}
@@ -50,6 +51,10 @@ isNumeric = hasBit 7
 abbrev pub isAlphabetic : ℕ → Bool
 isAlphabetic = hasBit 8
 
+-- M-107: a cell of a required field.
+abbrev pub isRequired : ℕ → Bool
+isRequired = hasBit 9
+
 -- The marks with modified set, and cleared.
 abbrev pub withModified : ℕ → ℕ
 withModified = withBit 1
@@ -61,12 +66,13 @@ withoutModified = withoutBit 1
 abbrev pub validCharacter : ℕ → Bool
 validCharacter character = character is 0x20 to 0x7E
 
--- M-103: numeric and alphabetic never stand together, and neither stands with protected; bits 9 to 15 are zero.
+-- M-103 and M-107: numeric and alphabetic never stand together, and neither stands with protected, nor does required;
+-- bits 10 to 15 are zero.
 unfoldable pub validMark : ℕ → Bool
 validMark mark =
-    ltb mark 0x200
+    ltb mark 0x400
     and not (isNumeric mark and isAlphabetic mark)
-    and not (isProtected mark and (isNumeric mark or isAlphabetic mark))
+    and not (isProtected mark and (isNumeric mark or isAlphabetic mark or isRequired mark))
 
 -- M-103: the characters that source document 003 lists for such fields (lines 926 to 932).
 unfoldable pub numericTakes : ℕ → Bool

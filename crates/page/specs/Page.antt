@@ -3,11 +3,12 @@ use mathlib.Core.Bool.{Bool}
 use mathlib.Core.List.{List, [], _∷_, _++_}
 use mathlib.Core.Path.{_≡_}
 use Prim.Native.Nat.{ℕ, _+_, _-_}
+use lib.Dec.{eqb}
 use lib.ListN.{length, take, drop, getD, set, replicate}
 use Rattle.words.specs.Choice.{if_then_else_, _and_, _or_}
-use Rattle.words.specs.Lists.{within, every, allFrom, each, numbersFrom, onPart}
+use Rattle.words.specs.Lists.{within, every, allFrom, someFrom, each, numbersFrom, onPart}
 use Rattle.page.specs.Marks.{isProtected, withModified, withoutModified, validCharacter, validMark}
-use Rattle.page.specs.Marks.{takes, unprotected}
+use Rattle.page.specs.Marks.{isRequired, takes, unprotected}
 
 -- The two lent slices. A cell's number is its place in them, counted from 0.
 pub record Page : Type 0 where
@@ -119,6 +120,13 @@ takesFromRight page cell n =
 unfoldable pub takesFromLeft : Page → ℕ → ℕ → Bool
 takesFromLeft page cell n =
     allFrom (λ here. takes (getD (page .marks) (here + 1) 0) (getD (page .characters) here 0)) cell n
+
+-- M-107: whether one of the n cells from `cell` on is required, and whether they hold nothing but 20s.
+abbrev pub someRequired : List ℕ → ℕ → ℕ → Bool
+someRequired marks = someFrom (λ cell. isRequired (getD marks cell 0))
+
+abbrev pub allBlank : List ℕ → ℕ → ℕ → Bool
+allBlank characters = allFrom (λ cell. eqb (getD characters cell 0) 0x20)
 
 -- What a block that was sent leaves of the marks.
 unfoldable pub markAfterBlock : ℕ → ℕ

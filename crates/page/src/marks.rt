@@ -4,10 +4,10 @@ ghost use Prim.Native.Nat.{_<_};
 ghost use lib.ListN.{length, getD, set};
 ghost use Rattle.words.specs.Choice.{if_then_else_};
 ghost use Rattle.page.specs.Marks.{isProtected, isModified, isBold, isUnderlined, isBlinking, isReversed};
-ghost use Rattle.page.specs.Marks.{isConcealed, isNumeric, isAlphabetic, withModified, withoutModified};
+ghost use Rattle.page.specs.Marks.{isConcealed, isNumeric, isAlphabetic, isRequired, withModified, withoutModified};
 ghost use Rattle.page.specs.Marks.{validMark, numericTakes, alphabeticTakes, takes, unprotected};
 
-// What a cell has beside its character, a bit for each mark; bits 9 to 15 are zero.
+// What a cell has beside its character, a bit for each mark; bits 10 to 15 are zero.
 pub type Mark = u16;
 
 // Bit 0: protected.
@@ -73,14 +73,25 @@ pub fn is_alphabetic(mark: Mark) -> bool
     mark / 256 % 2 == 1
 }
 
-// A protected cell has no kind, and no cell has both: so numeric with alphabetic would begin at 180 hexadecimal.
+// Bit 9: required, of M-107.
+pub fn is_required(mark: Mark) -> bool
+    ensures { λ r. ⌜ r ≡ isRequired mark ⌝ }
+{
+    mark / 512 % 2 == 1
+}
+
+// A protected cell has no bit above the visual ones. Another one is not numeric and alphabetic: of bits 0 to 8 the two
+// together make 180 hexadecimal at least.
 pub fn is_valid_mark(mark: Mark) -> bool
     ensures { λ r. ⌜ r ≡ validMark mark ⌝ }
 {
     if is_protected(mark) {
         return mark < 0x80;
     }
-    mark < 0x180
+    if mark % 0x200 < 0x180 {
+        return mark < 0x400;
+    }
+    false
 }
 
 // Whether a numeric cell takes a character other than 20.

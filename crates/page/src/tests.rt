@@ -1,6 +1,7 @@
 // What a lent page may have, and no other; see specs/Page.antt, validPage.
 use crate::marks::Mark;
 use crate::marks::is_protected;
+use crate::marks::is_required;
 use crate::marks::is_valid_mark;
 use crate::marks::mark_at;
 use crate::marks::takes;
@@ -11,7 +12,7 @@ ghost use lib.ListN.{length};
 ghost use Rattle.words.specs.Choice.{if_then_else_, _and_};
 ghost use Rattle.words.specs.Lists.{every};
 ghost use Rattle.page.specs.Marks.{isProtected, validCharacter, validMark};
-ghost use Rattle.page.specs.Page.{pageOf, validPage, takesFromRight, takesFromLeft};
+ghost use Rattle.page.specs.Page.{pageOf, validPage, takesFromRight, takesFromLeft, someRequired, allBlank};
 
 // The larger of two bytes, and the smaller.
 fn larger(a: u8, b: u8) -> u8
@@ -111,6 +112,36 @@ pub fn take_from_left(characters: &[u8], marks: &[Mark], from: usize, to: usize)
     let mut cell = from;
     while cell < to - 1 {
         if !takes(mark_at(marks, cell + 1), characters[cell]) {
+            return false;
+        }
+        cell += 1;
+    }
+    true
+}
+
+// M-107: whether one of the cells from `from` to before `to` is required.
+pub fn has_required(marks: &[Mark], from: usize, to: usize) -> bool
+    requires { ⌜ (from ≤ to) × (to ≤ length (now marks)) ⌝ }
+    ensures { λ r. ⌜ r ≡ someRequired (now (marks .entry)) from (to - from) ⌝ }
+{
+    let mut cell = from;
+    while cell < to {
+        if is_required(mark_at(marks, cell)) {
+            return true;
+        }
+        cell += 1;
+    }
+    false
+}
+
+// Whether they hold nothing but 20s.
+pub fn is_all_blank(characters: &[u8], from: usize, to: usize) -> bool
+    requires { ⌜ (from ≤ to) × (to ≤ length (now characters)) ⌝ }
+    ensures { λ r. ⌜ r ≡ allBlank (now (characters .entry)) from (to - from) ⌝ }
+{
+    let mut cell = from;
+    while cell < to {
+        if characters[cell] != 0x20 {
             return false;
         }
         cell += 1;

@@ -10,10 +10,14 @@ use Rattle.words.specs.Choice.{if_then_else_, _and_, _or_}
 unfoldable pub within : ℕ → ℕ → ℕ → Bool
 within from to place = leb from place and ltb place to
 
--- Every element passes the test.
+-- Every element passes the test; some element does.
 unfoldable pub every : {A : Type 0} → (A → Bool) → List A → Bool
 every test [] = true
 every test (x ∷ rest) = test x and every test rest
+
+unfoldable pub some : {A : Type 0} → (A → Bool) → List A → Bool
+some test [] = false
+some test (x ∷ rest) = test x or some test rest
 
 -- Each of the n places from i on passes the test; one of them does.
 unfoldable pub allFrom : (ℕ → Bool) → ℕ → ℕ → Bool
