@@ -3,5 +3,6 @@ pub mod Laws
 pub mod Walks
 pub mod Bounds
 pub mod Listing
+pub mod Blank
 pub mod Searching
 pub mod Theorems

@@ -1,16 +1,19 @@
 // Fields: unprotected cells that follow on one another in page order; and the searches of the keys.
-// What each function gives is defined in specs/Fields.antt and specs/Searches.antt.
+// What each function gives is defined in specs/Fields.antt, specs/Searches.antt and specs/Required.antt.
 use page::Mark;
 use places::Place;
 ghost use mathlib.Core.Path.{_≡_};
 ghost use Prim.Native.Nat.{_-_, _*_, _<_, _≤_};
 ghost use lib.ListN.{length};
 ghost use Rattle.places.specs.Places.{placeOf, Counted};
+ghost use Rattle.words.specs.Choice.{_and_};
 ghost use Rattle.page.specs.Marks.{unprotected};
+ghost use Rattle.page.specs.Page.{pageOf};
 ghost use Rattle.fields.specs.Fields.{joined, startsField, fieldStart, fieldEnd};
-ghost use Rattle.fields.specs.Fields.{fieldsOf, fieldsFrom};
+ghost use Rattle.fields.specs.Fields.{fieldFrom, fieldsOf, fieldsFrom};
 ghost use Rattle.fields.specs.Searches.{firstField, lastField, nextField, previousField};
 ghost use Rattle.fields.specs.Searches.{firstUnprotectedFrom, firstUnprotected, nextUnprotected};
+ghost use Rattle.fields.specs.Required.{isLeftBlank, someLeftBlank};
 
 // A place that was looked for.
 pub enum Sought {
@@ -175,4 +178,45 @@ pub fn next_unprotected(marks: &[Mark], place: Place, columns: usize) -> Sought
         Sought::At(found) => Sought::At(found),
         Sought::Nowhere => seek_unprotected(marks, Place::first(columns), columns),
     }
+}
+
+// M-107: whether a field has a required cell and holds nothing but 20s.
+fn is_left_blank(characters: &[u8], marks: &[Mark], from: usize, to: usize) -> bool
+    requires { ⌜ (from ≤ to) × (to ≤ length (now marks)) × (length (now characters) ≡ length (now marks)) ⌝ }
+    ensures { λ r. ⌜ r ≡ isLeftBlank
+        (pageOf (now (characters .entry)) (now (marks .entry))) (record { start = from; length = to - from }) ⌝ }
+{
+    if page::has_required(marks, from, to) {
+        return page::is_all_blank(characters, from, to);
+    }
+    false
+}
+
+// Whether such a field starts at the cell.
+fn starts_left_blank(characters: &[u8], marks: &[Mark], cell: usize) -> bool
+    requires { ⌜ (cell < length (now marks)) × (length (now characters) ≡ length (now marks)) ⌝ }
+    ensures { λ r. ⌜ r ≡ (startsField (unprotected (now (marks .entry))) cell
+        and isLeftBlank (pageOf (now (characters .entry)) (now (marks .entry)))
+        (fieldFrom (unprotected (now (marks .entry))) (length (now (marks .entry))) cell)) ⌝ }
+{
+    if starts_field(marks, cell) {
+        let end = field_end(marks, cell);
+        return is_left_blank(characters, marks, cell, end);
+    }
+    false
+}
+
+// Whether the page has such a field.
+pub fn has_left_blank(characters: &[u8], marks: &[Mark]) -> bool
+    requires { ⌜ length (now characters) ≡ length (now marks) ⌝ }
+    ensures { λ r. ⌜ r ≡ someLeftBlank (pageOf (now (characters .entry)) (now (marks .entry))) ⌝ }
+{
+    let mut cell = 0;
+    while cell < marks.len() {
+        if starts_left_blank(characters, marks, cell) {
+            return true;
+        }
+        cell += 1;
+    }
+    false
 }
