@@ -39,10 +39,11 @@ use Rattle.commands.specs.Commands.{freshStep, escStep, erasing, erasePa
 use Rattle.sending.specs.Sending.{sendBlock, readyReport, cursorReport, statusReport}
 use Rattle.table.specs.Moves.{toColumn, toRow, toPlace, moveStep}
 use Rattle.table.specs.PrivateForms.{privateStep}
-use Rattle.table.specs.Settings.{tabControl, areaSet, areaQualified, rendition, setMode}
+use Rattle.table.specs.Settings.{tabControl, isArea, areaSet, areaQualified, rendition, setMode}
 use Rattle.commands.specs.Host.{eventStep, hostStep}
 use Rattle.commands.proofs.Claims.{EndsEscS, Stores, no-cell, text-cell, erased-cells, all-cells, HostSound, EventSound}
-use Rattle.commands.proofs.Values.{some-value, zero-is-one, some-column, area-keeps-pen, pen-after-all-keeps-pen}
+use Rattle.table.proofs.Pens.{area-keeps-pen, one-is-area, zero-is-area, pen-after-all-keeps-pen}
+use Rattle.commands.proofs.Values.{some-value, zero-is-one, some-column}
 use Rattle.sequence.proofs.Events.{Tells, event-tells}
 
 then-keeps : {before between after : State} → KeepsValid before between → KeepsValid between after → KeepsValid before after
@@ -154,10 +155,10 @@ module _ (Asked : Type 0) (byte : ℕ) (t : Terminal) (valid : Valid t) where
       puts all-cells (record { size = refl; valid = fresh-valid (t .state .size) (page-size .listed) })
       (blank-stored (t .page) (valid .page) same-lengths)
 
-  area-set-holds : (value : ℕ) → Holds (areaSet value t)
+  area-set-holds : (value : ℕ) → isArea (t .state .modes .pen) value ≡ true → Holds (areaSet value t)
   unfolding areaSet
-  area-set-holds value =
-      goes _ (pen-keeps-valid (t .state) (valid .state) _ (area-keeps-pen value (t .state .modes .pen) (parts (t .state) (valid .state) .pen)))
+  area-set-holds value taken =
+      goes _ (pen-keeps-valid (t .state) (valid .state) _ (area-keeps-pen value (t .state .modes .pen) taken (parts (t .state) (valid .state) .pen)))
 
   esc-holds : (command : ℕ) → byte ≡ command → (command ≡ 0x53 → Asked) → Holds (escStep command t)
   unfolding escStep nextLine
@@ -168,8 +169,8 @@ module _ (Asked : Type 0) (byte : ℕ) (t : Terminal) (valid : Valid t) where
       (line (λ _. line-down-holds (toMargin s) (margin-keeps-valid s ok))
       (line (λ _. line-up-holds)
       (line (λ _. goes _ (stop-set-keeps-valid s ok))
-      (line (λ _. area-set-holds 1)
-      (line (λ _. area-set-holds 0)
+      (line (λ _. area-set-holds 1 (one-is-area _))
+      (line (λ _. area-set-holds 0 (zero-is-area _))
       (line (λ e. full-block-holds (asked (eqb-true command 0x53 e)))
       (line (λ _. fresh-holds)
       (line (λ _. goes _ (disabled-keeps-valid s ok))
@@ -223,7 +224,7 @@ module _ (Asked : Type 0) (byte : ℕ) (t : Terminal) (valid : Valid t) where
 
   area-holds : (final : ℕ) → byte ≡ final → (value : ℕ) → Holds (areaQualified final value t)
   unfolding areaQualified
-  area-holds final ends value = line (λ _. area-set-holds value) (refuses WrongArguments ends)
+  area-holds final ends value = line (λ taken. area-set-holds value taken) (refuses WrongArguments ends)
 
   rendition-holds : (final : ℕ) → byte ≡ final → (values : List ℕ) → Holds (rendition final values t)
   unfolding rendition

@@ -1,16 +1,16 @@
 -- Every line of the keys' table keeps what is claimed of a key in any state. The proofs follow the definitions line by
 -- line.
-use mathlib.Core.Path.{_≡_, refl, ap, _∙_}
+use mathlib.Core.Path.{_≡_, refl, sym, ap, _∙_}
 use mathlib.Core.Bool.{Bool, true, false}
 use mathlib.Core.List.{List}
 use mathlib.Core.Logic.{_⊎_, inl, inr}
 use Prim.Native.Nat.{ℕ, _<_, _≤_}
 use native.Mathlib.Omega.{arith}
-use borrow.Author.Tests.{eqb-true}
+use borrow.Author.Tests.{eqb-true, eq-eqb}
 use lib.ListN.{getD}
 use lib.Seq.{getD-set-other}
 use Rattle.words.specs.Choice.{if_then_else_}
-use Rattle.words.proofs.Choosing.{not-both, either-line}
+use Rattle.words.proofs.Choosing.{not-both, either-line, first-decides}
 use Rattle.words.proofs.Writing.{outside-part}
 use Rattle.page.specs.Marks.{hasBit}
 use Rattle.page.specs.Page.{Page, typed, partStored}
@@ -18,6 +18,7 @@ use Rattle.page.proofs.Keeping.{KeepsPart, blanked-keeps, closed-up-keeps, move
 use Rattle.page.proofs.Protecting.{typed-bit, untagged, tagged-bit, cleared-marks-bit, protected-uncleared}
 use Rattle.fields.specs.declared.Sought.{Sought}
 use Rattle.fields.specs.declared.Sought.the-variants.{At, Nowhere}
+use Rattle.fields.specs.Required.{someLeftBlank}
 use Rattle.fields.proofs.Claims.{UnprotectedAround}
 use Rattle.fields.proofs.Theorems.{unprotected-around}
 use Rattle.state.specs.declared.State.{State}
@@ -26,8 +27,8 @@ use Rattle.state.specs.Moves.{upBy, downBy, rightBy, leftBy}
 use Rattle.blocks.specs.Blocks.{block}
 use Rattle.steps.specs.Steps.{Terminal, Stepped, goesTo, stores, cursorCell}
 use Rattle.sending.specs.Sending.{sendsFull, sendBlock}
-use Rattle.keys.specs.Keys.{isTyping, cellsFrom, goneTo, typedStep, toNextField, toPreviousField, toFirstUnprotected, fieldBlanked, restShifted, takenStep, keyStep}
-use Rattle.steps.specs.Seen.{cellsHere, unprotectedAt, startHere, endHere}
+use Rattle.keys.specs.Keys.{isTyping, isHeldBack, cellsFrom, goneTo, typedStep, toNextField, toPreviousField, toFirstUnprotected, fieldBlanked, restShifted, takenStep, keyStep}
+use Rattle.steps.specs.Seen.{seen, cellsHere, unprotectedAt, startHere, endHere}
 use Rattle.steps.proofs.Transmissions.{silent-is-no-full, silent-is-no-changed, silent-is-no-report, told-full, told-changed, block-is-no-report}
 use Rattle.keys.proofs.Claims.{KeyStores, no-cell, typed-cell, whole-field, rest-of-field, KeyAlways}
 use Rattle.steps.specs.Claims.{ProtectedKept}
@@ -77,20 +78,25 @@ module _ (key : ℕ) (t : Terminal) where
   stays : Always (goesTo (t .state) t)
   stays = goes (t .state) (λ _. refl) refl
 
-  clears : key ≡ 266 → Always (sendBlock (sendsFull (t .state)) t)
+  sends-filled : key ≡ 266 → isHeldBack key t ≡ false → someLeftBlank (seen t) ≡ false
+  unfolding isHeldBack
+  sends-filled asked free = sym (first-decides _ _ (eq-eqb key 266 asked)) ∙ free
+
+  clears : key ≡ 266 → isHeldBack key t ≡ false → Always (sendBlock (sendsFull (t .state)) t)
   unfolding sendBlock
-  clears asked =
+  clears asked free =
       let full = sendsFull (t .state) in
       let columns = t .state .size .columns in
       let said = block full columns (t .page) in
+      let filled = sends-filled asked free in
       record {
         stored = no-cell;
         full-block = λ bytes e.
             let told = told-full said bytes full e in
-            record { asked = record { key-266 = asked; by-mode = told .0 }; of-page = told .1 ∙ ap (λ (f : Bool). block f columns (t .page)) (told .0); no-cell = refl };
+            record { asked = record { key-266 = asked; by-mode = told .0; none-blank = filled }; of-page = told .1 ∙ ap (λ (f : Bool). block f columns (t .page)) (told .0); no-cell = refl };
         changed-block = λ bytes e.
             let told = told-changed said bytes full e in
-            record { asked = record { key-266 = asked; by-mode = told .0 }; of-page = told .1 ∙ ap (λ (f : Bool). block f columns (t .page)) (told .0); no-cell = refl };
+            record { asked = record { key-266 = asked; by-mode = told .0; none-blank = filled }; of-page = told .1 ∙ ap (λ (f : Bool). block f columns (t .page)) (told .0); no-cell = refl };
         no-report = λ bytes e. block-is-no-report said bytes full e;
         not-refused = refl;
         locks = λ _. refl;
@@ -143,7 +149,8 @@ module _ (key : ℕ) (t : Terminal) where
   unfolding keyStep takenStep upBy downBy leftBy rightBy unlocked toNextField toPreviousField toFirstUnprotected
   key-always =
       line (λ _. stays)
-      (line typed-always
+      (either-line Always (isHeldBack key t) _ _ (λ _. stays) (λ free.
+      line typed-always
       (line (λ _. goes _ (λ _. refl) refl)
       (line (λ _. goes _ (λ _. refl) refl)
       (line (λ _. goes _ (λ _. refl) refl)
@@ -154,5 +161,5 @@ module _ (key : ℕ) (t : Terminal) where
       (line (λ e. blanked-always (eqb-true key 263 e))
       (line (λ e. shifted-always closed-up-keeps (inl (eqb-true key 264 e)))
       (line (λ e. shifted-always moved-right-keeps (inr (eqb-true key 265 e)))
-      (line (λ e. clears (eqb-true key 266 e))
-      (line (λ e. goes (unlocked (t .state)) (λ other. absurd (other (eqb-true key 268 e))) refl) stays)))))))))))))
+      (line (λ e. clears (eqb-true key 266 e) free)
+      (line (λ e. goes (unlocked (t .state)) (λ other. absurd (other (eqb-true key 268 e))) refl) stays))))))))))))))

@@ -34,6 +34,7 @@ unfolding keyStep takenStep typedStep upBy downBy leftBy rightBy toNextField toP
 key-keeps-arrays key t has =
     let moves = cursor-keeps-arrays (t .state) has in
     line _ _ _ has
+    (line _ _ _ has
     (line _ _ _ (line _ _ _ (gone-keeps t has _) has)
     (line _ _ _ (moves _)
     (line _ _ _ (moves _)
@@ -46,4 +47,4 @@ key-keeps-arrays key t has =
     (line _ _ _ (shifted-keeps t has _)
     (line _ _ _ (shifted-keeps t has _)
     (line _ _ _ has
-    (line _ _ _ (locks-keep-arrays (t .state) has _) has)))))))))))))
+    (line _ _ _ (locks-keep-arrays (t .state) has _) has))))))))))))))

@@ -7,10 +7,11 @@ use Prim.Native.Nat.{ℕ}
 use lib.ListN.{getD}
 use Rattle.page.specs.Marks.{hasBit, isModified, takes, unprotected}
 use Rattle.page.specs.Page.{Page}
+use Rattle.fields.specs.Required.{someLeftBlank}
 use Rattle.steps.specs.Steps.{Terminal, report, fullBlock, changedBlock, Stepped, cursorCell}
 use Rattle.steps.specs.Claims.{SendsBlock, ProtectedKept}
 use Rattle.steps.proofs.Soundness.{Sound}
-use Rattle.steps.specs.Seen.{unprotectedAt}
+use Rattle.steps.specs.Seen.{seen, unprotectedAt}
 use Rattle.sending.specs.Sending.{sendsFull}
 use Rattle.keys.specs.Keys.{isTyping, cellsFrom}
 use Rattle.steps.specs.Seen.{startHere, endHere}
@@ -23,10 +24,11 @@ pub data KeyStores (key : ℕ) (t : Terminal) : List ℕ → Type 0 where
   whole-field : unprotectedAt t (cursorCell (t .state)) ≡ true → key ≡ 263 → KeyStores key t (cellsFrom (startHere t) (endHere t))
   rest-of-field : unprotectedAt t (cursorCell (t .state)) ≡ true → (key ≡ 264) ⊎ (key ≡ 265) → KeyStores key t (cellsFrom (cursorCell (t .state)) (endHere t))
 
--- The key is 266, and its mode has it send a full block, or a changed one.
+-- The key is 266, its mode has it send a full block, or a changed one, and no required field is blank.
 pub record IsSendKey (key : ℕ) (t : Terminal) (full : Bool) : Type 0 where
   pub key-266 : key ≡ 266
   pub by-mode : sendsFull (t .state) ≡ full
+  pub none-blank : someLeftBlank (seen t) ≡ false
 
 -- In any state, valid or not, whatever the lengths of the two slices. Every cell keeps all its marks but modified.
 pub record KeyAlways (key : ℕ) (t : Terminal) (step : Stepped) : Type 0 where

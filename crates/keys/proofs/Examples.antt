@@ -7,20 +7,21 @@ use Prim.Native.Char.{code}
 use lib.ListN.{length, replicate}
 use Rattle.words.specs.Choice.{if_then_else_, _and_, _or_, _is_to_}
 use Rattle.words.specs.Text.{bytes}
-use Rattle.words.specs.Lists.{within, allFrom, someFrom, eachFrom, numbersFrom, onPart, selected}
+use Rattle.words.specs.Lists.{within, some, allFrom, someFrom, eachFrom, numbersFrom, onPart, selected}
 use Rattle.page.specs.Marks.{numericTakes, alphabeticTakes, takes, unprotected}
 use Rattle.page.specs.Page.{Page, pageOf, takesFromRight, takesFromLeft, typed, tagged, blanked, closedUp, movedRight, markAfterBlock, modifiedCleared}
 use Rattle.places.specs.Places.{placeOf}
 use Rattle.output.specs.Decimal.{decimal, placeBytes}
 use Rattle.fields.specs.Fields.{joined, startsField, fieldStart, endFrom, fieldEnd, fieldsFrom, fieldsOf}
 use Rattle.fields.specs.Searches.{orElse, firstField, lastField, firstAfter, lastBefore, nextField, previousField, firstUnprotectedFrom, firstUnprotected, nextUnprotected}
+use Rattle.fields.specs.Required.{isLeftBlank, someLeftBlank}
 use Rattle.blocks.specs.Blocks.{entryBytes, encode, entryOf, isInBlock, entriesSent, block}
 use Rattle.state.specs.State.{freshState, withCursor, cursorAt, withLocks, unlocked}
 use Rattle.state.specs.Moves.{backBy, onBy, upBy, downBy, rightBy, leftBy}
 use Rattle.state.specs.Pen.{withFull}
 use Rattle.steps.specs.Steps.{Terminal, withState, bytesOf, blockTransmission}
 use Rattle.sending.specs.Sending.{sendBlock}
-use Rattle.keys.specs.Keys.{isTyping, isEditing, isFieldMove, isKnown, isLocked, isLockedOut, noField, lacksCell, isNotTaken, goneTo, typedStep, toNextField, toPreviousField, toFirstUnprotected, fieldBlanked, restShifted, takenStep, keyStep}
+use Rattle.keys.specs.Keys.{isTyping, isEditing, isFieldMove, isKnown, isLocked, isLockedOut, noField, lacksCell, isNotTaken, isHeldBack, goneTo, typedStep, toNextField, toPreviousField, toFirstUnprotected, fieldBlanked, restShifted, takenStep, keyStep}
 
 -- A page of 2 rows by 8 columns, small enough to be shown whole. No call takes its size, which line 1 refuses; the
 -- steps go by the same rules on any R and C.
@@ -133,6 +134,13 @@ whole = pageOf (bytes "ABCDEFGHIJKLMNOP") (replicate 16 0)
 --     # 7 X 5 # # # #     protected, -, A, Nm, the rest protected
 kinds : Page
 kinds = pageOf (bytes "#1-A.bc##7X5####") (1 ∷ 128 ∷ 132 ∷ 256 ∷ 256 ∷ 0 ∷ 256 ∷ 1 ∷ 1 ∷ 0 ∷ 256 ∷ 130 ∷ replicate 4 1)
+
+-- M-107: a page of two fields, at 1;2 and from 1;7 on over the row's end, with these characters and marks in them.
+required : List ℕ → List ℕ → List ℕ → List ℕ → Page
+required first second marksOfFirst marksOfSecond =
+    pageOf
+    (code "#" ∷ first ++ (code "#" ∷ code "#" ∷ second ++ bytes "######"))
+    (1 ∷ marksOfFirst ++ (1 ∷ 1 ∷ marksOfSecond ++ replicate 6 1))
 
 -- What its two rows become: the marks of the six cells and of the three.
 kindsAfter : List ℕ → List ℕ → List ℕ
@@ -267,6 +275,15 @@ examples =
     -- 263 leaves the kinds, and so does a block
     ∷ storedOn kinds 1 5 263 1 2 6 (bytes "#      ##7X5####") (kindsAfter (130 ∷ 134 ∷ 258 ∷ 258 ∷ 2 ∷ 258 ∷ []) (0 ∷ 256 ∷ 130 ∷ []))
     ∷ sentOn kinds 1 1 266 (bytes "\u{1b}[2;2f7X5\u{3}") (kindsAfter (128 ∷ 132 ∷ 256 ∷ 256 ∷ 0 ∷ 256 ∷ []) (0 ∷ 256 ∷ 128 ∷ []))
+    -- M-107: a required cell in a blank field holds 266 back, in either mode, though nothing there is modified
+    ∷ goesOn (required (bytes "   ") (bytes "1   ") (0 ∷ 512 ∷ 0 ∷ []) (2 ∷ 0 ∷ 0 ∷ 0 ∷ [])) 1 1 266 1 1
+    ∷ allSentOn (required (bytes "   ") (bytes "1   ") (0 ∷ 512 ∷ 0 ∷ []) (2 ∷ 0 ∷ 0 ∷ 0 ∷ [])) 1 1 []
+    (1 ∷ 0 ∷ 512 ∷ 0 ∷ 1 ∷ 1 ∷ 2 ∷ 0 ∷ 0 ∷ 0 ∷ replicate 6 1)
+    -- any other character in any cell of the field lets it pass, over the row's end, and a period is one
+    ∷ sentOn (required (bytes "   ") (bytes "1   ") (0 ∷ 0 ∷ 0 ∷ []) (2 ∷ 0 ∷ 0 ∷ 640 ∷ [])) 1 1 266 (bytes "\u{1b}[1;7f1   \u{3}")
+    (1 ∷ 0 ∷ 0 ∷ 0 ∷ 1 ∷ 1 ∷ 0 ∷ 0 ∷ 0 ∷ 640 ∷ replicate 6 1)
+    ∷ sentOn (required (bytes "  .") (bytes "    ") (512 ∷ 0 ∷ 0 ∷ []) (0 ∷ 0 ∷ 0 ∷ 0 ∷ [])) 1 1 266 (bytes "\u{3}")
+    (1 ∷ 512 ∷ 0 ∷ 0 ∷ 1 ∷ 1 ∷ 0 ∷ 0 ∷ 0 ∷ 0 ∷ replicate 6 1)
     -- 127, 267 and 269 are no keys
     ∷ goes 1 3 127 1 3
     ∷ goes 1 3 267 1 3
@@ -275,7 +292,7 @@ examples =
 
 -- Each key leaves what the example says.
 as-worked-out : map asRun examples ≡ map (λ (e : Example). e .seen) examples
-unfolding characters marks on asRun goesOn storedOn sentOn inFull allSentOn goes stored sent allSent closed ends whole kinds kindsAfter examples if_then_else_ _and_ _or_ _is_to_ within eachFrom numbersFrom onPart selected unprotected typed tagged blanked closedUp movedRight markAfterBlock modifiedCleared placeOf decimal placeBytes joined startsField fieldStart endFrom fieldEnd fieldsFrom fieldsOf orElse firstField lastField firstAfter lastBefore nextField previousField firstUnprotectedFrom firstUnprotected nextUnprotected entryBytes encode entryOf someFrom isInBlock entriesSent block unlocked backBy onBy upBy downBy rightBy leftBy bytesOf blockTransmission sendBlock isTyping goneTo typedStep toNextField toPreviousField toFirstUnprotected fieldBlanked restShifted isNotTaken takenStep keyStep numericTakes alphabeticTakes takes allFrom takesFromRight takesFromLeft
+unfolding characters marks on asRun goesOn storedOn sentOn inFull allSentOn goes stored sent allSent closed ends whole kinds kindsAfter required examples if_then_else_ _and_ _or_ _is_to_ within eachFrom numbersFrom onPart selected unprotected typed tagged blanked closedUp movedRight markAfterBlock modifiedCleared placeOf decimal placeBytes joined startsField fieldStart endFrom fieldEnd fieldsFrom fieldsOf orElse firstField lastField firstAfter lastBefore nextField previousField firstUnprotectedFrom firstUnprotected nextUnprotected entryBytes encode entryOf someFrom isInBlock entriesSent block unlocked backBy onBy upBy downBy rightBy leftBy bytesOf blockTransmission sendBlock isTyping goneTo typedStep toNextField toPreviousField toFirstUnprotected fieldBlanked restShifted isNotTaken isHeldBack takenStep keyStep numericTakes alphabeticTakes takes allFrom takesFromRight takesFromLeft some isLeftBlank someLeftBlank
 as-worked-out = refl
 
 -- 268: soft lock, message and byte are cleared; the manual lock, and all else, stays. It is the one key that a lock
@@ -286,7 +303,7 @@ locked manual soft message byte =
     record { state = withLocks (t .state) (record { manual = manual; soft = soft; message = message; byte = byte }); page = t .page }
 
 unlocks : map (λ (t : Terminal). keyStep 268 t .terminal) (locked false true 1 0x42 ∷ locked true true 3 0 ∷ locked true false 0 0 ∷ []) ≡ (locked false false 0 0 ∷ locked true false 0 0 ∷ locked true false 0 0 ∷ [])
-unfolding characters marks on locked if_then_else_ _and_ _is_to_ isTyping unlocked isNotTaken takenStep keyStep
+unfolding characters marks on locked if_then_else_ _and_ _is_to_ isTyping unlocked isNotTaken isHeldBack takenStep keyStep
 unlocks = refl
 
 lockedOut : Terminal → List Bool
@@ -319,3 +336,19 @@ notTaken t = map (λ (key : ℕ). isNotTaken key t) (0x4F ∷ 0x35 ∷ 0x20 ∷ 
 not-taken : map notTaken (on kinds 1 3 ∷ on kinds 1 4 ∷ on kinds 2 2 ∷ []) ≡ ((true ∷ false ∷ false ∷ false ∷ true ∷ false ∷ false ∷ []) ∷ (false ∷ true ∷ false ∷ false ∷ false ∷ false ∷ false ∷ []) ∷ (false ∷ false ∷ false ∷ false ∷ true ∷ true ∷ false ∷ []) ∷ [])
 unfolding on kinds notTaken if_then_else_ _and_ _or_ _is_to_ numericTakes alphabeticTakes takes allFrom takesFromRight takesFromLeft unprotected joined endFrom fieldEnd isTyping isNotTaken
 not-taken = refl
+
+-- Line 9, for 266 and, beside it, A, 260, 263, 265, 267 and 268: with a required field blank, and with none.
+heldBack : Page → List Bool
+heldBack page = map (λ (key : ℕ). isHeldBack key (on page 1 2)) (266 ∷ 0x41 ∷ 260 ∷ 263 ∷ 265 ∷ 267 ∷ 268 ∷ [])
+
+held-back : map heldBack
+    (required (bytes "   ") (bytes "1   ") (0 ∷ 512 ∷ 0 ∷ []) (0 ∷ 0 ∷ 0 ∷ 0 ∷ [])
+    ∷ required (bytes "   ") (bytes "    ") (0 ∷ 0 ∷ 0 ∷ []) (0 ∷ 0 ∷ 0 ∷ 512 ∷ [])
+    ∷ required (bytes "   ") (bytes "1   ") (0 ∷ 0 ∷ 0 ∷ []) (0 ∷ 0 ∷ 0 ∷ 512 ∷ [])
+    ∷ [])
+    ≡ ((true ∷ false ∷ false ∷ false ∷ false ∷ false ∷ false ∷ [])
+    ∷ (true ∷ false ∷ false ∷ false ∷ false ∷ false ∷ false ∷ [])
+    ∷ (false ∷ false ∷ false ∷ false ∷ false ∷ false ∷ false ∷ [])
+    ∷ [])
+unfolding on required heldBack if_then_else_ _and_ _or_ some allFrom someFrom unprotected joined startsField endFrom fieldEnd fieldsFrom fieldsOf isLeftBlank someLeftBlank isHeldBack
+held-back = refl

@@ -123,6 +123,7 @@ module _ (t : Terminal) (valid : Valid t) where
       let cells = cellsHere t in
       let here = size .cursor-inside in
       line (λ _. goes s stays)
+      (line (λ _. goes s stays)
       (line (typed-holds key)
       (line (λ _. goes _ (up-keeps-valid s ok 1))
       (line (λ _. goes _ (down-keeps-valid s ok 1))
@@ -135,7 +136,7 @@ module _ (t : Terminal) (valid : Valid t) where
       (line (λ _. shifted-holds closed-up-keeps)
       (line (λ _. shifted-holds moved-right-keeps)
       (line (λ _. clears (sendsFull (t .state)))
-      (line (λ _. goes _ (unlocked-keeps-valid s ok)) (goes s stays))))))))))))))
+      (line (λ _. goes _ (unlocked-keeps-valid s ok)) (goes s stays)))))))))))))))
 
 pub key-holds : (key : ℕ) (t : Terminal) → Valid t → KeySound key t (keyStep key t)
 key-holds key t valid = let holds = table-holds t valid key in record { always = key-always key t; sound = holds .0; tags = holds .1; takes = stored-taken t valid key }

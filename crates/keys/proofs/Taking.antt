@@ -131,4 +131,4 @@ module _ (t : Terminal) (valid : Valid t) where
 
   pub stored-taken : (key : ℕ) → Takes (t .page) (keyStep key t .cells) (keyStep key t .terminal .page)
   unfolding keyStep
-  stored-taken key = either-line Taken _ _ _ (λ _. stays) (taken-takes key)
+  stored-taken key = either-line Taken _ _ _ (λ _. stays) (λ taken. line _ _ _ (λ _. stays) (taken-takes key taken))

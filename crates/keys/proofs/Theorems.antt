@@ -7,19 +7,19 @@ use Prim.Native.Nat.{ℕ, _-_, _<_}
 use native.Mathlib.Omega.{arith}
 use lib.ListN.{length, getD}
 use Rattle.words.specs.Choice.{if_then_else_, _and_, _or_, _is_to_}
-use Rattle.words.proofs.Choosing.{not-both, then-case, first-holds}
+use Rattle.words.proofs.Choosing.{not-both, then-case, else-case, either-way, first-holds}
 use Rattle.words.proofs.Elements.{run-length}
 use Rattle.page.specs.Marks.{hasBit, isModified, takes, unprotected}
 use Rattle.state.specs.State.{withLocks, unlocked}
 use Rattle.steps.specs.Steps.{Terminal, report, fullBlock, changedBlock, goesTo, cursorCell, Valid}
 use Rattle.steps.specs.Claims.{Rising, TouchesOnly, KeepsProtection, KeepsText, SendsBlock, ProtectedKept, counted}
 use Rattle.steps.specs.Seen.{unprotectedAt}
-use Rattle.keys.specs.Keys.{isTyping, isEditing, isNotTaken, typedStep, fieldBlanked, restShifted, takenStep, keyStep}
+use Rattle.keys.specs.Keys.{isTyping, isEditing, isNotTaken, isHeldBack, typedStep, fieldBlanked, restShifted, takenStep, keyStep}
 use Rattle.steps.specs.Seen.{startHere, endHere}
 use Rattle.steps.proofs.Naming.{named-between}
 use Rattle.steps.proofs.Soundness.{names-none}
 use Rattle.keys.proofs.Claims.{KeyStores, no-cell, typed-cell, whole-field, rest-of-field, IsSendKey}
-use Rattle.keys.proofs.Silent.{taken-step}
+use Rattle.keys.proofs.Silent.{taken-step, not-held-back, typing-not-held-back}
 use Rattle.keys.proofs.Always.{key-always}
 use Rattle.keys.proofs.Tables.{key-holds}
 
@@ -102,13 +102,18 @@ module _ (key : ℕ) (t : Terminal) where
 
 -- 268 clears the soft lock, the message and its byte, and does nothing else.
 pub unlocked-step : (t : Terminal) → keyStep 268 t ≡ goesTo (withLocks (t .state) (record { manual = t .state .locks .manual; soft = false; message = 0; byte = 0 })) t
-unfolding keyStep isNotTaken takenStep isTyping _is_to_ _and_ if_then_else_ unlocked
+unfolding keyStep isNotTaken isHeldBack takenStep isTyping _is_to_ _and_ if_then_else_ unlocked
 unlocked-step t = refl
 
 -- A key that would bring a character where it isn't taken does nothing.
 pub not-taken-step : (key : ℕ) (t : Terminal) → isNotTaken key t ≡ true → keyStep key t ≡ goesTo (t .state) t
 unfolding keyStep
 not-taken-step key t not-taken = then-case _ _ _ not-taken
+
+-- Nor does 266 while a required field is blank.
+pub held-back-step : (key : ℕ) (t : Terminal) → isHeldBack key t ≡ true → keyStep key t ≡ goesTo (t .state) t
+unfolding keyStep
+held-back-step key t held = either-way (isNotTaken key t) (λ first. then-case _ _ _ first) (λ taken. else-case _ _ _ taken ∙ then-case _ _ _ held)
 
 -- A key that stores types or edits, on an unprotected cell.
 stores-where : (key : ℕ) (t : Terminal) {cells : List ℕ} → KeyStores key t cells → (cells ≡ []) ⊎ ((unprotectedAt t (cursorCell (t .state)) ≡ true) × ((isTyping key or isEditing key) ≡ true))
@@ -125,21 +130,21 @@ module _ (t : Terminal) where
     -- 1 for a typed character.
     pub typed-count : (key : ℕ) → isTyping key ≡ true → isNotTaken key t ≡ false → counted (keyStep key t) ≡ 1
     unfolding takenStep typedStep
-    typed-count key typing taken = ap counted (taken-step key t taken ∙ then-case _ _ _ typing ∙ then-case _ _ _ here)
+    typed-count key typing taken = ap counted (taken-step key t taken (typing-not-held-back key t typing) ∙ then-case _ _ _ typing ∙ then-case _ _ _ here)
 
     -- The whole field for 263.
     pub blanked-count : counted (keyStep 263 t) ≡ endHere t - startHere t
-    unfolding keyStep isNotTaken takenStep isTyping _is_to_ _and_ if_then_else_ fieldBlanked
+    unfolding keyStep isNotTaken isHeldBack takenStep isTyping _is_to_ _and_ if_then_else_ fieldBlanked
     blanked-count = ap counted (then-case _ _ _ here) ∙ run-length (startHere t) (endHere t - startHere t)
 
     -- Cursor to field end for 264 and 265.
     pub closed-up-count : isNotTaken 264 t ≡ false → counted (keyStep 264 t) ≡ endHere t - cursorCell (t .state)
     unfolding takenStep isTyping _is_to_ _and_ if_then_else_ restShifted
-    closed-up-count taken = ap counted (taken-step 264 t taken ∙ then-case _ _ _ here) ∙ run-length (cursorCell (t .state)) (endHere t - cursorCell (t .state))
+    closed-up-count taken = ap counted (taken-step 264 t taken (not-held-back 264 t (λ e. omega arith)) ∙ then-case _ _ _ here) ∙ run-length (cursorCell (t .state)) (endHere t - cursorCell (t .state))
 
     pub moved-right-count : isNotTaken 265 t ≡ false → counted (keyStep 265 t) ≡ endHere t - cursorCell (t .state)
     unfolding takenStep isTyping _is_to_ _and_ if_then_else_ restShifted
-    moved-right-count taken = ap counted (taken-step 265 t taken ∙ then-case _ _ _ here) ∙ run-length (cursorCell (t .state)) (endHere t - cursorCell (t .state))
+    moved-right-count taken = ap counted (taken-step 265 t taken (not-held-back 265 t (λ e. omega arith)) ∙ then-case _ _ _ here) ∙ run-length (cursorCell (t .state)) (endHere t - cursorCell (t .state))
 
   -- 0 for the others, for every key where the cursor's cell is protected, and for one whose character isn't taken.
   pub other-count : (key : ℕ) → (isTyping key or isEditing key) ≡ false → counted (keyStep key t) ≡ 0

@@ -1,5 +1,6 @@
--- Document 01, "Fields, keys and blocks", and document 02, M-103 and M-106: what the keys do. A key that finds no cell
--- or field does nothing, nor one that brings a character where it isn't taken: line 7 or 8 is then given.
+-- Document 01, "Fields, keys and blocks", and document 02, M-103, M-106 and M-107: what the keys do. A key that finds no
+-- cell or field does nothing, nor one that brings a character where it isn't taken, nor 266 where a required field is
+-- blank: line 7, 8 or 9 is then given.
 use mathlib.Core.Bool.{Bool, true, false, not}
 use mathlib.Core.List.{List, [], _∷_}
 use Prim.Native.Nat.{ℕ, _-_}
@@ -11,6 +12,7 @@ use Rattle.fields.specs.declared.Sought.{Sought}
 use Rattle.fields.specs.declared.Sought.the-variants.{At, Nowhere}
 use Rattle.fields.specs.Fields.{Field}
 use Rattle.fields.specs.Searches.{orElse}
+use Rattle.fields.specs.Required.{someLeftBlank}
 use Rattle.state.specs.declared.State.{State}
 use Rattle.state.specs.State.{withCursor, cursorAt, unlocked}
 use Rattle.state.specs.Moves.{upBy, downBy, rightBy, leftBy}
@@ -64,6 +66,10 @@ isNotTaken key t =
     else if eqb key 265 then not (takesFromLeft (seen t) (cursorCell (t .state)) (carried t))
     else false
 
+-- Line 9: 266, in either mode, while some field has a required cell and holds nothing but 20s. (ESC S is not held back.)
+unfoldable pub isHeldBack : ℕ → Terminal → Bool
+isHeldBack key t = eqb key 266 and someLeftBlank (seen t)
+
 -- The cursor goes to what was found, and stays where nothing was.
 unfoldable pub goneTo : Sought → State → State
 goneTo (At place) s = withCursor s (cursorAt (place .row) (place .column))
@@ -113,7 +119,7 @@ restShifted change t =
     (stores (cellsFrom (cursorCell (t .state)) (endHere t)) false (t .state)
     (partStored change (cursorCell (t .state)) (endHere t) (t .page)))
 
--- What a key does that line 8 lets pass. A number that is no key does nothing.
+-- What a key does that lines 8 and 9 let pass. A number that is no key does nothing.
 unfoldable pub takenStep : ℕ → Terminal → Stepped
 takenStep key t =
     if isTyping key then typedStep key t
@@ -135,4 +141,5 @@ takenStep key t =
 unfoldable pub keyStep : ℕ → Terminal → Stepped
 keyStep key t =
     if isNotTaken key t then goesTo (t .state) t
+    else if isHeldBack key t then goesTo (t .state) t
     else takenStep key t

@@ -10,7 +10,7 @@ ghost use Rattle.steps.specs.Steps.{Valid, terminalOf, cursorCell};
 ghost use Rattle.steps.specs.Told.{told, tells, written};
 ghost use Rattle.steps.specs.Seen.{seen, unprotectedAt, takesAt, fieldsHere, endHere};
 ghost use Rattle.keys.specs.Keys.{isTyping, isEditing, isFieldMove, isKnown, isLocked, isLockedOut};
-ghost use Rattle.keys.specs.Keys.{noField, lacksCell, carried, isNotTaken, goneTo, typedStep};
+ghost use Rattle.keys.specs.Keys.{noField, lacksCell, carried, isNotTaken, isHeldBack, goneTo, typedStep};
 ghost use Rattle.keys.specs.Keys.{toNextField, toPreviousField, toFirstUnprotected};
 ghost use Rattle.keys.specs.Keys.{fieldBlanked, restShifted, takenStep, keyStep};
 
@@ -166,6 +166,17 @@ pub fn is_not_taken(key: usize, state: State, characters: &[u8], marks: &[Mark])
     false
 }
 
+// Whether line 9 holds.
+pub fn is_held_back(key: usize, state: State, characters: &[u8], marks: &[Mark]) -> bool
+    requires { ⌜ Valid (terminalOf state (now characters) (now marks)) ⌝ }
+    ensures { λ r. ⌜ r ≡ isHeldBack key (terminalOf state (now (characters .entry)) (now (marks .entry))) ⌝ }
+{
+    if key == 266 {
+        return fields::has_left_blank(characters, marks);
+    }
+    false
+}
+
 fn gone_to(sought: Sought, state: State) -> State
     ensures { λ r. ⌜ r ≡ goneTo sought state ⌝ }
 {
@@ -308,7 +319,7 @@ fn act(state: State, characters: &mut [u8], marks: &mut [Mark], key: usize) -> S
     }
 }
 
-// The step of a key that line 8 lets pass. Its transmission is written into the output; where it does not fit nothing
+// The step of a key that lines 8 and 9 let pass. Its transmission is written into the output; where it does not fit nothing
 // happens.
 pub fn step(
     state: State,
@@ -319,6 +330,7 @@ pub fn step(
 ) -> Step
     requires { ⌜ Valid (terminalOf state (now characters) (now marks)) ⌝ }
     requires { ⌜ isNotTaken key (terminalOf state (now characters) (now marks)) ≡ false ⌝ }
+    requires { ⌜ isHeldBack key (terminalOf state (now characters) (now marks)) ≡ false ⌝ }
     ensures { λ r. ⌜ record {
       told = told r (pageOf (now (characters .exit)) (now (marks .exit)));
       output = now (out .exit);

@@ -17,9 +17,9 @@ use Rattle.sequence.specs.declared.Reason.{Reason}
 use Rattle.sequence.specs.declared.Reason.the-variants.{UnknownCommand, WrongArguments, BrokenSequence, HighByte}
 use Rattle.sequence.specs.Record.{validHalfRead}
 use Rattle.sequence.proofs.Keeping.{nothing-valid}
-use Rattle.page.specs.Marks.{isModified, validMark}
+use Rattle.page.specs.Marks.{isProtected, isModified, validMark}
 use Rattle.page.proofs.Bits.{StayOutside, lower-bit, set-others}
-use Rattle.page.proofs.Valid.{kindsFit, plain-fits, protected-fits, numeric-fits, alphabetic-fits, valid-mark, valid-from}
+use Rattle.page.proofs.Valid.{kindsFit, plain-fits, protected-fits, numeric-fits, alphabetic-fits, required-fits, valid-mark, valid-from}
 use Rattle.page.proofs.Keeping.{mark-stays-valid, no-mark-valid}
 use Rattle.state.specs.declared.Size.{Size}
 use Rattle.state.specs.declared.Cursor.{Cursor}
@@ -28,10 +28,10 @@ use Rattle.state.specs.declared.State.{State}
 use Rattle.state.specs.State.{OnPage, withCursor, cursorAt, withLocks, withStops, withHalf, noLocks, freshState, messageOf, refused, inputDisabled, inputEnabled, unlocked}
 use Rattle.state.specs.Moves.{backBy, onBy, upBy, downBy, rightBy, leftBy, toMargin, toNextCell}
 use Rattle.state.specs.Tabs.{stopSet, stopCleared, stopsCleared, stopsOn, stopsBack, tabbedOn, tabbedBack}
-use Rattle.state.specs.Pen.{penUnprotected, penProtected, penNumeric, penAlphabetic, penPlain, penBold, penUnderlined, penBlinking, penReversed, penConcealed, validPen, withPen, withErasure, withFull}
+use Rattle.state.specs.Pen.{penUnprotected, penProtected, penNumeric, penAlphabetic, penRequired, penPlain, penBold, penUnderlined, penBlinking, penReversed, penConcealed, validPen, withPen, withErasure, withFull}
 use Rattle.state.specs.Tests.{listedRows, listedColumns, listedSize, cursorFits, stopsFit, validMessage, validState}
 use Rattle.state.proofs.Laws.{OneTo, right-within, left-within}
-use Rattle.state.proofs.Pens.{HasKind, plain-outside, unprotected-kind, protected-kind, numeric-kind, alphabetic-kind}
+use Rattle.state.proofs.Pens.{HasKind, plain-outside, unprotected-kind, protected-kind, numeric-kind, alphabetic-kind, required-kind}
 
 -- A listed size, number by number, and its bounds.
 one-of : (n a b c : ℕ) → (eqb n a or eqb n b or eqb n c) ≡ true → (n ≡ a) ⊎ (n ≡ b) ⊎ (n ≡ c)
@@ -187,26 +187,31 @@ module _ (pen : ℕ) (valid : validPen pen ≡ true) where
   plain-keeps-pen = stays-in-range (plain-outside pen) (omega arith) (omega arith)
 
   -- and any kind in place of its own
-  small : pen < 0x200
+  small : pen < 0x400
   small = valid-mark pen (pen-range pen valid .0) .0
 
-  kind-keeps-pen : {protected numeric alphabetic : Bool} (new : ℕ) → HasKind protected numeric alphabetic (isModified pen) new → kindsFit protected numeric alphabetic ≡ true → validPen new ≡ true
+  kind-keeps-pen : {protected numeric alphabetic required : Bool} (new : ℕ) → HasKind protected numeric alphabetic required (isModified pen) new → kindsFit protected numeric alphabetic required ≡ true → validPen new ≡ true
   kind-keeps-pen new has fit =
       pen-in-range new
-      (valid-from new (has .less) (has .is-protected) (has .is-numeric) (has .is-alphabetic) fit)
+      (valid-from new (has .less) (has .is-protected) (has .is-numeric) (has .is-alphabetic) (has .is-required) fit)
       (has .is-modified ∙ pen-range pen valid .1)
 
   pub unprotected-keeps-pen : validPen (penUnprotected pen) ≡ true
-  unprotected-keeps-pen = kind-keeps-pen _ (unprotected-kind pen small) plain-fits
+  unprotected-keeps-pen = kind-keeps-pen _ (unprotected-kind pen small) (plain-fits _)
 
   pub protected-keeps-pen : validPen (penProtected pen) ≡ true
   protected-keeps-pen = kind-keeps-pen _ (protected-kind pen small) protected-fits
 
   pub numeric-keeps-pen : validPen (penNumeric pen) ≡ true
-  numeric-keeps-pen = kind-keeps-pen _ (numeric-kind pen small) numeric-fits
+  numeric-keeps-pen = kind-keeps-pen _ (numeric-kind pen small) (numeric-fits _)
 
   pub alphabetic-keeps-pen : validPen (penAlphabetic pen) ≡ true
-  alphabetic-keeps-pen = kind-keeps-pen _ (alphabetic-kind pen small) alphabetic-fits
+  alphabetic-keeps-pen = kind-keeps-pen _ (alphabetic-kind pen small) (alphabetic-fits _)
+
+  -- and required, if it is not protected
+  pub required-keeps-pen : isProtected pen ≡ false → validPen (penRequired pen) ≡ true
+  required-keeps-pen open-pen =
+      kind-keeps-pen _ (required-kind pen small) (required-fits (isProtected pen) _ _ _ open-pen (valid-mark pen (pen-range pen valid .0) .1))
 
 -- A change of the state that leaves it valid, and the page's size as it was.
 pub record KeepsValid (before after : State) : Type 0 where

@@ -23,7 +23,7 @@ use Rattle.state.specs.declared.Locks.{Locks}
 use Rattle.state.specs.declared.State.{State}
 use Rattle.state.specs.Pen.{validPen}
 use Rattle.state.specs.Tests.{listedRows, listedColumns, listedSize, sizeFits, cursorFits, stopsFit, validMessage, validState}
-use Rattle.state.specs.Lines.{MarkOutOfRange, above-bit-8, numeric-and-alphabetic, numeric-and-protected, alphabetic-and-protected, Line1, rows-not-listed, columns-not-listed, characters-not-as-long, marks-not-as-long, Line2, above-first-row, below-last-row, before-first-column, past-last-column, cell-too-low, cell-too-high, marks-out-of-range, stop-past-last-column, pen-out-of-range, pen-modified, message-above-4, byte-without-message, half-read-out-of-range}
+use Rattle.state.specs.Lines.{MarkOutOfRange, above-bit-9, numeric-and-alphabetic, numeric-and-protected, alphabetic-and-protected, required-and-protected, Line1, rows-not-listed, columns-not-listed, characters-not-as-long, marks-not-as-long, Line2, above-first-row, below-last-row, before-first-column, past-last-column, cell-too-low, cell-too-high, marks-out-of-range, stop-past-last-column, pen-out-of-range, pen-modified, message-above-4, byte-without-message, half-read-out-of-range}
 use Rattle.state.proofs.Laws.{OneTo}
 use Rattle.state.proofs.Keeping.{rows-listed, columns-listed, parts, row-range, column-range, pen-range}
 
@@ -54,20 +54,24 @@ no-stop-past columns stops p k h =
 mark-out : (mark : ℕ) → validMark mark ≡ false → MarkOutOfRange mark
 unfolding validMark
 mark-out mark p =
-    ⊎-elim (λ q. above-bit-8 (ltb-false mark 0x200 q))
+    ⊎-elim (λ q. above-bit-9 (ltb-false mark 0x400 q))
     (λ q. ⊎-elim
     (λ r. let together = both (not-false _ r) in numeric-and-alphabetic (together .0) (together .1))
     (λ r.
     let together = both (not-false _ r) in
-    ⊎-elim (λ n. numeric-and-protected n (together .0)) (λ a. alphabetic-and-protected a (together .0)) (one-holds (together .1)))
+    ⊎-elim
+    (λ n. numeric-and-protected n (together .0))
+    (λ other. ⊎-elim (λ a. alphabetic-and-protected a (together .0)) (λ r. required-and-protected r (together .0)) (one-holds other))
+    (one-holds (together .1)))
     (one-fails q))
     (one-fails p)
 
 mark-not-out : (mark : ℕ) → validMark mark ≡ true → MarkOutOfRange mark → ⊥
-mark-not-out mark p (above-bit-8 high) = omega (arith, high, valid-mark mark p .0)
-mark-not-out mark p (numeric-and-alphabetic n a) = true-is-not-false (sym a ∙ numeric-alone _ _ _ n (valid-mark mark p .1))
-mark-not-out mark p (numeric-and-protected n q) = true-is-not-false (sym n ∙ protected-alone _ _ _ q (valid-mark mark p .1) .0)
-mark-not-out mark p (alphabetic-and-protected a q) = true-is-not-false (sym a ∙ protected-alone _ _ _ q (valid-mark mark p .1) .1)
+mark-not-out mark p (above-bit-9 high) = omega (arith, high, valid-mark mark p .0)
+mark-not-out mark p (numeric-and-alphabetic n a) = true-is-not-false (sym a ∙ numeric-alone _ _ _ _ n (valid-mark mark p .1))
+mark-not-out mark p (numeric-and-protected n q) = true-is-not-false (sym n ∙ protected-alone _ _ _ _ q (valid-mark mark p .1) .0)
+mark-not-out mark p (alphabetic-and-protected a q) = true-is-not-false (sym a ∙ protected-alone _ _ _ _ q (valid-mark mark p .1) .1)
+mark-not-out mark p (required-and-protected r q) = true-is-not-false (sym r ∙ protected-alone _ _ _ _ q (valid-mark mark p .1) .2)
 
 -- Line 1.
 module _ (size : Size) (page : Page) where

@@ -3,7 +3,7 @@ use mathlib.Core.Path.{_≡_}
 use mathlib.Core.Bool.{true}
 use Prim.Native.Nat.{ℕ, _*_, _<_, _≤_}
 use lib.ListN.{length, getD}
-use Rattle.page.specs.Marks.{isProtected, isModified, isNumeric, isAlphabetic}
+use Rattle.page.specs.Marks.{isProtected, isModified, isNumeric, isAlphabetic, isRequired}
 use Rattle.page.specs.Page.{Page, cells}
 use Rattle.sequence.specs.Range.{HalfReadOutOfRange}
 use Rattle.state.specs.declared.Size.{Size}
@@ -18,12 +18,14 @@ pub data Line1 (size : Size) (page : Page) : Type 0 where
   characters-not-as-long : (cells page ≡ size .rows * size .columns → ⊥) → Line1 size page
   marks-not-as-long : (length (page .marks) ≡ size .rows * size .columns → ⊥) → Line1 size page
 
--- M-103: marks that neither a cell nor the pen may have. One of the bits 9 to 15 is set; two kinds stand together.
+-- M-103 and M-107: marks that neither a cell nor the pen may have. One of the bits 10 to 15 is set; two kinds stand
+-- together; a protected one is required.
 pub data MarkOutOfRange (mark : ℕ) : Type 0 where
-  above-bit-8 : 0x200 ≤ mark → MarkOutOfRange mark
+  above-bit-9 : 0x400 ≤ mark → MarkOutOfRange mark
   numeric-and-alphabetic : isNumeric mark ≡ true → isAlphabetic mark ≡ true → MarkOutOfRange mark
   numeric-and-protected : isNumeric mark ≡ true → isProtected mark ≡ true → MarkOutOfRange mark
   alphabetic-and-protected : isAlphabetic mark ≡ true → isProtected mark ≡ true → MarkOutOfRange mark
+  required-and-protected : isRequired mark ≡ true → isProtected mark ≡ true → MarkOutOfRange mark
 
 -- A cell is 20 to 7E. The pen is without modified.
 pub data Line2 (s : State) (page : Page) : Type 0 where

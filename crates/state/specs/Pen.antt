@@ -1,4 +1,4 @@
--- Document 01, "Commands", and document 02, M-103: the pen, 16 bits as a cell's marks, but without modified.
+-- Document 01, "Commands", and document 02, M-103 and M-107: the pen, 16 bits as a cell's marks, but without modified.
 use mathlib.Core.Bool.{Bool, not}
 use Prim.Native.Nat.{ℕ}
 use Rattle.words.specs.Choice.{_and_}
@@ -6,9 +6,9 @@ use Rattle.page.specs.Marks.{withBit, withoutBits, withoutBit, isModified, vali
 use Rattle.state.specs.declared.State.{State}
 use Rattle.state.specs.State.{withModes}
 
--- DAQ, ESC V and ESC W: of the bits 0, 7 and 8 none is set, or one in place of the others.
+-- DAQ, ESC V and ESC W: of the bits 0, 7 and 8 none is set, or one in place of the others; required, bit 9, is taken off.
 abbrev pub penUnprotected : ℕ → ℕ
-penUnprotected pen = withoutBits 7 9 (withoutBit 0 pen)
+penUnprotected pen = withoutBits 7 10 (withoutBit 0 pen)
 
 abbrev pub penProtected : ℕ → ℕ
 penProtected pen = withBit 0 (penUnprotected pen)
@@ -18,6 +18,10 @@ penNumeric pen = withBit 7 (penUnprotected pen)
 
 abbrev pub penAlphabetic : ℕ → ℕ
 penAlphabetic pen = withBit 8 (penUnprotected pen)
+
+-- M-107: required is added to what the pen is.
+abbrev pub penRequired : ℕ → ℕ
+penRequired = withBit 9
 
 -- SGR: 0 takes off the visual marks, bits 2 to 6, and nothing else; 1, 4, 5, 7, 8 set one each.
 abbrev pub penPlain : ℕ → ℕ

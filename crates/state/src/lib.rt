@@ -12,6 +12,7 @@ pub use pen::pen_concealed;
 pub use pen::pen_numeric;
 pub use pen::pen_plain;
 pub use pen::pen_protected;
+pub use pen::pen_required;
 pub use pen::pen_reversed;
 pub use pen::pen_underlined;
 pub use pen::pen_unprotected;

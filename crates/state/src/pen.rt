@@ -4,7 +4,7 @@ use crate::State;
 use page::Mark;
 ghost use mathlib.Core.Path.{_≡_};
 ghost use Rattle.state.specs.Pen.{penUnprotected, penProtected, penNumeric, penAlphabetic, penPlain, penBold};
-ghost use Rattle.state.specs.Pen.{penUnderlined, penBlinking, penReversed, penConcealed};
+ghost use Rattle.state.specs.Pen.{penRequired, penUnderlined, penBlinking, penReversed, penConcealed};
 ghost use Rattle.state.specs.Pen.{withPen, withErasure, withFull};
 ghost use Rattle.state.specs.State.{withModes};
 
@@ -13,7 +13,7 @@ pub fn pen_unprotected(pen: Mark) -> Mark
     ensures { λ r. ⌜ r ≡ penUnprotected pen ⌝ }
 {
     let open = pen / 2 * 2;
-    open / 512 * 512 + open % 128
+    open / 1024 * 1024 + open % 128
 }
 
 // ESC V and o 1: what is written is protected.
@@ -38,6 +38,13 @@ pub fn pen_alphabetic(pen: Mark) -> Mark
 {
     let open = pen_unprotected(pen);
     open / 512 * 512 + 256 + open % 256
+}
+
+// o 20: what is written is required too.
+pub fn pen_required(pen: Mark) -> Mark
+    ensures { λ r. ⌜ r ≡ penRequired pen ⌝ }
+{
+    pen / 1024 * 1024 + 512 + pen % 512
 }
 
 // m 0: no visual marks; the kind stays.

@@ -4,7 +4,7 @@ use mathlib.Core.Bool.{Bool}
 use mathlib.Core.List.{List}
 use Prim.Native.Nat.{ℕ}
 use lib.ListN.{getD}
-use Rattle.page.specs.Marks.{isModified, takes, unprotected}
+use Rattle.page.specs.Marks.{isModified, isRequired, takes, unprotected}
 use Rattle.page.specs.Page.{Page, cells}
 use Rattle.places.specs.declared.Place.{Place}
 use Rattle.places.specs.Places.{placeOf}
@@ -36,6 +36,10 @@ modifiedAt t cell = isModified (getD (seen t .marks) cell 0)
 -- M-103: whether it takes a character that a key brings.
 abbrev pub takesAt : Terminal → ℕ → ℕ → Bool
 takesAt t cell character = takes (getD (seen t .marks) cell 0) character
+
+-- M-107: whether it is required.
+abbrev pub requiredAt : Terminal → ℕ → Bool
+requiredAt t cell = isRequired (getD (seen t .marks) cell 0)
 
 -- The row and column of a cell.
 abbrev pub placeHere : Terminal → ℕ → Place

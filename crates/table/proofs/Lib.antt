@@ -1,3 +1,4 @@
 pub mod Tables
 pub mod Walking
 pub mod PrivateForms
+pub mod Pens

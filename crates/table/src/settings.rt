@@ -117,15 +117,16 @@ pub fn rendition(state: State, letter: u8, values: [u16; 8], count: usize) -> Li
     Light::Refused(Reason::WrongArguments, letter)
 }
 
-// Whether DAQ lists a value.
-fn is_area(value: usize) -> bool
-    ensures { λ r. ⌜ r ≡ isArea value ⌝ }
+// Whether a pen takes a value of DAQ.
+fn is_area(pen: Mark, value: usize) -> bool
+    ensures { λ r. ⌜ r ≡ isArea pen value ⌝ }
 {
     match value {
         0 => true,
         1 => true,
         3 => true,
         4 => true,
+        20 => !page::is_protected(pen),
         _ => false,
     }
 }
@@ -138,11 +139,12 @@ fn pen_of_area(value: usize, pen: Mark) -> Mark
         0 => state::pen_unprotected(pen),
         1 => state::pen_protected(pen),
         3 => state::pen_numeric(pen),
-        _ => state::pen_alphabetic(pen),
+        4 => state::pen_alphabetic(pen),
+        _ => state::pen_required(pen),
     }
 }
 
-// ESC V and ESC W, and DAQ with a value that it lists.
+// ESC V and ESC W, and DAQ with a value that the pen takes.
 pub fn set_area(state: State, value: usize) -> Light
     ensures { λ r. ⌜ ((page : Page) →
         lightStep r (record { state = state; page = page }) ≡ areaSet value (record { state = state; page = page })) ⌝ }
@@ -150,13 +152,13 @@ pub fn set_area(state: State, value: usize) -> Light
     steps::sets(state.with_pen(pen_of_area(value, state.modes.pen)))
 }
 
-// DAQ: what is written from here on is unprotected, protected, numeric or alphabetic.
+// DAQ: what is written from here on is unprotected, protected, numeric or alphabetic; 20, required.
 pub fn qualify_area(state: State, letter: u8, value: usize) -> Light
     ensures { λ r. ⌜ ((page : Page) →
         lightStep r (record { state = state; page = page })
         ≡ areaQualified letter value (record { state = state; page = page })) ⌝ }
 {
-    if is_area(value) {
+    if is_area(state.modes.pen, value) {
         return set_area(state, value);
     }
     Light::Refused(Reason::WrongArguments, letter)

@@ -10,6 +10,7 @@ use Rattle.steps.specs.Steps.{Terminal, Stepped}
 use Rattle.terminal.specs.declared.Answer.{Answer}
 use Rattle.terminal.specs.declared.Answer.the-variants.{Done, WrongSize, WrongState, NoRoom}
 use Rattle.terminal.specs.declared.Answer.the-variants.{UnknownKey, Locked, TooLong, NoCell, NotTaken}
+use Rattle.terminal.specs.declared.Answer.the-variants.{RequiredBlank}
 use Rattle.terminal.specs.declared.Reply.{Reply}
 use Rattle.terminal.specs.Runs.{after, bytesSentBy, cellsStoredBy, refusedBy, protectionBy}
 
@@ -23,6 +24,7 @@ numberOf Locked = 5
 numberOf TooLong = 6
 numberOf NoCell = 7
 numberOf NotTaken = 8
+numberOf RequiredBlank = 9
 
 -- All that a call gives and leaves: the number; the bytes taken, the bytes sent, the cells stored, the commands
 -- refused; whether cells may have become protected or unprotected; state and page; the output.
@@ -92,6 +94,7 @@ changesNothing Locked = true
 changesNothing TooLong = true
 changesNothing NoCell = true
 changesNothing NotTaken = true
+changesNothing RequiredBlank = true
 
 -- A call that may do these steps: those before the one that lacks room, or all.
 unfoldable pub gives : Answer → ℕ → Terminal → List ℕ → List Stepped → Outcome

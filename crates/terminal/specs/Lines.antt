@@ -2,15 +2,16 @@
 -- and the order of each call. Line 3 is about the steps of the call's bytes, or of its key: they are handed in.
 use mathlib.Core.Path.{_≡_}
 use mathlib.Core.Bool.{true, false}
-use mathlib.Core.List.{List, [], _∷_, _++_}
+use mathlib.Core.List.{List, [], _∷_, _++_, List·Memᴰ}
 use Prim.Native.Nat.{ℕ, _+_, _-_, _<_, _≤_}
 use lib.ListN.{length}
 use Rattle.page.specs.Page.{Page}
+use Rattle.fields.specs.Fields.{Field}
 use Rattle.state.specs.declared.Size.{Size}
 use Rattle.state.specs.declared.State.{State}
 use Rattle.state.specs.Lines.{Line1, Line2}
 use Rattle.steps.specs.Steps.{Terminal, Stepped, bytesOf, cursorCell}
-use Rattle.steps.specs.Seen.{characterAt, unprotectedAt, takesAt, fieldsHere, endHere}
+use Rattle.steps.specs.Seen.{characterAt, unprotectedAt, takesAt, requiredAt, fieldsHere, endHere}
 use Rattle.terminal.specs.Runs.{bytesSentBy}
 
 -- 3: a transmission is longer than the room that those before it left.
@@ -52,6 +53,19 @@ pub data Line8 (key : ℕ) (t : Terminal) : Type 0 where
   not-taken-on-the-right : key ≡ 265 → (cell : ℕ) → cursorCell (t .state) ≤ cell → cell + 1 < endHere t
       → takesAt t (cell + 1) (characterAt t cell) ≡ false → Line8 key t
 
+-- A field of the page that has a required cell and only 20s.
+pub record LeftBlank (t : Terminal) (field : Field) : Type 0 where
+  pub on-page : List·Memᴰ field (fieldsHere t)
+  pub required-cell : ℕ
+  pub from-start : field .start ≤ required-cell
+  pub before-end : required-cell < field .start + field .length
+  pub is-required : requiredAt t required-cell ≡ true
+  pub only-20s : (cell : ℕ) → field .start ≤ cell → cell < field .start + field .length → characterAt t cell ≡ 0x20
+
+-- 9, of M-107: the key is 266, and some field of the page is such.
+pub data Line9 (key : ℕ) (t : Terminal) : Type 0 where
+  required-blank : key ≡ 266 → (field : Field) → LeftBlank t field → Line9 key t
+
 -- A line of the table: its number, and when it holds.
 pub record TableLine : Type 1 where
   pub number : ℕ
@@ -87,5 +101,6 @@ keyTable t key room step =
     ∷ 5 when Line5 key (t .state)
     ∷ 7 when Line7 key t
     ∷ 8 when Line8 key t
+    ∷ 9 when Line9 key t
     ∷ 3 when Line3 room (step ∷ [])
     ∷ []

@@ -11,10 +11,11 @@ use Rattle.page.specs.Page.{Page, validPage}
 use Rattle.state.specs.declared.Size.{Size}
 use Rattle.state.specs.Tests.{sizeFits, validState}
 use Rattle.steps.specs.Steps.{Terminal, Stepped, Valid}
-use Rattle.keys.specs.Keys.{isKnown, isLockedOut, lacksCell, isNotTaken, keyStep}
+use Rattle.keys.specs.Keys.{isKnown, isLockedOut, lacksCell, isNotTaken, isHeldBack, keyStep}
 use Rattle.terminal.specs.declared.Answer.{Answer}
 use Rattle.terminal.specs.declared.Answer.the-variants.{Done, WrongSize, WrongState, NoRoom}
 use Rattle.terminal.specs.declared.Answer.the-variants.{UnknownKey, Locked, TooLong, NoCell, NotTaken}
+use Rattle.terminal.specs.declared.Answer.the-variants.{RequiredBlank}
 use Rattle.terminal.specs.Runs.{stepsOf, fitting}
 
 -- A line's test, and the answer that it gives.
@@ -60,6 +61,7 @@ keyRefusals t key =
     ∷ isLockedOut key (t .state) answers Locked
     ∷ lacksCell key t answers NoCell
     ∷ isNotTaken key t answers NotTaken
+    ∷ isHeldBack key t answers RequiredBlank
     ∷ []
 
 -- What lets a key pass them.
@@ -69,6 +71,7 @@ pub record Passes (t : Terminal) (key : ℕ) : Type 0 where
   pub not-locked-out : isLockedOut key (t .state) ≡ false
   pub has-cell : lacksCell key t ≡ false
   pub taken : isNotTaken key t ≡ false
+  pub not-held-back : isHeldBack key t ≡ false
 
 -- Line 3 is the last.
 unfoldable pub hostLines : Terminal → List ℕ → List ℕ → List LineTest

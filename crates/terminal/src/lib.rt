@@ -27,6 +27,7 @@ pub enum Answer {
     TooLong,
     NoCell,
     NotTaken,
+    RequiredBlank,
 }
 
 pub struct Reply {
@@ -55,6 +56,7 @@ pub fn number_of(answer: Answer) -> u8
         Answer::TooLong => 6,
         Answer::NoCell => 7,
         Answer::NotTaken => 8,
+        Answer::RequiredBlank => 9,
     }
 }
 
@@ -192,7 +194,7 @@ fn run(
     }
 }
 
-// The step of a key that lines 1, 2, 4, 5, 7 and 8 let pass.
+// The step of a key that lines 1, 2, 4, 5, 7, 8 and 9 let pass.
 fn press(
     state: State,
     characters: &mut [u8],
@@ -297,6 +299,9 @@ pub fn key(
     }
     if keys::is_not_taken(key, state, characters, marks) {
         return refuse_call(Answer::NotTaken, state);
+    }
+    if keys::is_held_back(key, state, characters, marks) {
+        return refuse_call(Answer::RequiredBlank, state);
     }
     press(state, characters, marks, key, out)
 }

@@ -1,11 +1,9 @@
 use mathlib.Core.Path.{sym, _∙_}
 use native.Mathlib.Omega.{arith}
 use borrow.Author.Needs.{needs}
-use Rattle.words.specs.Choice.{if_then_else_, _and_, _is_to_}
 use Rattle.page.specs.Page.{pageOf}
 use Rattle.steps.specs.Steps.{Terminal}
-use Rattle.keys.specs.Keys.{isTyping, isNotTaken, takenStep, keyStep}
-use Rattle.keys.proofs.Silent.{typing-range, key-told, typing-told}
+use Rattle.keys.proofs.Silent.{typing-range, key-told, typing-told, sending-told}
 use Rattle.keys.proofs.step.Statement.{statement}
 use Rattle.keys.proofs.step.Tie as tie
 
@@ -19,16 +17,21 @@ returns c =
     let asked = c .before .before .before .before .before .before .before .before in
     let start = asked .before .before .before .before in
     let t : Terminal = record { state = start .args .state; page = pageOf (start .args .characters .now) (start .args .marks .now) } in
-    typing-told (start .args .key) t (start .args .out .now) (start .pre .1) (sym (asked .is-typing .ensures) ∙ c .before .before .before .before .before .before .before .if1 .taken) (c .before .before .before .before .type-character .ensures)
+    typing-told (start .args .key) t (start .args .out .now) (start .pre .1 .0) (start .pre .1 .1) (sym (asked .is-typing .ensures) ∙ c .before .before .before .before .before .before .before .if1 .taken) (c .before .before .before .before .type-character .ensures)
+
+returns-2 : tie.Need-returns-2
+returns-2 c =
+    let start = c .before .before .before .before .before .before .before .before .before .before .before .before .before .before in
+    let t : Terminal = record { state = start .args .state; page = pageOf (start .args .characters .now) (start .args .marks .now) } in
+    sending-told (start .args .key) t (start .args .out .now) (start .pre .1 .0) (start .pre .1 .1) (c .before .before .before .before .before .before .before .before .if2 .taken) (c .before .before .before .before .send-block .ensures)
 
 returns-3 : tie.Need-returns-3
 returns-3 c =
     let start = c .before .before .before .before .before .before .before .before .before .before .before .before .before in
     let t : Terminal = record { state = start .args .state; page = pageOf (start .args .characters .now) (start .args .marks .now) } in
-    key-told (start .args .key) t (start .args .out .now) (start .pre .1) (c .before .before .before .before .before .before .before .if2 .left) (c .before .before .before .before .act .ensures)
+    key-told (start .args .key) t (start .args .out .now) (start .pre .1 .0) (start .pre .1 .1) (c .before .before .before .before .before .before .before .if2 .left) (c .before .before .before .before .act .ensures)
 
 pub step-spec : {M : Type 1} → statement M
-unfolding keyStep isNotTaken takenStep isTyping _is_to_ _and_ if_then_else_
 step-spec =
     tie.close
     (tie.spec
@@ -42,7 +45,7 @@ step-spec =
     (λ c. search needs)
     (λ c. search needs)
     (λ c. search needs)
-    (λ c. rw (c .before .before .before .before .before .before .before .before .if2 .taken) (c .before .before .before .before .send-block .ensures))
+    returns-2
     (λ c κs. (c .before .before .before .before .before .before .before .before .pre .0, (sym (c .before .before .before .before .is-typing .ensures) ∙ c .before .before .before .if1 .left, c .before .before .if2 .left)))
     (λ c. search needs)
     (λ c. search needs)

@@ -10,7 +10,7 @@ returns : tie.Need-returns
 returns c =
     let pen = c .args .pen in
     let cleared : pen / 2 * 2 ≡ withoutBit 0 pen = omega arith in
-    ap (withoutBits 7 9) cleared
+    ap (withoutBits 7 10) cleared
 
 pub pen-unprotected-spec : {M : Type 1} → statement M
 pen-unprotected-spec = tie.close (tie.spec (λ c. search needs) (λ c. search needs) (λ c. search needs) returns)
