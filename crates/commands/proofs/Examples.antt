@@ -144,6 +144,19 @@ examples =
     ∷ gives (esc "[3o" ++ esc "[2o") 1 1 (refusedAs 2 (code "o")) 0x80 0 []
     ∷ gives (esc "[5o") 1 1 (refusedAs 2 (code "o")) 0 0 []
     ∷ gives (esc "[3;o") 1 1 (refusedAs 2 (code "o")) 0 0 []
+    -- M-107: 20 o adds required to what the pen is, twice too; m leaves it; 0, 1, 3, 4, ESC V and ESC W take it off; a
+    -- protected pen doesn't take it
+    ∷ gives (esc "[20o") 1 1 accepted 0x200 0 []
+    ∷ gives (esc "[4m" ++ esc "[3o" ++ esc "[020o" ++ esc "[20o") 1 1 accepted 0x288 0 []
+    ∷ gives (esc "[4o" ++ esc "[20o" ++ esc "[1;0m") 1 1 accepted 0x300 0 []
+    ∷ gives (esc "[3o" ++ esc "[20o" ++ esc "[4o") 1 1 accepted 0x100 0 []
+    ∷ gives (esc "[20o" ++ esc "[3o") 1 1 accepted 0x80 0 []
+    ∷ gives (esc "[20o" ++ esc "[0o") 1 1 accepted 0 0 []
+    ∷ gives (esc "[20o" ++ esc "[1o") 1 1 accepted 1 0 []
+    ∷ gives (esc "[20o" ++ esc "V") 1 1 accepted 1 0 []
+    ∷ gives (esc "[20o" ++ esc "W") 1 1 accepted 0 0 []
+    ∷ gives (esc "V" ++ esc "[20o") 1 1 (refusedAs 2 (code "o")) 1 0 []
+    ∷ gives (esc "[20;o") 1 1 (refusedAs 2 (code "o")) 0 0 []
     -- a tab stop, on to it and back to it
     ∷ gives (at4x20 ++ esc "H" ++ (0x0D ∷ 0x09 ∷ [])) 4 20 accepted 0 0 []
     ∷ gives (at4x20 ++ esc "H" ++ esc "[9C" ++ esc "[Z") 4 20 accepted 0 0 []

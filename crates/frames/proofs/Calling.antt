@@ -14,7 +14,7 @@ use Rattle.words.proofs.Output.{placed-before, wrote-none}
 use Rattle.steps.specs.Steps.{Terminal, Stepped, bytesOf}
 use Rattle.keys.specs.Keys.{keyStep}
 use Rattle.terminal.specs.declared.Answer.{Answer}
-use Rattle.terminal.specs.declared.Answer.the-variants.{Done, WrongSize, WrongState, NoRoom, UnknownKey, Locked, TooLong, NoCell, NotTaken}
+use Rattle.terminal.specs.declared.Answer.the-variants.{Done, WrongSize, WrongState, NoRoom, UnknownKey, Locked, TooLong, NoCell, NotTaken, RequiredBlank}
 use Rattle.terminal.specs.Runs.{stepsOf, fitting, bytesSentBy}
 use Rattle.terminal.specs.Answers.{Outcome, numberOf, unchanged, afterSteps, changesNothing, gives, bytesSent}
 use Rattle.terminal.specs.Tests.{firstOf, hostLines, keyLines}
@@ -35,6 +35,7 @@ one-byte Locked = refl
 one-byte TooLong = refl
 one-byte NoCell = refl
 one-byte NotTaken = refl
+one-byte RequiredBlank = refl
 
 -- The same line is printed of outcomes that agree in what it tells.
 pub printed-same : (a b : Outcome) → a .number ≡ b .number → a .terminal .state ≡ b .terminal .state → a .stored ≡ b .stored → bytesSent a ≡ bytesSent b → printed a ≡ printed b

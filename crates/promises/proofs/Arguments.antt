@@ -1,22 +1,23 @@
 -- A command that the table lists, with no more arguments than it may have: it is refused exactly where the value of one
 -- is not allowed.
 use mathlib.Core.Path.{_≡_, refl, sym, ap, _∙_, subst}
-use mathlib.Core.Bool.{Bool, true, false}
+use mathlib.Core.Bool.{Bool, true, false, not}
 use mathlib.Core.List.{[], _∷_}
-use mathlib.Core.Logic.{⊎-elim}
+use mathlib.Core.Logic.{_⊎_, inl, inr, ⊎-elim}
 use Prim.Native.Nat.{ℕ, _+_, _<_, _≤_}
 use native.Mathlib.Omega.{arith}
-use borrow.Author.Tests.{eqb-true, eqb-false, leb-true, leb-false}
+use borrow.Author.Tests.{eqb-true, eqb-false, leb-true, leb-false, not-false}
 use lib.Dec.{eqb}
 use lib.ListN.{length, getD}
 use Rattle.words.specs.Choice.{if_then_else_, _and_, _or_, _is_to_}
 use Rattle.words.specs.Lists.{every}
-use Rattle.words.proofs.Choosing.{not-both, either-line, both, neither, one-fails, one-holds, range-holds, range-fails}
+use Rattle.words.proofs.Choosing.{not-both, either-line, either-way, both, neither, first-decides, one-fails, one-holds, range-holds, range-fails}
 use Rattle.words.proofs.Passing.{passes}
 use Rattle.sequence.specs.declared.HalfRead.{HalfRead}
 use Rattle.sequence.specs.declared.Reason.the-variants.{WrongArguments}
 use Rattle.sequence.specs.Record.{nothingRead}
 use Rattle.sequence.specs.Range.{argumentOf}
+use Rattle.page.specs.Marks.{isProtected}
 use Rattle.state.specs.State.{messageOf, refused}
 use Rattle.state.proofs.Keeping.{size-bounds, on-page}
 use Rattle.state.proofs.Lines.{some-fails}
@@ -28,7 +29,7 @@ use Rattle.table.specs.Settings.{tabControl, isArea, areaSet, areaQualified, is
 use Rattle.sending.specs.Sending.{readyReport, cursorReport, statusReport}
 use Rattle.commands.specs.Commands.{erasing, erasePart, listedStep}
 use Rattle.commands.proofs.Values.{zero-is-one}
-use Rattle.promises.specs.Reasons.{NoneOf, argumentsRead, NotAllowed, too-many, d-off-page, H-row-off-page, H-column-off-page, f-row-off-page, f-column-off-page, W-value, J-value, K-value, m-value, h-value, l-value, o-value, n-value, Shows}
+use Rattle.promises.specs.Reasons.{NoneOf, argumentsRead, NotAllowed, too-many, d-off-page, H-row-off-page, H-column-off-page, f-row-off-page, f-column-off-page, W-value, J-value, K-value, m-value, h-value, l-value, o-value, o-20-protected, n-value, Shows}
 use Rattle.promises.proofs.FeedingRuns.{reading}
 
 pub data Weighed (t : Terminal) (final : ℕ) (step : Stepped) : Type 0 where
@@ -60,22 +61,34 @@ visual-listed value p none =
     (λ p. ⊎-elim (λ e. none .1 .1 .1 .1 .0 (eqb-true value 7 e)) (λ e. none .1 .1 .1 .1 .1 .0 (eqb-true value 8 e)) (one-holds p))
     (one-holds p)) (one-holds p)) (one-holds p)) (one-holds p)
 
--- The values listed for o.
-not-area : (value : ℕ) → isArea value ≡ false → NoneOf (0 ∷ 1 ∷ 3 ∷ 4 ∷ []) value
+-- The values of o that a pen doesn't take: one not listed, and 20 where it is protected.
+abbrev NoArea : ℕ → ℕ → Type 0
+NoArea pen value = NoneOf (0 ∷ 1 ∷ 3 ∷ 4 ∷ 20 ∷ []) value ⊎ ((value ≡ 20) × (isProtected pen ≡ true))
+
+not-area : (pen value : ℕ) → isArea pen value ≡ false → NoArea pen value
 unfolding isArea NoneOf
-not-area value p =
+not-area pen value p =
     let after-0 = neither p in
     let after-1 = neither (after-0 .1) in
     let after-3 = neither (after-1 .1) in
-    (eqb-false value 0 (after-0 .0), (eqb-false value 1 (after-1 .0), (eqb-false value 3 (after-3 .0), (eqb-false value 4 (after-3 .1), tt))))
+    let after-4 = neither (after-3 .1) in
+    either-way (eqb value 20)
+    (λ e. inr (eqb-true value 20 e, not-false _ (sym (first-decides _ _ e) ∙ after-4 .1)))
+    (λ e. inl (eqb-false value 0 (after-0 .0), (eqb-false value 1 (after-1 .0), (eqb-false value 3 (after-3 .0), (eqb-false value 4 (after-4 .0), (eqb-false value 20 e, tt))))))
 
-area-listed : (value : ℕ) → isArea value ≡ true → NoneOf (0 ∷ 1 ∷ 3 ∷ 4 ∷ []) value → ⊥
+protected-not-20 : (pen : ℕ) → isProtected pen ≡ true → isArea pen 20 ≡ false
+unfolding isArea _or_ _and_
+protected-not-20 pen protected = ap not protected
+
+area-listed : (pen value : ℕ) → isArea pen value ≡ true → NoArea pen value → ⊥
 unfolding isArea NoneOf
-area-listed value p none =
+area-listed pen value p (inl none) =
     ⊎-elim (λ e. none .0 (eqb-true value 0 e))
     (λ p. ⊎-elim (λ e. none .1 .0 (eqb-true value 1 e))
-    (λ p. ⊎-elim (λ e. none .1 .1 .0 (eqb-true value 3 e)) (λ e. none .1 .1 .1 .0 (eqb-true value 4 e)) (one-holds p))
-    (one-holds p)) (one-holds p)
+    (λ p. ⊎-elim (λ e. none .1 .1 .0 (eqb-true value 3 e))
+    (λ p. ⊎-elim (λ e. none .1 .1 .1 .0 (eqb-true value 4 e)) (λ e. none .1 .1 .1 .1 .0 (eqb-true value 20 (both e .0))) (one-holds p))
+    (one-holds p)) (one-holds p)) (one-holds p)
+area-listed pen value p (inr (twenty, protected)) = not-both p (ap (isArea pen) twenty ∙ protected-not-20 pen protected)
 
 -- By letter: what is left that could not be allowed, where the arguments are few enough.
 module _ (t : Terminal) where
@@ -150,9 +163,10 @@ module _ (t : Terminal) where
   l-takes all few (too-many _ some more) = omega arith
   l-takes all few (l-value i here other) = other (eqb-true _ 6 (passes (λ value. eqb value 6) (argumentsRead half) all i here))
 
-  o-takes : (NoneOf (0 ∷ 1 ∷ 3 ∷ 4 ∷ []) (argumentOf half 0) → ⊥) → Few 0x6F → NotAllowed t 0x6F → ⊥
+  o-takes : (NoArea (t .state .modes .pen) (argumentOf half 0) → ⊥) → Few 0x6F → NotAllowed t 0x6F → ⊥
   o-takes listed few (too-many _ some more) = omega arith
-  o-takes listed few (o-value none) = listed none
+  o-takes listed few (o-value none) = listed (inl none)
+  o-takes listed few (o-20-protected twenty protected) = listed (inr (twenty, protected))
 
   n-takes : (NoneOf (5 ∷ 6 ∷ []) (argumentOf half 0) → ⊥) → Few 0x6E → NotAllowed t 0x6E → ⊥
   n-takes listed few (too-many _ some more) = omega arith
@@ -225,8 +239,13 @@ module _ (t : Terminal) where
     area-weighed : (what : ℕ) → what ≡ argumentOf half 0 → eqb final 0x6F ≡ true → Weighed t final (areaQualified final what there)
     unfolding areaQualified areaSet
     area-weighed what given named =
-        line (λ listed. goes 0x6F named (o-takes (λ none. area-listed what listed (subst (NoneOf (0 ∷ 1 ∷ 3 ∷ 4 ∷ [])) (sym given) none))) refl)
-        (λ other. refuses 0x6F named (o-value (subst (NoneOf (0 ∷ 1 ∷ 3 ∷ 4 ∷ [])) given (not-area what other))))
+        let pen = t .state .modes .pen in
+        line (λ listed. goes 0x6F named (o-takes (λ none. area-listed pen what listed (subst (NoArea pen) (sym given) none))) refl)
+        (λ other.
+        ⊎-elim
+        (λ none. refuses 0x6F named (o-value none))
+        (λ both. refuses 0x6F named (o-20-protected (both .0) (both .1)))
+        (subst (NoArea pen) given (not-area pen what other)))
 
     status-weighed : (what : ℕ) → what ≡ argumentOf half 0 → eqb final 0x6E ≡ true → Weighed t final (statusReport final what there)
     unfolding statusReport readyReport cursorReport NoneOf

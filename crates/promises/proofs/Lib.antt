@@ -14,6 +14,7 @@ pub mod Sending
 pub mod OurLaws
 pub mod FeedingRuns
 pub mod Asking
+pub mod Required
 pub mod Arguments
 pub mod Reasoning
 pub mod Messages

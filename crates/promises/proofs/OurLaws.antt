@@ -96,5 +96,6 @@ our-keys-take = record {
         protected = no-key-changes-bits key t 0 (λ same. omega arith) cell;
         numeric = no-key-changes-bits key t 7 (λ same. omega arith) cell;
         alphabetic = no-key-changes-bits key t 8 (λ same. omega arith) cell;
+        required = no-key-changes-bits key t 9 (λ same. omega arith) cell;
       };
 }

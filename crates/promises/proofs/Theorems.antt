@@ -10,7 +10,7 @@ use Rattle.promises.specs.Contracts.{ourContracts}
 use Rattle.promises.specs.Demands.{Demand1, Follows, Demand2, Demand3}
 use Rattle.promises.specs.Reasons.{Reasons, MessageStays}
 use Rattle.promises.specs.Panel.{Panel, ourPanel, ourCoding, OneRecord, PanelNumbers, PanelRefusals, AsCalled, SamePanels, PanelKept}
-use Rattle.promises.specs.Further.{AllSame, OneResult, SameEntries, OneTerminal, ValidByTheTable, StaysValid, StartsWithOneField, SameHoweverCut, Continuing, Progress, CallsAreSteps, BlocksKeep, SendsBlocks, SendModeStays, KeysTake, Bounded, CopyingSteps, OmissionSteps}
+use Rattle.promises.specs.Further.{AllSame, OneResult, SameEntries, OneTerminal, ValidByTheTable, StaysValid, StartsWithOneField, SameHoweverCut, Continuing, Progress, CallsAreSteps, BlocksKeep, SendsBlocks, Required, SendModeStays, KeysTake, Bounded, CopyingSteps, OmissionSteps}
 use Rattle.promises.proofs.OurLaws.{our-step-laws, our-keeps, our-keys-take}
 use Rattle.promises.proofs.Doing.{by-the-table}
 use Rattle.promises.proofs.OnlyOne.{same-entries}
@@ -19,6 +19,7 @@ use Rattle.promises.proofs.Calling.{calls-are-steps-of, continuing-of, 
 use Rattle.promises.proofs.Feeding.{our-feeding-back}
 use Rattle.promises.proofs.Sending.{blocks-keep-of, bounded-of, progress-of}
 use Rattle.promises.proofs.Asking.{our-sends-blocks}
+use Rattle.promises.proofs.Required.{our-required}
 use Rattle.promises.proofs.Reasoning.{our-reasons}
 use Rattle.promises.proofs.Messages.{our-message-stays}
 use Rattle.promises.proofs.SendMode.{our-send-mode-stays}
@@ -92,6 +93,9 @@ progress = progress-of ourRules our-step-laws ourEntries our-keeps
 
 pub calls-are-steps : CallsAreSteps ourRules ourEntries
 calls-are-steps = calls-are-steps-of ourRules ourEntries our-keeps
+
+pub required : Required ourRules ourEntries
+required = our-required
 
 pub send-mode-stays : SendModeStays ourRules ourEntries
 send-mode-stays = our-send-mode-stays our-keeps

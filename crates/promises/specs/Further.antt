@@ -5,13 +5,14 @@ use mathlib.Core.Path.{_≡_}
 use mathlib.Core.Bool.{Bool, true, false}
 use mathlib.Core.List.{List, [], _∷_, map, List·Memᴰ}
 use mathlib.Core.Logic.{_↔_}
-use Prim.Native.Nat.{ℕ, _*_, _<_, _≤_}
+use Prim.Native.Nat.{ℕ, _+_, _*_, _<_, _≤_}
 use Prim.Native.Char.{code}
 use lib.ListN.{length, getD}
 use Rattle.sequence.specs.declared.HalfRead.{HalfRead}
 use Rattle.sequence.specs.Range.{argumentOf}
-use Rattle.page.specs.Marks.{isProtected, isNumeric, isAlphabetic}
+use Rattle.page.specs.Marks.{isProtected, isNumeric, isAlphabetic, isRequired}
 use Rattle.page.specs.Page.{Page, markAfterBlock}
+use Rattle.fields.specs.Fields.{Field}
 use Rattle.state.specs.declared.Size.{Size}
 use Rattle.state.specs.Lines.{Line1, Line2}
 use Rattle.steps.specs.Steps.{Terminal, fullBlock, blockTransmission, Valid}
@@ -20,6 +21,7 @@ use Rattle.steps.specs.Claims.{CellKept}
 use Rattle.sending.specs.Sending.{sendsFull}
 use Rattle.terminal.specs.declared.Reply.{Reply}
 use Rattle.terminal.specs.Claims.{SameResult}
+use Rattle.terminal.specs.Lines.{Line4, Line5, Line7, Line8, HasRequired, LeftBlank}
 use Rattle.promises.specs.Rules.{Rules, Input, byte, press, stepOf, steps, byteSteps, totalOf}
 use Rattle.promises.specs.Entries.{Entries, Call, outcomes, callAll, inputsDone, AllDone, Read, reads}
 use Rattle.promises.specs.Entries.{joinedBytes, readAll, Carries}
@@ -108,10 +110,11 @@ BlocksKeep rules =
     (t : Terminal) → Valid t → (asks : Input) (full : Bool) (bytes : List ℕ) →
     stepOf rules asks t .transmission ≡ blockTransmission full bytes → LeftByBlock t (stepOf rules asks t .terminal)
 
--- What asks for a block: 266, full or changed by its mode, and S after ESC, full. A step sends one exactly when it is
--- asked for, and it is that of the page as it stands.
+-- What asks for a block: 266, full or changed by its mode, where no required field is blank (M-107), and S after ESC,
+-- full, be that as it may. A step sends one exactly when it is asked for, and it is that of the page as it stands.
 pub data Asks (t : Terminal) : Bool → Input → Type 0 where
-  by-266 : (full : Bool) → sendsFull (t .state) ≡ full → Asks t full (press 266)
+  by-266 : (full : Bool) → sendsFull (t .state) ≡ full → ((field : Field) → LeftBlank t field → ⊥)
+      → Asks t full (press 266)
   full-by-esc-s : t .state .half .kind ≡ 1 → Asks t true (byte (code "S"))
 
 abbrev pub SendsBlocks : Rules → Type 0
@@ -119,6 +122,33 @@ SendsBlocks rules =
     (t : Terminal) → Valid t → (input : Input) (full : Bool) (bytes : List ℕ) →
     (stepOf rules input t .transmission ≡ blockTransmission full bytes)
     ↔ (Asks t full input × (bytes ≡ blockHere full t))
+
+-- M-107. A field holds a character other than 20, in whichever of its cells.
+pub record Filled (t : Terminal) (field : Field) : Type 0 where
+  pub cell : ℕ
+  pub from-start : field .start ≤ cell
+  pub before-end : cell < field .start + field .length
+  pub not-20 : characterAt t cell ≡ 0x20 → ⊥
+
+-- No line of the table before 9 holds of 266.
+pub record PastOtherLines (t : Terminal) : Type 0 where
+  pub not-1 : Line1 (t .state .size) (t .page) → ⊥
+  pub not-2 : Line2 (t .state) (t .page) → ⊥
+  pub not-4 : Line4 266 → ⊥
+  pub not-5 : Line5 266 (t .state) → ⊥
+  pub not-7 : Line7 266 t → ⊥
+  pub not-8 : Line8 266 t → ⊥
+
+-- Whenever a key sends a block, every field of the page that has a required cell is filled, be it in the block or not;
+-- and 266 is given 9 exactly when one isn't and no line before 9 holds, whatever the room.
+pub record Required (rules : Rules) (entries : Entries) : Type 0 where
+  pub filled : (t : Terminal) (key : ℕ) (full : Bool) (bytes : List ℕ) →
+      rules .onKey key t .transmission ≡ blockTransmission full bytes →
+      (field : Field) → List·Memᴰ field (fieldsHere t) → HasRequired t field → Filled t field
+  pub held-back : (t : Terminal) (lent : List ℕ) →
+      (entries .key t 266 lent .number ≡ 9)
+      ↔ (PastOtherLines t
+      × ((field : Field) × List·Memᴰ field (fieldsHere t) × HasRequired t field × (Filled t field → ⊥)))
 
 -- M-106. Which host bytes say what 266 sends from there on: >6 set (h), what changed; >6 reset (l), all; ESC c, what
 -- changed, and so does a start. No other host byte changes it, nor any key.
@@ -139,11 +169,12 @@ pub record SendModeStays (rules : Rules) (entries : Entries) : Type 0 where
       sendsFull (entries .start size page .terminal .state) ≡ false
 
 -- M-103. After any key each cell that it stored holds a character that the cell takes (20 is taken everywhere), and
--- every cell keeps its bits 0, 7 and 8.
+-- every cell keeps its bits 0, 7 and 8, and 9 (M-107).
 pub record SameKind (before after : ℕ) : Type 0 where
   pub protected : isProtected after ≡ isProtected before
   pub numeric : isNumeric after ≡ isNumeric before
   pub alphabetic : isAlphabetic after ≡ isAlphabetic before
+  pub required : isRequired after ≡ isRequired before
 
 pub record KeysTake (rules : Rules) : Type 0 where
   pub taken : (t : Terminal) → Valid t → (key cell : ℕ) → List·Memᴰ cell (rules .onKey key t .cells) →

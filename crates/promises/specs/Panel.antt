@@ -14,7 +14,7 @@ use Rattle.state.specs.Lines.{Line2}
 use Rattle.state.specs.Tests.{listedSize, validState}
 use Rattle.steps.specs.Steps.{Terminal, Stepped, Valid}
 use Rattle.terminal.specs.Answers.{Outcome}
-use Rattle.terminal.specs.Lines.{TableLine, _when_, Decides, Line3, Line4, Line5, Line6, Line7, Line8}
+use Rattle.terminal.specs.Lines.{TableLine, _when_, Decides, Line3, Line4, Line5, Line6, Line7, Line8, Line9}
 use Rattle.record.specs.Bytes.{numberAt, AreBytes}
 use Rattle.record.specs.Record.{recordLength, recordOf, stateIn, Good, isGood}
 use Rattle.panel.specs.Panel.{Lent, Left, lentOf, resultLength, resultBytes, markBytes, pageIn, terminalIn}
@@ -105,6 +105,7 @@ panelKeyTable lent key step =
     ∷ 5 when Line5 key (stateIn (lent .packed))
     ∷ 7 when Line7 key (terminalIn lent)
     ∷ 8 when Line8 key (terminalIn lent)
+    ∷ 9 when Line9 key (terminalIn lent)
     ∷ 3 when Line3 (length (lent .output)) (step ∷ [])
     ∷ []
 

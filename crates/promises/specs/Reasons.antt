@@ -1,6 +1,6 @@
--- Document 02, M-102 and M-106: why a host byte is refused. Each line is a proposition about the terminal before the
--- byte, in the request's words, with a clause for each command. Lines may hold together: the first in the order 4, 3,
--- 1, 2 decides.
+-- Document 02, M-102, M-106 and M-107: why a host byte is refused. Each line is a proposition about the terminal before
+-- the byte, in the request's words, with a clause for each command. Lines may hold together: the first in the order 4,
+-- 3, 1, 2 decides.
 use mathlib.Core.Path.{_≡_}
 use mathlib.Core.Bool.{true, false}
 use mathlib.Core.List.{List, [], _∷_}
@@ -11,6 +11,7 @@ use lib.ListN.{length, take, getD}
 use Rattle.words.specs.Text.{bytes}
 use Rattle.sequence.specs.declared.HalfRead.{HalfRead}
 use Rattle.sequence.specs.Range.{argumentOf}
+use Rattle.page.specs.Marks.{isProtected}
 use Rattle.steps.specs.Steps.{Terminal, Stepped, Valid}
 use Rattle.steps.specs.Claims.{Refusal}
 use Rattle.table.specs.Table.{allowed}
@@ -80,7 +81,9 @@ pub data NotAllowed (t : Terminal) : ℕ → Type 0 where
       → (getD (argumentsRead (t .state .half)) i 0 ≡ 6 → ⊥) → NotAllowed t (code "h")
   l-value : (i : ℕ) → i < length (argumentsRead (t .state .half))
       → (getD (argumentsRead (t .state .half)) i 0 ≡ 6 → ⊥) → NotAllowed t (code "l")
-  o-value : NoneOf (0 ∷ 1 ∷ 3 ∷ 4 ∷ []) (argumentOf (t .state .half) 0) → NotAllowed t (code "o")
+  o-value : NoneOf (0 ∷ 1 ∷ 3 ∷ 4 ∷ 20 ∷ []) (argumentOf (t .state .half) 0) → NotAllowed t (code "o")
+  o-20-protected : argumentOf (t .state .half) 0 ≡ 20 → isProtected (t .state .modes .pen) ≡ true
+      → NotAllowed t (code "o")
   n-value : NoneOf (5 ∷ 6 ∷ []) (argumentOf (t .state .half) 0) → NotAllowed t (code "n")
 
 -- The four, in order.

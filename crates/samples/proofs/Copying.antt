@@ -20,7 +20,7 @@ use Rattle.steps.proofs.Writing.{block-bytes}
 use Rattle.sending.specs.Sending.{sendsFull}
 use Rattle.keys.specs.Keys.{keyStep}
 use Rattle.terminal.specs.declared.Answer.{Answer}
-use Rattle.terminal.specs.declared.Answer.the-variants.{Done, WrongSize, WrongState, NoRoom, UnknownKey, Locked, TooLong, NoCell, NotTaken}
+use Rattle.terminal.specs.declared.Answer.the-variants.{Done, WrongSize, WrongState, NoRoom, UnknownKey, Locked, TooLong, NoCell, NotTaken, RequiredBlank}
 use Rattle.terminal.specs.declared.Reply.{Reply}
 use Rattle.terminal.specs.Runs.{after, bytesSentBy}
 use Rattle.terminal.specs.Answers.{Outcome, numberOf, given, bytesSent}
@@ -55,6 +55,7 @@ not-done Locked others = refl
 not-done TooLong others = refl
 not-done NoCell others = refl
 not-done NotTaken others = refl
+not-done RequiredBlank others = refl
 
 -- The three calls, each on what the one before left.
 module _ (t : Terminal) (key : ℕ) (lentFull lentTyped lentLater : List ℕ) where

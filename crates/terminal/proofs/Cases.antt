@@ -15,7 +15,7 @@ use Rattle.state.specs.Tests.{sizeFits}
 use Rattle.steps.specs.Steps.{Terminal, Stepped, bytesOf, Valid}
 use Rattle.keys.specs.Keys.{keyStep}
 use Rattle.terminal.specs.declared.Answer.{Answer}
-use Rattle.terminal.specs.declared.Answer.the-variants.{Done, WrongSize, WrongState, NoRoom, UnknownKey, Locked, TooLong, NoCell, NotTaken}
+use Rattle.terminal.specs.declared.Answer.the-variants.{Done, WrongSize, WrongState, NoRoom, UnknownKey, Locked, TooLong, NoCell, NotTaken, RequiredBlank}
 use Rattle.terminal.specs.Runs.{stepsOf, fitting, bytesSentBy}
 use Rattle.terminal.specs.Answers.{numberOf, unchanged, afterSteps, changesNothing}
 use Rattle.terminal.specs.Tests.{_answers_, exceedsRoom, hostRefusals, keyRefusals, Passes, hostLines, keyLines}
@@ -38,7 +38,8 @@ answerOf number =
     else if eqb number 5 then Locked
     else if eqb number 6 then TooLong
     else if eqb number 7 then NoCell
-    else NotTaken
+    else if eqb number 8 then NotTaken
+    else RequiredBlank
 
 numbers-differ : (answer : Answer) → answerOf (numberOf answer) ≡ answer
 unfolding answerOf numberOf if_then_else_
@@ -51,6 +52,7 @@ numbers-differ Locked = refl
 numbers-differ TooLong = refl
 numbers-differ NoCell = refl
 numbers-differ NotTaken = refl
+numbers-differ RequiredBlank = refl
 
 pub same-answer : (one other : Answer) → numberOf one ≡ numberOf other → one ≡ other
 same-answer one other is = sym (numbers-differ one) ∙ ap answerOf is ∙ numbers-differ other

@@ -84,17 +84,19 @@ module _ (t : Terminal) (key : ℕ) where
       (fails (ap not (passes .known))
       (fails (passes .not-locked-out)
       (fails (passes .has-cell)
-      (fails (passes .taken) no-line)))))
+      (fails (passes .taken)
+      (fails (passes .not-held-back) no-line))))))
 
   pub key-passed : AllFail (keyRefusals t key) → Passes t key
   unfolding keyRefusals
-  key-passed (fails size (fails valid (fails known (fails free (fails has (fails taken no-line)))))) =
+  key-passed (fails size (fails valid (fails known (fails free (fails has (fails taken (fails released no-line))))))) =
       record {
         valid = is-valid t (not-false _ size) (not-false _ valid);
         known = not-false _ known;
         not-locked-out = free;
         has-cell = has;
         taken = taken;
+        not-held-back = released;
       }
 
 module _ (t : Terminal) (bytes output : List ℕ) where

@@ -8,7 +8,7 @@ use Prim.Native.Nat.{ℕ}
 use Prim.Native.String.{String}
 use lib.ListN.{take, drop, replicate}
 use Rattle.words.specs.Choice.{if_then_else_, _and_, _or_, _is_to_}
-use Rattle.words.specs.Lists.{within, every, someFrom, eachFrom, numbersFrom, selected}
+use Rattle.words.specs.Lists.{within, every, some, someFrom, eachFrom, numbersFrom, selected}
 use Rattle.words.specs.Output.{placed}
 use Rattle.words.specs.Text.{bytes}
 use Rattle.sequence.specs.Record.{argumentsFit, largestArgument, validHalfRead, withDigit, withNextArgument}
@@ -18,6 +18,7 @@ use Rattle.page.specs.Page.{pageOf, validPage, textStored, markAfterBlock, modi
 use Rattle.places.specs.Places.{placeOf}
 use Rattle.output.specs.Decimal.{decimal, placeBytes}
 use Rattle.fields.specs.Fields.{joined, startsField, endFrom, fieldEnd, fieldsFrom, fieldsOf}
+use Rattle.fields.specs.Required.{isLeftBlank, someLeftBlank}
 use Rattle.blocks.specs.Blocks.{entryBytes, encode, entryOf, isInBlock, entriesSent, block}
 use Rattle.state.specs.State.{messageOf, refused}
 use Rattle.state.specs.Moves.{onBy, rightBy}
@@ -32,7 +33,7 @@ use Rattle.sending.specs.Sending.{sendBlock}
 use Rattle.table.specs.PrivateForms.{privateStep}
 use Rattle.table.specs.Moves.{toColumn, toRow, toPlace, keptColumn, isMove, moveStep}
 use Rattle.commands.specs.Host.{eventStep, hostStep}
-use Rattle.keys.specs.Keys.{isTyping, isEditing, isFieldMove, isKnown, isLocked, isLockedOut, lacksCell, isNotTaken, takenStep, keyStep}
+use Rattle.keys.specs.Keys.{isTyping, isEditing, isFieldMove, isKnown, isLocked, isLockedOut, lacksCell, isNotTaken, isHeldBack, takenStep, keyStep}
 use Rattle.terminal.specs.Runs.{stepsOf, fitting, after, bytesSentBy, cellsStoredBy, countOf, refusedBy, protectionBy}
 use Rattle.terminal.specs.Answers.{numberOf, Outcome, unchanged, afterSteps, changesNothing, gives}
 use Rattle.terminal.specs.Tests.{firstOf, exceedsRoom, passesLine2, startLines, hostRefusals, keyRefusals, hostLines, keyLines}
@@ -139,7 +140,7 @@ examples =
 
 -- All that is unfolded on the way.
 unfoldable computed : Unit {0}
-unfolding outcome last started seen goes refuses keyed _leave_ sequence if_then_else_ _and_ _or_ _is_to_ within every eachFrom numbersFrom selected placed argumentsFit largestArgument validHalfRead withDigit withNextArgument isControl isCancel outsideSequence afterEsc afterIntermediate afterBracket rightAfterBracket afterPrivateMark sequenceReadOn insideSequence advanceOf validMark unprotected validPage textStored markAfterBlock modifiedCleared placeOf joined startsField endFrom fieldEnd fieldsFrom fieldsOf decimal placeBytes entryBytes encode entryOf someFrom isInBlock entriesSent block messageOf refused onBy rightBy validPen listedRows listedColumns listedSize sizeFits cursorFits stopsFit validMessage validState bytesOf blockTransmission allowed valueOf toNextCell textStep freshStep sendBlock toColumn toRow toPlace keptColumn isMove moveStep listedStep bracketStep privateStep eventStep hostStep isTyping isEditing isFieldMove isKnown isLocked isLockedOut lacksCell isNotTaken takenStep keyStep stepsOf fitting after bytesSentBy cellsStoredBy countOf refusedBy protectionBy numberOf unchanged afterSteps changesNothing gives firstOf exceedsRoom passesLine2 startLines hostRefusals keyRefusals hostLines keyLines startStep startCall hostCall keyCall
+unfolding outcome last started seen goes refuses keyed _leave_ sequence if_then_else_ _and_ _or_ _is_to_ within every some eachFrom numbersFrom selected placed argumentsFit largestArgument validHalfRead withDigit withNextArgument isControl isCancel outsideSequence afterEsc afterIntermediate afterBracket rightAfterBracket afterPrivateMark sequenceReadOn insideSequence advanceOf validMark unprotected validPage textStored markAfterBlock modifiedCleared placeOf joined startsField endFrom fieldEnd fieldsFrom fieldsOf decimal placeBytes entryBytes encode entryOf someFrom isInBlock isLeftBlank someLeftBlank entriesSent block messageOf refused onBy rightBy validPen listedRows listedColumns listedSize sizeFits cursorFits stopsFit validMessage validState bytesOf blockTransmission allowed valueOf toNextCell textStep freshStep sendBlock toColumn toRow toPlace keptColumn isMove moveStep listedStep bracketStep privateStep eventStep hostStep isTyping isEditing isFieldMove isKnown isLocked isLockedOut lacksCell isNotTaken isHeldBack takenStep keyStep stepsOf fitting after bytesSentBy cellsStoredBy countOf refusedBy protectionBy numberOf unchanged afterSteps changesNothing gives firstOf exceedsRoom passesLine2 startLines hostRefusals keyRefusals hostLines keyLines startStep startCall hostCall keyCall
 computed = tt
 
 -- Each leaves what document 01 says.

@@ -1,22 +1,24 @@
--- Lines 4, 5, 7 and 8, clause by clause: the tests that run hold exactly when the lines do.
+-- Lines 4, 5, 7, 8 and 9, clause by clause: the tests that run hold exactly when the lines do.
 use mathlib.Core.Path.{_≡_, refl, sym, ap, _∙_}
 use mathlib.Core.Bool.{true, false, not}
-use mathlib.Core.List.{List, [], _∷_}
+use mathlib.Core.List.{List, [], _∷_, List·Memᴰ}
 use mathlib.Core.Logic.{_↔_, ⊎-elim}
 use Prim.Native.Nat.{ℕ, _+_, _-_, _<_, _≤_}
 use native.Mathlib.Omega.{arith}
-use borrow.Author.Tests.{eqb-true, eqb-false, not-true, ne-eqb}
+use borrow.Author.Tests.{eqb-true, eqb-false, not-true, eq-eqb, ne-eqb}
 use lib.Dec.{eqb}
 use Rattle.words.specs.Choice.{if_then_else_, _and_, _or_, _is_to_}
 use Rattle.words.proofs.Choosing.{true-is-not-false, not-both, either-way, then-case, else-case, both, both-hold, neither, one-holds, first-holds, second-decides, range-holds, range-is, refuted}
-use Rattle.words.proofs.Ranges.{in-range, some-place-fails}
-use Rattle.page.specs.Page.{takesFromRight, takesFromLeft}
+use Rattle.words.proofs.Elements.{some-passes, none-passes}
+use Rattle.words.proofs.Ranges.{in-range, all-places-hold, some-place-fails, some-place-holds, at-no-place}
+use Rattle.page.specs.Page.{takesFromRight, takesFromLeft, someRequired}
 use Rattle.fields.specs.Fields.{Field}
+use Rattle.fields.specs.Required.{isLeftBlank, someLeftBlank}
 use Rattle.state.specs.declared.State.{State}
 use Rattle.steps.specs.Steps.{Terminal, cursorCell}
-use Rattle.steps.specs.Seen.{seen, characterAt, unprotectedAt, takesAt, fieldsHere, endHere}
-use Rattle.keys.specs.Keys.{isTyping, isEditing, isFieldMove, isKnown, isLocked, isLockedOut, noField, lacksCell, carried, isNotTaken}
-use Rattle.terminal.specs.Lines.{Line4, Line5, manual-lock, soft-lock, Line7, typed-on-protected, edited-on-protected, no-field, Line8, typed-not-taken, not-taken-on-the-left, not-taken-on-the-right}
+use Rattle.steps.specs.Seen.{seen, characterAt, unprotectedAt, takesAt, requiredAt, fieldsHere, endHere}
+use Rattle.keys.specs.Keys.{isTyping, isEditing, isFieldMove, isKnown, isLocked, isLockedOut, noField, lacksCell, carried, isNotTaken, isHeldBack}
+use Rattle.terminal.specs.Lines.{Line4, Line5, manual-lock, soft-lock, Line7, typed-on-protected, edited-on-protected, no-field, Line8, typed-not-taken, not-taken-on-the-left, not-taken-on-the-right, HasRequired, LeftBlank, Line9, required-blank}
 
 pub line-4 : (key : ℕ) → (not (isKnown key) ≡ true) ↔ Line4 key
 unfolding isKnown isTyping
@@ -166,3 +168,46 @@ line-8 key t = (holds, λ line. not-taken line)
     not-taken (typed-not-taken low high fails) = then-case _ _ _ (range-is key 32 126 low high) ∙ ap not fails
     not-taken (not-taken-on-the-left asked cell low high fails) = same asked ∙ on-the-left t ∙ ap not (left-fails t cell low high fails)
     not-taken (not-taken-on-the-right asked cell low high fails) = same asked ∙ on-the-right t ∙ ap not (right-fails t cell low high fails)
+
+-- Line 9: a field of the page is left blank where its test holds, and only there.
+module _ (t : Terminal) (field : Field) (listed : List·Memᴰ field (fieldsHere t)) where
+  pub left-blank : isLeftBlank (seen t) field ≡ true → LeftBlank t field
+  unfolding isLeftBlank
+  left-blank holds =
+      let cell = some-place-holds (requiredAt t) (field .start) (field .length) (both holds .0) in
+      record {
+        on-page = listed;
+        has-required = record { cell = cell .0; from-start = cell .1; before-end = cell .2; is-required = cell .3 };
+        only-20s = λ any low high. eqb-true _ 0x20 (in-range (λ k. eqb (characterAt t k) 0x20) (field .start) (field .length) any (both holds .1) low high);
+      }
+
+pub some-required : (t : Terminal) (field : Field) → HasRequired t field → someRequired (seen t .marks) (field .start) (field .length) ≡ true
+some-required t field has =
+    either-way _ (λ required. required)
+    (λ none. absurd (not-both (has .is-required) (at-no-place (requiredAt t) (field .start) (field .length) (has .cell) none (has .from-start) (has .before-end))))
+
+pub is-left-blank : (t : Terminal) (field : Field) → LeftBlank t field → isLeftBlank (seen t) field ≡ true
+unfolding isLeftBlank
+is-left-blank t field blank =
+    both-hold _ _ (some-required t field (blank .has-required))
+    (all-places-hold (λ k. eqb (characterAt t k) 0x20) (field .start) (field .length) (λ cell low high. eq-eqb _ 0x20 (blank .only-20s cell low high)))
+
+-- Where no field's test holds, none is.
+pub none-left-blank : (t : Terminal) → someLeftBlank (seen t) ≡ false → (field : Field) → LeftBlank t field → ⊥
+unfolding someLeftBlank
+none-left-blank t none field blank =
+    not-both (is-left-blank t field blank) (none-passes (isLeftBlank (seen t)) field (fieldsHere t) none (blank .on-page))
+
+pub line-9 : (key : ℕ) (t : Terminal) → (isHeldBack key t ≡ true) ↔ Line9 key t
+unfolding isHeldBack someLeftBlank
+line-9 key t = (holds, λ line. held-back line)
+  where
+    holds : isHeldBack key t ≡ true → Line9 key t
+    holds held =
+        let found = some-passes (isLeftBlank (seen t)) (fieldsHere t) (both held .1) in
+        required-blank (eqb-true key 266 (both held .0)) (found .0) (left-blank t (found .0) (found .1) (found .2))
+
+    held-back : Line9 key t → isHeldBack key t ≡ true
+    held-back (required-blank asked field blank) =
+        both-hold _ _ (eq-eqb key 266 asked)
+        (either-way (someLeftBlank (seen t)) (λ some. some) (λ none. absurd (none-left-blank t none field blank)))

@@ -29,7 +29,7 @@ use Rattle.terminal.specs.Claims.{NumberedBy, Leaves, Did, Started, Same
 use Rattle.terminal.specs.Lines.{Line3, Decides, startTable, hostTable, keyTable}
 use Rattle.terminal.proofs.Matching.{ends, next, first-decides-row, decides-one}
 use Rattle.terminal.proofs.Exceeding.{line-3}
-use Rattle.terminal.proofs.Lines.{line-4, line-5, line-7, line-8}
+use Rattle.terminal.proofs.Lines.{line-4, line-5, line-7, line-8, line-9}
 use Rattle.terminal.proofs.Cases.{same-answer, HostCase, KeyCase, StartCase, host-case, key-case, start-case}
 use Rattle.terminal.proofs.Cases
 
@@ -79,7 +79,8 @@ module _ (t : Terminal) (key : ℕ) (output : List ℕ) where
       (next _ _ (line-5 key (t .state)) refl
       (next _ _ (line-7 key t) refl
       (next _ _ (line-8 key t) refl
-      (next _ _ (line-3 (length output) (keyStep key t ∷ [])) refl ends))))))))
+      (next _ _ (line-9 key t) refl
+      (next _ _ (line-3 (length output) (keyStep key t ∷ [])) refl ends)))))))))
 
   pub key-exactly : NumberedBy (keyTable t key (length output) (keyStep key t)) (keyCall t key output)
   key-exactly n = (λ is. subst (Decides (keyTable t key (length output) (keyStep key t))) is key-decides, λ decides. decides-one key-decides decides)

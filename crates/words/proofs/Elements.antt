@@ -6,14 +6,30 @@ use mathlib.Core.Logic.{⊎-elim}
 use Prim.Native.Nat.{ℕ, zero, suc, _+_, _<_, _≤_}
 use native.Mathlib.Omega.{arith}
 use lib.ListN.{length}
-use Rattle.words.specs.Lists.{every, selected, numbersFrom, exactly}
-use Rattle.words.proofs.Choosing.{not-both, both, both-hold, then-case, else-case, either-line, less-or-not}
+use Rattle.words.specs.Lists.{every, some, selected, numbersFrom, exactly}
+use Rattle.words.proofs.Choosing.{true-is-not-false, not-both, both, both-hold, neither, one-holds, then-case, else-case, either-line, less-or-not}
 
 module _ {A : Type 0} (test : A → Bool) where
   pub every-by-each : (list : List A) → ((x : A) → List·Memᴰ x list → test x ≡ true) → every test list ≡ true
   unfolding every
   every-by-each [] h = refl
   every-by-each (x ∷ list) h = both-hold _ _ (h x (List·Memᴰ·head refl)) (every-by-each list (λ y m. h y (List·Memᴰ·tail m)))
+
+  pub some-passes : (list : List A) → some test list ≡ true → (x : A) × List·Memᴰ x list × (test x ≡ true)
+  unfolding some
+  some-passes [] h = absurd (true-is-not-false (sym h))
+  some-passes (x ∷ list) h =
+      ⊎-elim
+      (λ here. (x, List·Memᴰ·head refl, here))
+      (λ rest. let later = some-passes list rest in (later .0, List·Memᴰ·tail (later .1), later .2))
+      (one-holds h)
+
+  pub none-passes : (x : A) (list : List A) → some test list ≡ false → List·Memᴰ x list → test x ≡ false
+  unfolding some
+  none-passes x [] h m = absurd (List·Memᴰ·not-nil m)
+  none-passes x (y ∷ list) h m =
+      let no = neither h in
+      ⊎-elim (λ same. ap test same ∙ no .0) (λ later. none-passes x list (no .1) later) (List·Memᴰ·cases-cons m)
 
   pub selected-all : (list : List A) → ((x : A) → List·Memᴰ x list → test x ≡ true) → selected test list ≡ list
   unfolding selected

@@ -7,7 +7,7 @@ use Prim.Native.Nat.{ℕ, zero, suc, _+_, _-_, _<_, _≤_}
 use native.Mathlib.Nat.{add-zero}
 use native.Mathlib.Omega.{arith}
 use Rattle.words.specs.Lists.{allFrom, someFrom}
-use Rattle.words.proofs.Choosing.{true-is-not-false, less-or-not, both, neither, one-fails, first-decides, first-fails, first-holds, second-decides}
+use Rattle.words.proofs.Choosing.{true-is-not-false, less-or-not, both, neither, one-fails, one-holds, both-hold, first-decides, first-fails, first-holds, second-decides}
 
 module _ (test : ℕ → Bool) where
   at-place : (least size place : ℕ) → allFrom test least size ≡ true → place < size → test (least + place) ≡ true
@@ -22,6 +22,11 @@ module _ (test : ℕ → Bool) where
   in-range least size n all low high =
       let same : least + (n - least) ≡ n = omega arith in
       sym (ap test same) ∙ at-place least size (n - least) all (omega arith)
+
+  pub all-places-hold : (i n : ℕ) → ((k : ℕ) → i ≤ k → k < i + n → test k ≡ true) → allFrom test i n ≡ true
+  unfolding allFrom
+  all-places-hold i zero h = refl
+  all-places-hold i (suc n) h = both-hold _ _ (h i (omega arith) (omega arith)) (all-places-hold (i + 1) n (λ k l m. h k (omega arith) (omega arith)))
 
   -- Where the test of all fails, that of one of them does.
   pub some-place-fails : (i n : ℕ) → allFrom test i n ≡ false → (k : ℕ) × (i ≤ k) × (k < i + n) × (test k ≡ false)
@@ -44,7 +49,16 @@ module _ (test : ℕ → Bool) where
   place-fails i zero p some = absurd (omega arith)
   place-fails i (suc n) p some = first-fails _ _ p
 
-  -- The test of one of them fails where that of each does, and only there.
+  -- Where the test of one of them holds, it holds of a place; it fails where that of each does, and only there.
+  pub some-place-holds : (i n : ℕ) → someFrom test i n ≡ true → (k : ℕ) × (i ≤ k) × (k < i + n) × (test k ≡ true)
+  unfolding someFrom
+  some-place-holds i zero p = absurd (true-is-not-false (sym p))
+  some-place-holds i (suc n) p =
+      ⊎-elim
+      (λ q. (i, omega arith, omega arith, q))
+      (λ q. let later = some-place-holds (i + 1) n q in (later .0, omega arith, omega arith, later .3))
+      (one-holds p)
+
   pub no-place-holds : (i n : ℕ) → ((k : ℕ) → i ≤ k → k < i + n → test k ≡ false) → someFrom test i n ≡ false
   unfolding someFrom
   no-place-holds i zero h = refl

@@ -6,9 +6,9 @@ use borrow.Author.Tests.{not-true, not-false}
 use lib.ListN.{drop}
 use Rattle.state.specs.Tests.{sizeFits}
 use Rattle.steps.specs.Steps.{Terminal, Valid, terminalOf}
-use Rattle.keys.specs.Keys.{isKnown, isLockedOut, lacksCell}
+use Rattle.keys.specs.Keys.{isKnown, isLockedOut, lacksCell, isNotTaken}
 use Rattle.terminal.specs.declared.Answer.{Answer}
-use Rattle.terminal.specs.declared.Answer.the-variants.{WrongSize, WrongState, UnknownKey, Locked, NoCell, NotTaken}
+use Rattle.terminal.specs.declared.Answer.the-variants.{WrongSize, WrongState, UnknownKey, Locked, NoCell, NotTaken, RequiredBlank}
 use Rattle.terminal.specs.Answers.{changesNothing}
 use Rattle.terminal.specs.Tests.{LineTest, passesLine2, keyRefusals, keyLines}
 use Rattle.terminal.proofs.Firsts.{First, this, past}
@@ -88,6 +88,19 @@ past-5 c later = past-4 (else-4 c) (past (has-cell c) later)
 abbrev else-5 : tie.Else6 → tie.Else5
 else-5 c = c .before .before .before .before
 
+abbrev start-6 : tie.Else6 → tie.Start
+start-6 c = start-5 (else-5 c)
+
+taken : (c : tie.Else6) → isNotTaken (start-6 c .args .key) (lent (start-6 c)) ≡ false
+taken c = sym (c .before .is-not-taken .ensures) ∙ c .if6 .left
+
+past-6 : (c : tie.Else6) {answer : Answer} → First (drop 6 (lines (start-6 c))) answer → First (lines (start-6 c)) answer
+unfolding keyLines keyRefusals
+past-6 c later = past-5 (else-5 c) (past (taken c) later)
+
+abbrev else-6 : tie.Else7 → tie.Else6
+else-6 c = c .before .before .before .before
+
 -- So the first test that holds decides.
 returns : tie.Need-returns
 unfolding keyLines keyRefusals changesNothing
@@ -130,6 +143,13 @@ returns-6 c =
     let not-taken = sym (test .is-not-taken .ensures) ∙ c .before .if6 .taken in
     c .refuse-call6 .ensures _ _ ∙ sym (key-refuses _ _ _ NotTaken refl (past-5 (test .before .before .before) (this not-taken)))
 
+returns-7 : tie.Need-returns-7
+unfolding keyLines keyRefusals changesNothing
+returns-7 c =
+    let test = c .before .before in
+    let held-back = sym (test .is-held-back .ensures) ∙ c .before .if7 .taken in
+    c .refuse-call7 .ensures _ _ ∙ sym (key-refuses _ _ _ RequiredBlank refl (past-6 (test .before .before .before) (this held-back)))
+
 terminal-valid : (c : tie.Else2) → Valid (lent (start-2 c))
 terminal-valid c = is-valid _ (size-fits (else-1 c)) (valid c)
 
@@ -139,9 +159,13 @@ lacks-cell-requires c κs = terminal-valid (else-2 (else-3 (c .before .before)))
 is-not-taken-requires : tie.Need-is-not-taken-requires
 is-not-taken-requires c κs = terminal-valid (else-2 (else-3 (else-4 (c .before .before))))
 
+is-held-back-requires : tie.Need-is-held-back-requires
+is-held-back-requires c κs = terminal-valid (else-2 (else-3 (else-4 (else-5 (c .before .before)))))
+
 press-requires : tie.Need-press-requires
 press-requires c κs =
-    let at-6 = c .before .before .before in
+    let at-7 = c .before .before .before in
+    let at-6 = else-6 at-7 in
     let at-5 = else-5 at-6 in
     let at-4 = else-4 at-5 in
     record {
@@ -149,7 +173,8 @@ press-requires c κs =
       known = known (else-3 at-4);
       not-locked-out = not-locked-out at-4;
       has-cell = has-cell at-5;
-      taken = sym (at-6 .before .is-not-taken .ensures) ∙ at-6 .if6 .left;
+      taken = taken at-6;
+      not-held-back = sym (at-7 .before .is-held-back .ensures) ∙ at-7 .if7 .left;
     }
 
 pub key-spec : {M : Type 1} → statement M
@@ -186,6 +211,11 @@ key-spec =
     (λ c. search needs)
     (λ c. search needs)
     returns-6
+    is-held-back-requires
+    (λ c κs. search needs)
+    (λ c. search needs)
+    (λ c. search needs)
+    returns-7
     press-requires
     (λ c. search needs)
     (λ c. search needs)
