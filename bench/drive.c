@@ -4,9 +4,9 @@
    drive PROGRAM keys WHAT PAGE ROWS COLUMNS COUNT      WHAT: typed, next, previous, changed, full, none; changed and
                                                         full are the Send key as the host chose what it sends
                                                         PAGE: form (60 fields), densest (every second cell is one)
-   drive PROGRAM any ROWS COLUMNS COUNT                 keys drawn at random, on a page with cells of every area, and
-                                                        the host choosing anew what Send sends; not timed: it says
-                                                        how many were given 8
+   drive PROGRAM any ROWS COLUMNS COUNT                 keys drawn at random, on pages with cells of every area, some
+                                                        of them required, and the host choosing anew what Send sends;
+                                                        not timed: it says how many were given 8, and 9
 
    What is left, the digest, is the same for every program that follows the papers, to the last bit of the half-read
    sequence. `keys none` does all but press a key: what it costs is taken off by whoever measures keys. */
@@ -178,17 +178,18 @@ static void run_keys(const struct program *program, char **words)
     printf("us %.4f\n", took * 1e6 / (double)count);
 }
 
-/* -- any keys, where some characters are not taken */
+/* -- any keys, where some characters are not taken, and some blocks are held back */
 
+/* by the high bits, as the low ones soon repeat */
 static unsigned below(unsigned limit)
 {
     static uint32_t seed = 1;
     seed = seed * 1664525u + 1013904223u;
-    return (seed >> 8) % limit;
+    return (seed >> 16) % limit;
 }
 
 /* Areas of one to four cells, three of four unprotected, so that a field has cells of several areas; and characters
-   that one area takes, or another, or none. */
+   that one area takes, or another, or none. Few areas are required, as one blank field holds every block back. */
 static void make_areas(struct snapshot *page, size_t cells)
 {
     static const uint16_t areas[] = {0, PANEL_MARK_PROTECTED, PANEL_MARK_NUMERIC, PANEL_MARK_ALPHABETIC};
@@ -197,54 +198,82 @@ static void make_areas(struct snapshot *page, size_t cells)
         if (left == 0) {
             left = 1 + below(4);
             area = areas[below(4)];
+            if (area != PANEL_MARK_PROTECTED && below((unsigned)cells / 120) == 0)
+                area |= PANEL_MARK_REQUIRED;
         }
         page->characters[cell] = (uint8_t)characters[below(sizeof characters - 1)];
         put_two_bytes(page->marks + 2 * cell, area);
     }
 }
 
+/* One field alone is required, the cursor's, on a blank page: whether a block is sent changes from key to key. */
+static void require_here_alone(struct snapshot *page, size_t cells)
+{
+    size_t row = panel_two_bytes(page->record + PANEL_RECORD_ROW) - 1u;
+    size_t columns = panel_two_bytes(page->record + PANEL_RECORD_COLUMNS);
+    size_t here = row * columns + panel_two_bytes(page->record + PANEL_RECORD_COLUMN) - 1;
+    memset(page->characters, ' ', cells);
+    for (size_t cell = 0; cell < cells; cell++)
+        page->marks[2 * cell + 1] &= (uint8_t)~(PANEL_MARK_REQUIRED >> 8);
+    put_two_bytes(page->marks + 2 * here, PANEL_MARK_REQUIRED);
+}
+
+/* A new page, of either sort in turn; the cursor and all else stay. */
+static void put_areas(const struct program *program, size_t cells, int required_here)
+{
+    static struct snapshot page;
+    program->get(&page);
+    make_areas(&page, cells);
+    if (required_here)
+        require_here_alone(&page, cells);
+    program->put(&page);
+}
+
 static size_t any_key(void)
 {
     static const char typed[] = "0123456789-. OAZaz+";
-    static const size_t often[] = {PANEL_KEY_DELETE, PANEL_KEY_INSERT, PANEL_KEY_NEXT_FIELD, PANEL_KEY_RIGHT};
+    static const size_t often[] = {PANEL_KEY_DELETE, PANEL_KEY_INSERT, PANEL_KEY_NEXT_FIELD, PANEL_KEY_RIGHT,
+                                   PANEL_KEY_SEND};
     switch (below(4)) {
     case 0:
         return (size_t)typed[below(sizeof typed - 1)];
     case 1:
         return PANEL_KEY_UP + below(PANEL_KEY_UNLOCK - PANEL_KEY_UP + 1); /* 267 too, which is no key */
     default:
-        return often[below(4)];
+        return often[below(sizeof often / sizeof *often)];
     }
 }
 
 static void run_any(const struct program *program, char **words)
 {
-    static struct snapshot page;
-    size_t rows = number(words[0]), columns = number(words[1]), count = number(words[2]), not_taken = 0;
+    size_t rows = number(words[0]), columns = number(words[1]), count = number(words[2]);
+    size_t not_taken = 0, required_blank = 0, blocks = 0;
     struct told all = {0, 0, 0, 0};
     uint64_t digest = NO_DIGEST;
     program->start(rows, columns, &all);
     if (all.number != PANEL_DONE)
         fail("no such size");
     all.stored = 0;
-    program->get(&page);
-    make_areas(&page, rows * columns);
-    program->put(&page);
     for (size_t i = 0; i < count; i++) {
         struct told one = {0, 0, 0, 0};
+        if (i % 50 == 0)
+            put_areas(program, rows * columns, i % 100 != 0);
         if (i % 100 == 0)
             choose_sent(program, i % 200 == 0, &one);
         program->key(any_key(), &one);
         digest = digested(digest, &one.number, 1);
         digest = digested(digest, output, (size_t)one.sent);
         not_taken += one.number == PANEL_NOT_TAKEN;
+        required_blank += one.number == PANEL_REQUIRED_BLANK;
+        blocks += one.sent > 0;
         all.sent += one.sent;
         all.stored += one.stored;
     }
-    if (not_taken == 0)
-        fail("no key was given 8");
+    if (not_taken == 0 || required_blank == 0 || blocks == 0)
+        fail("no key was given 8, or none 9, or none sent a block");
     print_left(program, rows, columns, &all, digest);
-    printf("given 8: %lu\n", (unsigned long)not_taken);
+    printf("given 8: %lu, given 9: %lu, blocks: %lu\n", (unsigned long)not_taken, (unsigned long)required_blank,
+           (unsigned long)blocks);
 }
 
 int main(int count, char **words)

@@ -2,10 +2,10 @@
 
 #include <string.h>
 
-enum { DONE, WRONG_SIZE, WRONG_STATE, NO_ROOM, UNKNOWN_KEY, LOCKED, TOO_LONG, NO_CELL, NOT_TAKEN };
+enum { DONE, WRONG_SIZE, WRONG_STATE, NO_ROOM, UNKNOWN_KEY, LOCKED, TOO_LONG, NO_CELL, NOT_TAKEN, REQUIRED_BLANK };
 enum { NO_MESSAGE, UNKNOWN_COMMAND, WRONG_ARGUMENTS, BROKEN_SEQUENCE, HIGH_BYTE };
-enum { PROTECTED = 1, MODIFIED = 2, VISUAL = 0x7C, NUMERIC = 0x80, ALPHABETIC = 0x100 };
-enum { AREA = PROTECTED | NUMERIC | ALPHABETIC };
+enum { PROTECTED = 1, MODIFIED = 2, VISUAL = 0x7C, NUMERIC = 0x80, ALPHABETIC = 0x100, REQUIRED = 0x200 };
+enum { AREA = PROTECTED | NUMERIC | ALPHABETIC | REQUIRED };
 enum { BS = 0x08, TAB = 0x09, LF = 0x0A, CR = 0x0D, CAN = 0x18, SUB = 0x1A, ESC = 0x1B, DEL = 0x7F, ETX = 0x03 };
 enum {
     UP = 256,
@@ -200,14 +200,6 @@ static unsigned field_end(const struct plain *t, unsigned cell)
     return cell;
 }
 
-static bool is_modified(const struct plain *t, unsigned from, unsigned to)
-{
-    for (unsigned cell = from; cell < to; cell++)
-        if (t->marks[cell] & MODIFIED)
-            return true;
-    return false;
-}
-
 /* -- what is sent */
 
 static unsigned digits(unsigned number)
@@ -244,64 +236,83 @@ static uint8_t *put_place(uint8_t *at, unsigned row, unsigned column, char final
     return at;
 }
 
-/* A field of a block: where it starts and ends. */
+/* A field: where it starts and ends, and every mark that any of its cells has. */
 struct field {
-    unsigned row, column, from, to;
+    unsigned row, column, from, to, marks;
 };
 
-/* The next field for the block, from field->to on; false if there is none. Row and column are counted along. */
-static bool next_in_block(const struct plain *t, bool changed_only, struct field *field)
+/* The next field of the page, from field->to on; false if there is none. Row and column are counted along. */
+static bool next_on_page(const struct plain *t, struct field *field)
 {
-    unsigned all = cells(t), cell = field->to, passed = field->to - field->from;
-    unsigned row = field->row, column = field->column + passed;
-    for (;;) {
-        while (cell < all && is_protected(t, cell)) {
-            cell++;
-            column++;
-        }
-        while (column >= t->columns) {
-            column -= t->columns;
-            row++;
-        }
-        if (cell >= all)
+    unsigned all = cells(t), from = field->to;
+    while (from < all && is_protected(t, from))
+        from++;
+    if (from == all)
+        return false;
+    unsigned to = from, marks = 0;
+    while (to < all && !is_protected(t, to))
+        marks |= t->marks[to++];
+    unsigned row = field->row, column = field->column + (from - field->from);
+    for (; column >= t->columns; column -= t->columns)
+        row++;
+    *field = (struct field){row, column, from, to, marks};
+    return true;
+}
+
+static bool is_in_block(const struct field *field, bool changed_only)
+{
+    return !changed_only || field->marks & MODIFIED;
+}
+
+/* whether the field has a required cell, and nothing but blanks in all its cells */
+static bool is_required_blank(const struct plain *t, const struct field *field)
+{
+    if (!(field->marks & REQUIRED))
+        return false;
+    for (unsigned cell = field->from; cell < field->to; cell++)
+        if (t->characters[cell] != ' ')
             return false;
-        unsigned end = field_end(t, cell);
-        if (!changed_only || is_modified(t, cell, end)) {
-            *field = (struct field){row, column, cell, end};
-            return true;
-        }
-        column += end - cell;
-        cell = end;
-    }
+    return true;
 }
 
-static size_t block_length(const struct plain *t, bool changed_only)
+/* A block to be sent, and whether a required field of the page, be it in the block or not, is blank. */
+struct block {
+    size_t length;
+    bool changed_only, required_blank;
+};
+
+static struct block measure_block(const struct plain *t, bool changed_only)
 {
-    struct field field = {0, 0, 0, 0};
-    size_t length = 1;
-    while (next_in_block(t, changed_only, &field))
-        length += 4 + digits(field.row + 1) + digits(field.column + 1) + (field.to - field.from);
-    return length;
+    struct block block = {1, changed_only, false};
+    struct field field = {0, 0, 0, 0, 0};
+    while (next_on_page(t, &field)) {
+        if (is_required_blank(t, &field))
+            block.required_blank = true;
+        if (is_in_block(&field, changed_only))
+            block.length += 4 + digits(field.row + 1) + digits(field.column + 1) + (field.to - field.from);
+    }
+    return block;
 }
 
-static bool send_block(struct call *c, bool changed_only)
+/* A field that isn't in the block has no modified cell. */
+static bool send_block(struct call *c, struct block block)
 {
     struct plain *t = c->t;
-    size_t length = block_length(t, changed_only);
-    if (length > c->room - c->sent)
+    if (block.length > c->room - c->sent)
         return false;
     uint8_t *at = c->output + c->sent;
-    struct field field = {0, 0, 0, 0};
-    while (next_in_block(t, changed_only, &field)) {
+    struct field field = {0, 0, 0, 0, 0};
+    while (next_on_page(t, &field)) {
+        if (!is_in_block(&field, block.changed_only))
+            continue;
         at = put_place(at, field.row, field.column, 'f');
         memcpy(at, t->characters + field.from, field.to - field.from);
         at += field.to - field.from;
+        for (unsigned cell = field.from; cell < field.to; cell++)
+            t->marks[cell] &= (uint16_t)~MODIFIED;
     }
     *at = ETX;
-    c->sent += length;
-    for (unsigned cell = 0, all = cells(t); cell < all; cell++)
-        if (!is_protected(t, cell))
-            t->marks[cell] &= (uint16_t)~MODIFIED;
+    c->sent += block.length;
     return true;
 }
 
@@ -338,7 +349,8 @@ static void unlock(struct plain *t)
     t->refused_at = 0;
 }
 
-/* The areas: unprotected (0), PROTECTED, NUMERIC and ALPHABETIC; each takes the place of the one before. */
+/* The areas: unprotected (0), PROTECTED, NUMERIC and ALPHABETIC; each takes the place of the one before, and takes
+   REQUIRED off. */
 static void set_area(struct plain *t, unsigned area)
 {
     t->pen = (uint16_t)((t->pen & ~(unsigned)AREA) | area);
@@ -368,7 +380,7 @@ static bool escape_command(struct call *c, uint8_t byte)
         set_area(t, 0);
         break;
     case 'S':
-        return send_block(c, false);
+        return send_block(c, measure_block(t, false));
     case 'c':
         fresh(c);
         break;
@@ -496,6 +508,15 @@ static bool change_pen(struct plain *t)
     return true;
 }
 
+/* REQUIRED comes beside any area but PROTECTED; false beside that */
+static bool add_required(struct plain *t)
+{
+    if (t->pen & PROTECTED)
+        return false;
+    t->pen |= REQUIRED;
+    return true;
+}
+
 static bool change_area(struct plain *t, unsigned which)
 {
     switch (which) {
@@ -511,6 +532,8 @@ static bool change_area(struct plain *t, unsigned which)
     case 4:
         set_area(t, ALPHABETIC);
         return true;
+    case 20:
+        return add_required(t);
     default:
         return false;
     }
@@ -940,6 +963,15 @@ static bool is_taken(const struct plain *t, size_t key)
     }
 }
 
+/* a blank required field holds the block back before its room is looked at */
+static uint32_t send_key(struct call *c)
+{
+    struct block block = measure_block(c->t, !c->t->full);
+    if (block.required_blank)
+        return REQUIRED_BLANK;
+    return send_block(c, block) ? DONE : NO_ROOM;
+}
+
 static uint32_t do_key(struct call *c, size_t key)
 {
     struct plain *t = c->t;
@@ -981,7 +1013,7 @@ static uint32_t do_key(struct call *c, size_t key)
         insert_blank(c);
         break;
     case SEND:
-        return send_block(c, !t->full) ? DONE : NO_ROOM;
+        return send_key(c);
     case UNLOCK:
         unlock(t);
         break;

@@ -1,4 +1,4 @@
-/* The terminal of documents 01 and 02 (M-101 to M-103, M-105, M-106) as a programmer writes it by hand: something to
+/* The terminal of documents 01 and 02 (M-101 to M-103, M-105 to M-107) as a programmer writes it by hand: something to
    measure the proved one by. It was written from the papers, without sight of the proved one's code. */
 #ifndef PLAIN_H
 #define PLAIN_H

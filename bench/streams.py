@@ -4,8 +4,8 @@
 form   a form that is painted now and then, and whose fields are filled again and again
 dense  nearly all sequences: moves, pens, tab stops, erasing of a part of a row, a word now and then
 text   lines of text, 10 to 79 long, a screenful at a time, scrolling now and then
-areas  cells of every area, by ESC [ n o, ESC V and ESC W, forms with > that choose what the Send key sends, and values
-       and forms that are refused; only compared, not measured
+areas  cells of every area, by ESC [ n o, ESC V and ESC W, many of them required, forms with > that choose what the Send
+       key sends, and values and forms that are refused; only compared, not measured
 
 One kind, size and length is one stream, on every machine: the numbers come from the generator below. Nothing in them
 makes the terminal send.
@@ -183,23 +183,30 @@ class Text(Stream):
 
 class Areas(Dense):
     AREAS = (0, 1, 3, 4)
-    OTHERS = b"\x1b[o \x1b[03o \x1b[2o \x1b[5o \x1b[20o \x1b[3;4o \x1b[?3o \x1b[3!o \x1b[3\x0bo \x1b3o".split(b" ")
+    REQUIRED = (b"\x1b[20o", b"\x1b[20o", b"\x1b[020o", b"\x1b[20o\x1b[20o", b"\x1b[20o\x1b[0m")
+    OTHERS = (
+        *b"\x1b[o \x1b[03o \x1b[2o \x1b[5o \x1b[19o \x1b[21o \x1b[200o \x1b[3;4o \x1b[20;o \x1b[3;20o".split(b" "),
+        *b"\x1b[?3o \x1b[>20o \x1b[3!o \x1b[3\x0bo \x1b[20\x0bo \x1b3o".split(b" "),
+    )
     PRIVATE = b"\x1b[>6h \x1b[>6l \x1b[>06l \x1b[>5h \x1b[>6;h \x1b[0>6h \x1b[>>6l \x1b[>6m \x1b[>6\x0b".split(b" ")
 
     def one(self):
         numbers = self.numbers
-        kind = numbers.below(20)
+        kind = numbers.below(22)
         if kind < 6:
             self.control(b"o", numbers.pick(self.AREAS))
         elif kind < 8:
             self.put(numbers.pick((b"\x1bV", b"\x1bW")))
-        elif kind < 9:
-            self.put(numbers.pick(self.OTHERS if numbers.below(2) else self.PRIVATE))
+        elif kind < 10:
+            # refused where the pen is protected
+            self.put(numbers.pick(self.REQUIRED))
         elif kind < 11:
-            self.control(b"m", numbers.pick(self.VISUAL))
+            self.put(numbers.pick(self.OTHERS if numbers.below(2) else self.PRIVATE))
         elif kind < 13:
+            self.control(b"m", numbers.pick(self.VISUAL))
+        elif kind < 15:
             self.go(self.row(), self.column())
-        elif kind < 14:
+        elif kind < 16:
             self.put(numbers.pick((b"\x1b[K", b"\x1b[1K", b"\x1b[6h", b"\x1b[6l", b"\x1bD", b"\x1bM")))
         else:
             self.text(numbers.between(1, 12))

@@ -1,9 +1,9 @@
 /* Makes the calls that worst.py asks for, one a line on standard input, with a mark before and after each; whoever runs
    it counts the instructions between marks (count.c):
 
-   PROGRAM PAGE CURSOR STOPS ERASURE FULL host HEX     PAGE: open, shut, densest, modified, first, last, numeric,
-   PROGRAM PAGE CURSOR STOPS ERASURE FULL key NUMBER   alphabetic; CURSOR: a cell from 0 on; STOPS: all, none;
-                                                       ERASURE, FULL (what the Send key sends): 0, 1
+   PROGRAM PAGE CURSOR STOPS ERASURE FULL host HEX     PAGE: open, shut, densest, modified, required, first,
+   PROGRAM PAGE CURSOR STOPS ERASURE FULL key NUMBER   last, numeric, alphabetic; CURSOR: a cell from 0 on; STOPS:
+                                                       all, none; ERASURE, FULL (what the Send key sends): 0, 1
 
    The page is 48 by 160. For each call it prints the number given, the bytes sent and a digest of what was left. */
 #include "programs.h"
@@ -34,7 +34,7 @@ static int is_open(const char *page, size_t cell)
         return cell == 0;
     if (strcmp(page, "last") == 0)
         return cell == CELLS - 1;
-    /* densest, modified: the page with the longest block */
+    /* densest, modified, required: the page with the longest block */
     return cell == 0 || cell % 2 == 1;
 }
 
@@ -46,6 +46,8 @@ static size_t mark_of(const char *page, size_t cell)
         return PANEL_MARK_ALPHABETIC;
     if (!is_open(page, cell))
         return PANEL_MARK_PROTECTED;
+    if (strcmp(page, "required") == 0)
+        return PANEL_MARK_MODIFIED | PANEL_MARK_REQUIRED;
     return strcmp(page, "modified") == 0 ? PANEL_MARK_MODIFIED : 0;
 }
 

@@ -25,6 +25,7 @@ PAGES = {
     "shut": "all protected",
     "densest": "densest",
     "modified": "densest, all modified",
+    "required": "densest, all modified and required",
     "first": "1;1 alone unprotected",
     "last": "48;160 alone unprotected",
     "numeric": "all numeric",
@@ -38,7 +39,7 @@ SOME = [("open", "at 1;1", "none", "0"), ("densest", "at 48;160", "all", "1"), (
 # Before each sequence the pen is changed, here and in what is taken off: then both calls write the record.
 PREFIX = b"\x1b[1m"
 
-NUMBERS = (*range(11), 24, 47, 48, 49, 80, 99, 100, 159, 160, 161, 999, 5000, 9999)
+NUMBERS = (*range(11), 20, 24, 47, 48, 49, 80, 99, 100, 159, 160, 161, 999, 5000, 9999)
 VALUES = ["", *map(str, NUMBERS), "00001"]
 PAIRS = [f"{a};{b}" for a, b in product(("", "1", "24", "48", "49", "9999"), ("", "1", "80", "160", "161", "9999"))]
 LONGEST = ";".join(["9999"] * 8)
@@ -51,7 +52,7 @@ PRIVATE = ("6", "06", "000000006")
 # the values that are taken, of commands that take few
 TAKEN = {
     **{"W": (0, 2, 5), "J": (0, 1, 2), "K": (0, 1, 2), "m": (0, 1, 4, 5, 7, 8), "h": (6,), "l": (6,), "n": (5, 6)},
-    **{"o": (0, 1, 3, 4)},
+    **{"o": (0, 1, 3, 4, 20)},
 }
 MOST = {**dict.fromkeys("ABCDEFGdIZWJKno", 1), **dict.fromkeys("Hf", 2), **dict.fromkeys("mhl", 8)}
 NAMES = {

@@ -56,6 +56,7 @@ extern "C" {
 #define PANEL_TOO_LONG 6
 #define PANEL_NO_CELL 7
 #define PANEL_NOT_TAKEN 8
+#define PANEL_REQUIRED_BLANK 9
 
 /* Messages. */
 #define PANEL_MESSAGE_NONE 0
@@ -78,8 +79,8 @@ extern "C" {
 #define PANEL_KEY_SEND 266
 #define PANEL_KEY_UNLOCK 268
 
-/* The bits of a mark, which has 2 bytes; bits 9 to 15 are zero. The glass shows those from bold to concealed. Of
-   protected, numeric and alphabetic a mark has one at most. */
+/* The bits of a mark, which has 2 bytes; bits 10 to 15 are zero. The glass shows those from bold to concealed. Of
+   protected, numeric and alphabetic a mark has one at most, and a required one is never protected. */
 #define PANEL_MARK_PROTECTED 0x01
 #define PANEL_MARK_MODIFIED 0x02
 #define PANEL_MARK_BOLD 0x04
@@ -89,6 +90,7 @@ extern "C" {
 #define PANEL_MARK_CONCEALED 0x40
 #define PANEL_MARK_NUMERIC 0x80
 #define PANEL_MARK_ALPHABETIC 0x100
+#define PANEL_MARK_REQUIRED 0x200
 
 /* Kinds of the half-read sequence. */
 #define PANEL_KIND_NONE 0

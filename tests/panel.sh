@@ -1,8 +1,8 @@
 #!/usr/bin/env bash
 # The exported functions as C calls them, by include/panel.h and docs/PANEL.md: header and archive, the sample program,
 # the second program's transcripts and calls through a driver in C, the characters that cells take, what the Send key
-# sends, and whatever C can get wrong (tests/panel/). In the last four every slice lies between pages that may not be
-# touched, and what may not be written can only be read.
+# sends, the required fields that hold it back, and whatever C can get wrong (tests/panel/). In the last five every
+# slice lies between pages that may not be touched, and what may not be written can only be read.
 # The archive is for x86-64; elsewhere programs run under the kit's emulator.
 set -eu -o pipefail
 . tests/tools/debian.sh
@@ -52,6 +52,7 @@ build driver tests/panel/driver.c tests/panel/lent.c
 build refusals tests/panel/refusals.c tests/panel/lent.c
 build taken tests/panel/taken.c tests/panel/lent.c
 build send tests/panel/send.c tests/panel/lent.c
+build required tests/panel/required.c tests/panel/lent.c
 
 run() { step "${emulator[@]}" "$@"; }
 driver=("${emulator[@]}" $room/driver)
@@ -63,7 +64,7 @@ grep -qxE "[0-9A-F]{14}$sent" <(grep -m 1 -E '^.{16,}03$' sample/stow.out) || {
     printf 'the program in docs/PANEL.md sends %s\n' "$sent"
     exit 1
 }
-for session in stow remark kinds send; do
+for session in stow remark kinds send required; do
     run $room/driver transcript <sample/$session.txt | diff sample/$session.out -
 done
 new=$(date +%s)
@@ -74,6 +75,7 @@ printf 'panel: new seeds: %s and the 49 after it\n' "$new"
     step $second compare transcript "${driver[@]}" transcript -- "$new" 50 300
     run $room/taken
     run $room/send
+    run $room/required
     run $room/refusals
 } >$room/beside.log 2>&1 &
 beside=$!

@@ -9,13 +9,16 @@ second=target/second/release/second
 
 # the sample sessions, as stored, of both
 for program in ./run $second; do
-    for session in stow remark kinds send; do
+    for session in stow remark kinds send required; do
         $program transcript <sample/$session.txt | cmp - sample/$session.out
     done
     $program dump <sample/page.txt | cmp - sample/page.out
     # the messages of M-102, with their bytes
     $program dump <sample/refused.txt | grep '^manual' | cmp - sample/refused.out
 done
+
+# M-107 on the fixed seeds: 266 is given 9 a hundred times or more, and no block by key left a required field blank
+$second required 1 200 300
 
 new=$(date +%s)
 printf 'new seeds: %s and the 49 after it\n' "$new"

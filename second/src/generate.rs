@@ -165,8 +165,15 @@ impl Generator {
             return self.press();
         }
         (self.keys_wait, self.few_at_once) = (false, false);
-        match self.random.below(172) {
-            159.. => self.plan_sending(),
+        match self.random.below(180) {
+            172.. => {
+                let parts = self.stream().required_form();
+                self.plan_parts(parts, &[255, 255, 255, 4]);
+            }
+            159.. => {
+                let parts = self.stream().sending();
+                self.plan_parts(parts, &[255, 255, 255, 4, 1]);
+            }
             138.. => {
                 self.host = self.stream().mixed_field().into();
                 self.keys = self.stream().kind_keys().into();
@@ -210,14 +217,14 @@ impl Generator {
         self.frame_of_work();
     }
 
-    /// Short parts are cut anywhere, or after each byte.
-    fn plan_sending(&mut self) {
-        for part in self.stream().sending() {
+    /// Short parts are cut into one of these lengths, which may be after each byte.
+    fn plan_parts(&mut self, parts: Vec<Part>, lengths: &[usize]) {
+        for part in parts {
             match part {
                 Part::Key(key) => self.frames.push_back(key_frame(key)),
                 Part::Host(bytes) => {
                     let short = bytes.len() < 20;
-                    let most = if short { self.random.pick(&[255, 255, 255, 4, 1]) } else { 255 };
+                    let most = if short { self.random.pick(lengths) } else { 255 };
                     self.frames.extend(bytes.chunks(most).map(host_frame));
                 }
             }

@@ -3,7 +3,7 @@
 use crate::frames::{fields, put_hex, Calls, Program, FIELDS, FULL, KEPT, REFUSED_AT, ROOM};
 use crate::random::Random;
 use crate::streams::{any_size, Part, Stream, BEGUN, PROBES};
-use crate::terminal::{self, ALPHABETIC, COLUMNS, MODIFIED, NUMERIC, PROTECTED, ROWS};
+use crate::terminal::{self, ALPHABETIC, COLUMNS, MODIFIED, NUMERIC, PROTECTED, REQUIRED, ROWS};
 use std::collections::VecDeque;
 use std::ops::Range;
 
@@ -42,10 +42,11 @@ pub fn calls(seed: u64, frames: usize) -> Vec<u8> {
     generator.text
 }
 
-/// Damage everywhere, in order: every cell's character and mark, every part of the state, every kind of half-read record,
-/// every byte beside every message; then every byte outside a sequence and after each beginning of one, read or set;
-/// on two other sizes the cells and parts that depend on the size; last every character at every kind of cell,
-/// and on all sizes every two kinds at once and every bit without a name.
+/// Damage everywhere, in order: every cell's character and mark, every part of the state, every kind of half-read
+/// record, every byte beside every message; then every byte outside a sequence and after each beginning of one, read
+/// or set; on two other sizes the cells and parts that depend on the size; then every character at every kind of cell,
+/// and required cells and characters of a field in every way; last, on all sizes, every two kinds at once, required
+/// beside every kind, and every bit without a name.
 pub fn sweep() -> Vec<u8> {
     let mut sweep = Sweep { text: Vec::new(), cells: 0 };
     sweep.cells(24, 80, 1);
@@ -60,6 +61,7 @@ pub fn sweep() -> Vec<u8> {
         sweep.parts(rows, columns, 19 + usize::from(columns)..REFUSED_AT);
     }
     sweep.characters_at_kinds();
+    sweep.required_fields();
     for rows in ROWS {
         for columns in COLUMNS {
             sweep.start(rows, columns);
@@ -74,23 +76,36 @@ pub fn sweep() -> Vec<u8> {
 const KIND_BITS: [u16; 3] = [PROTECTED, NUMERIC, ALPHABETIC];
 const TWO_KINDS: [u16; 3] = [PROTECTED | NUMERIC, PROTECTED | ALPHABETIC, NUMERIC | ALPHABETIC];
 
-/// Bits 9 to 15.
-const NAMELESS: [u16; 7] = [0x0200, 0x0400, 0x0800, 0x1000, 0x2000, 0x4000, 0x8000];
+/// Required in a plain cell, and beside each kind that goes with it.
+const REQUIRED_KINDS: [u16; 3] = [REQUIRED, REQUIRED | NUMERIC, REQUIRED | ALPHABETIC];
+/// Required beside protected, and beside two kinds at once.
+const WRONGLY_REQUIRED: [u16; 4] = [
+    REQUIRED | PROTECTED,
+    REQUIRED | PROTECTED | NUMERIC,
+    REQUIRED | PROTECTED | ALPHABETIC,
+    REQUIRED | NUMERIC | ALPHABETIC,
+];
 
-/// Each kind alone, which is in range; two kinds at once and each bit without a name, which aren't.
+/// Bits 10 to 15.
+const NAMELESS: [u16; 6] = [0x0400, 0x0800, 0x1000, 0x2000, 0x4000, 0x8000];
+
+/// Each kind, required or not, which is in range; two kinds at once, required ones that can't be, and each bit
+/// without a name, which aren't.
 fn kinds_and_nameless() -> Vec<u16> {
-    [&KIND_BITS[..], &TWO_KINDS, &NAMELESS].concat()
+    [&KIND_BITS[..], &REQUIRED_KINDS, &TWO_KINDS, &WRONGLY_REQUIRED, &NAMELESS].concat()
 }
 
-/// A bit without a name beside each kind, and beside each other one.
+/// A bit without a name beside each kind, beside required, and beside each other one.
 fn nameless_pairs() -> Vec<u16> {
-    let others = |bit| KIND_BITS.into_iter().chain(NAMELESS).filter(move |&other| other < bit);
+    let named = KIND_BITS.into_iter().chain([REQUIRED]);
+    let others = |bit| named.clone().chain(NAMELESS).filter(move |&other| other < bit);
     NAMELESS.into_iter().flat_map(|bit| others(bit).map(move |other| bit | other)).collect()
 }
 
 /// Marks out of range, whatever bits 1 to 6 are beside.
 fn wrong_marks() -> Vec<u16> {
-    [&TWO_KINDS[..], &NAMELESS, &[PROTECTED | NUMERIC | ALPHABETIC, 0xFF80, 0xFE00]].concat()
+    let many = [PROTECTED | NUMERIC | ALPHABETIC, 0xFF80, 0xFE00, 0xFC00];
+    [&TWO_KINDS[..], &WRONGLY_REQUIRED, &NAMELESS, &many].concat()
 }
 
 struct Sweep {
@@ -129,13 +144,15 @@ impl Sweep {
             self.emit(&character(place, wrong[count % wrong.len()]));
             self.probe(place % 2 == 0);
             self.emit(&character(place, 0x20));
-            self.emit(&marks(place, wrong_marks[count % wrong_marks.len()] | count as u16 % 0x80));
+            let others = count as u16 % 0x80;
+            self.emit(&marks(place, wrong_marks[count % wrong_marks.len()] | others));
             self.probe(place % 2 != 0);
             self.emit(&marks(place, 0));
         }
     }
 
-    /// Values for the first cell's marks, the last's, one's between them, and for the pen, each put back after two calls.
+    /// Values for the first cell's marks, the last's, one's between them, and for the pen, each put back after two
+    /// calls.
     fn marks_and_pen(&mut self, values: &[u16]) {
         let cells = self.cells;
         for &value in values {
@@ -156,7 +173,7 @@ impl Sweep {
     fn characters_at_kinds(&mut self) {
         self.start(24, 80);
         self.emit(&marks(2, PROTECTED));
-        for kind in [0, NUMERIC, ALPHABETIC] {
+        for kind in [0, NUMERIC, ALPHABETIC].into_iter().chain(REQUIRED_KINDS) {
             self.emit(&marks(0, kind));
             self.emit(&marks(1, 0));
             for code in 0x20..=0x7E {
@@ -174,13 +191,48 @@ impl Sweep {
         }
     }
 
+    /// A field of three cells over a row's end and one modified cell elsewhere, all else protected: any of the three
+    /// required, any with a character, modified or not; key 266 in both settings, with no room and with enough.
+    fn required_fields(&mut self) {
+        const FIELD: Range<usize> = 78..81;
+        const MODIFIED_CELL: usize = 1_000;
+        self.start(24, 80);
+        self.emit(b"\x21\x1BV");
+        self.emit(&[&long(0x22, self.cells)[..], b" "].concat());
+        let bit = |bits: usize, cell: usize| bits >> cell & 1 == 1;
+        for required in 0..8 {
+            for filled in 0..8 {
+                for (cell, place) in FIELD.enumerate() {
+                    let code = if bit(filled, cell) { b"x.!"[cell] } else { b' ' };
+                    self.emit(&character(place, code));
+                }
+                for way in 0..8 {
+                    let (full, modified) = (bit(way, 0), bit(way, 1));
+                    self.emit(&field(FULL, full.into()));
+                    self.emit(&long(0x25, if bit(way, 2) { 0 } else { ROOM }));
+                    self.emit(&marks(MODIFIED_CELL, MODIFIED));
+                    for (cell, place) in FIELD.enumerate() {
+                        let modified = if modified && cell == 1 { MODIFIED } else { 0 };
+                        let required = if bit(required, cell) { REQUIRED } else { 0 };
+                        self.emit(&marks(place, required | modified));
+                    }
+                    self.emit(&long(0x23, 266));
+                }
+            }
+        }
+        self.emit(&long(0x25, ROOM));
+    }
+
     /// Each part of a fresh terminal's state at values around its limits, and put back.
     fn parts(&mut self, rows: u16, columns: u16, numbers: Range<usize>) {
         let fresh = [rows, columns, 1, 1];
         for number in numbers {
             let values = match number {
                 0..=3 => vec![0, 1, rows, rows + 1, columns, columns + 1, 48, 160, 65_535],
-                4 => vec![1, 2, 3, 4, 32, 124, 127, 128, 130, 252, 255, 256, 380, 511, 65_535],
+                4 => vec![
+                    1, 2, 3, 4, 32, 124, 127, 128, 130, 252, 255, 256, 380, 511, 512, 513, 514,
+                    636, 640, 764, 768, 892, 896, 1_023, 1_024, 65_535,
+                ],
                 8 | 9 | 11 => vec![1, 2, 3, 4, 5, 6, 32, 127, 128, 255],
                 REFUSED_AT => vec![1, 127, 128, 255, 256],
                 12..=19 => vec![1, 9_999, 10_000, 65_535],
@@ -313,7 +365,9 @@ impl Generator {
         if !self.plan.is_empty() {
             return;
         }
-        match self.random.below(180) {
+        match self.random.below(196) {
+            189.. => self.plan_required_form(),
+            183.. => self.plan_required_cells(),
             166.. => self.plan_private(),
             150.. => self.plan_sending(),
             146.. => self.plan_long(),
@@ -496,23 +550,31 @@ impl Generator {
         }
     }
 
-    /// Marks or a pen, most often out of range by two kinds at once or by a bit without a name.
+    /// Marks or a pen, most often out of range by two kinds at once, by required beside protected, or by a bit
+    /// without a name.
     fn odd_marks(&mut self) -> u16 {
         let others = self.random.below(0x80) as u16 & !PROTECTED;
-        match self.random.below(12) {
+        match self.random.below(16) {
             0..=2 => self.random.pick(&TWO_KINDS) | others,
             3 => self.random.pick(&TWO_KINDS),
             4..=7 => self.random.pick(&NAMELESS) | others,
             8 => self.random.pick(&KIND_BITS) | others,
-            9 => self.random.pick(&[0x0003, 0x007F, 0x0082, 0x0102, 0x01FF, 0xFFFF]),
-            10 => self.random.below(0x200) as u16,
+            9 => {
+                self.random.pick(&[0x0003, 0x007F, 0x0082, 0x0102, 0x01FF, 0x0202, 0x03FF, 0xFFFF])
+            }
+            10 => self.random.below(0x400) as u16,
+            11 => self.random.pick(&WRONGLY_REQUIRED),
+            12 => REQUIRED | PROTECTED | others,
+            13 | 14 => self.random.pick(&REQUIRED_KINDS) | others,
             _ => self.random.below(0x1_0000) as u16,
         }
     }
 
-    /// Marks in range, half of them protected.
+    /// Marks in range, half of them protected, and some required.
     fn good_marks(&mut self) -> u16 {
-        let kind = self.random.pick(&[PROTECTED, PROTECTED, PROTECTED, 0, NUMERIC, ALPHABETIC]);
+        let unprotected = self.random.pick(&[0, NUMERIC, ALPHABETIC]);
+        let required = if self.random.chance(30) { REQUIRED } else { 0 };
+        let kind = if self.random.chance(50) { PROTECTED } else { unprotected | required };
         self.random.below(0x80) as u16 & !PROTECTED | kind
     }
 
@@ -587,14 +649,77 @@ impl Generator {
 
     fn plan_sending(&mut self) {
         for part in self.stream().sending() {
-            match part {
-                Part::Key(key) => self.push(long(0x23, key as usize)),
-                Part::Host(bytes) => {
-                    let most = self.random.pick(&[255, 255, 7, 2]);
-                    bytes.chunks(most).for_each(|part| self.push([&[0x21][..], part].concat()));
-                }
+            self.push_part(part);
+        }
+    }
+
+    fn push_part(&mut self, part: Part) {
+        match part {
+            Part::Key(key) => self.push(long(0x23, key as usize)),
+            Part::Host(bytes) => {
+                let most = self.random.pick(&[255, 255, 7, 2]);
+                bytes.chunks(most).for_each(|part| self.push([&[0x21][..], part].concat()));
             }
         }
+    }
+
+    /// The same forms as in transcripts, with little room for some of their blocks.
+    fn plan_required_form(&mut self) {
+        for part in self.stream().required_form() {
+            let sends = matches!(part, Part::Key(266));
+            if sends && self.random.chance(50) {
+                self.push_send_with_little_room();
+            } else {
+                self.push_part(part);
+            }
+        }
+    }
+
+    /// Key 266 with less room than most blocks need, and the large room again.
+    fn push_send_with_little_room(&mut self) {
+        let room = match self.random.below(8) {
+            0..=2 => 0,
+            3 => 1,
+            4..=6 => self.random.between(2, 40),
+            _ => self.random.between(41, 8_000),
+        };
+        self.push(long(0x25, room));
+        self.push(long(0x23, 266));
+        self.push(long(0x25, ROOM));
+    }
+
+    /// One field put by hand between two protected cells, some of its cells required and most of them 20; then key
+    /// 266 in both settings, and again with a character there, as a blank field would hold back the blocks to come.
+    fn plan_required_cells(&mut self) {
+        let length = self.random.between(1, 4);
+        let width = usize::from(self.size.1);
+        let row_end = self.random.between(1, usize::from(self.size.0) - 1) * width;
+        let start = match self.random.below(3) {
+            0 => self.random.between(1, self.cells() - length - 1),
+            _ => row_end - self.random.between(1, length),
+        };
+        self.push(marks(start - 1, PROTECTED));
+        self.push(marks(start + length, PROTECTED));
+        for place in start..start + length {
+            let others = self.random.pick(&[0, 0, 0, MODIFIED, 0x7E]);
+            let kind = self.random.pick(&[0, NUMERIC, ALPHABETIC]);
+            let required = self.random.pick(&[0, REQUIRED]);
+            let code = self.random.pick(b"          .-0A");
+            self.push(marks(place, required | kind | others));
+            self.push(character(place, code));
+        }
+        for lock in [6, 7] {
+            self.push(field(lock, 0));
+        }
+        let full = self.random.below(2) as u16;
+        for full in [full, 1 - full] {
+            self.push(field(FULL, full));
+            self.push_send_with_little_room();
+        }
+        let place = start + self.random.below(length);
+        let code = self.random.pick(b".x0#");
+        self.push(character(place, code));
+        self.push(long(0x23, 266));
     }
 
     /// Any message up to two past the last, any byte, or both; the two need not go together.
@@ -691,6 +816,8 @@ impl Generator {
         let mut characters = self.calls.characters[..lent.0].to_vec();
         let mut marks = self.calls.marks[..lent.1].to_vec();
         (state.full, state.manual, state.soft) = (full, false, false);
+        // A blank field that is required holds the block back, but has its length all the same.
+        marks.iter_mut().for_each(|marks| *marks &= !REQUIRED);
         let mut output = vec![0; ROOM];
         terminal::key(&mut state, &mut characters, &mut marks, 266, &mut output).sent
     }
@@ -794,7 +921,14 @@ impl Generator {
         let start = self.random.between(0, self.cells() - length);
         for place in start..start + length {
             let others = self.random.pick(&[0, 0, MODIFIED, 0x7E]);
-            let kind = self.random.pick(&[NUMERIC, ALPHABETIC, NUMERIC, ALPHABETIC, 0, PROTECTED]);
+            let kind = self.random.pick(&[
+                NUMERIC,
+                ALPHABETIC,
+                NUMERIC | REQUIRED,
+                ALPHABETIC,
+                0,
+                PROTECTED,
+            ]);
             let value = if self.random.chance(3) { self.odd_marks() } else { kind | others };
             let code = self.random.pick(b"   -.-.0909OlAz,+/:");
             self.push(marks(place, value));

@@ -1,4 +1,5 @@
-//! A second terminal after document 01, M-101, M-102, M-103 and M-106, to be compared byte for byte with another.
+//! A second terminal after document 01, M-101, M-102, M-103, M-106 and M-107, to be compared byte for byte with
+//! another.
 
 mod bytes;
 mod compare;
@@ -7,6 +8,7 @@ mod frames;
 mod generate;
 mod generate_calls;
 mod random;
+mod required;
 mod rooms;
 mod streams;
 mod teeth;
@@ -26,6 +28,7 @@ const USAGE: &str = "usage: second [--wrong N] COMMAND
   sweep PROGRAM..                                   its `calls`, with damage everywhere and every byte in turn
   rooms PROGRAM..                                   its `calls`, at every room up to a message's length
   bytes PROGRAM..                                   its `dump`, every byte after beginnings of ESC [ > 6, whole and cut
+  required SEED_FROM SEED_COUNT FRAMES              how often 266 is given 9, and that it sends no blank required field
   stream FILE ROWS COLUMNS CALL BYTES               that many of the file's bytes, in calls of one length, timed
   teeth SEED_FROM SEED_COUNT FRAMES";
 
@@ -76,6 +79,9 @@ fn run(arguments: &[String]) -> Result<bool, String> {
             let told =
                 feed::stream(file, rows, columns, number(call)? as usize, number(bytes)? as usize)?;
             print(told.as_bytes())
+        }
+        ["required", from, count, frames] => {
+            Ok(required::required(number(from)?, number(count)?, number(frames)? as usize))
         }
         ["teeth", from, count, frames] => {
             Ok(teeth::teeth(number(from)?, number(count)?, number(frames)? as usize))

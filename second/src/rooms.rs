@@ -1,5 +1,5 @@
-//! Room, one byte at a time: every output room from 0 up to a message's length, on several pages, by another program's `calls`.
-//! What is looked for is said of the answers themselves, and not by this program's terminal.
+//! Room, one byte at a time: every output room from 0 up to a message's length, on several pages, by another program's
+//! `calls`. What is looked for is said of the answers themselves, and not by this program's terminal.
 
 use crate::compare::run;
 
@@ -27,6 +27,8 @@ struct Page {
     rows: usize,
     columns: usize,
     frames: Vec<String>,
+    /// A cell of each required field that is blank; key 266 is held back until a character is typed in all of them.
+    blank: Vec<(usize, usize)>,
 }
 
 impl Page {
@@ -47,27 +49,63 @@ impl Page {
             "211B57".into(),
         ];
         for &(row, column, length) in fields {
-            frames.push(format!(
-                "21{}",
-                hex(format!("\x1B[{row};{column}f{}", "x".repeat(length)).as_bytes())
-            ));
+            frames.push(go_and_put(row, column, &"x".repeat(length)));
         }
         frames.push("2300000106".into());
         frames.push("2300000041".into());
-        Page { name, rows, columns, frames }
+        Page { name, rows, columns, frames, blank: Vec::new() }
     }
+
+    /// One more field, which pens and text make.
+    fn field(mut self, row: usize, column: usize, made: &str) -> Page {
+        self.frames.push(go_and_put(row, column, &format!("{made}\x1BW")));
+        self
+    }
+
+    /// The same, required and blank.
+    fn blank_field(mut self, row: usize, column: usize, made: &str) -> Page {
+        self.blank.push((row, column));
+        self.field(row, column, made)
+    }
+
+    /// The same, made blank by a key, and so modified.
+    fn blanked_field(self, row: usize, column: usize, made: &str) -> Page {
+        let mut page = self.blank_field(row, column, made);
+        page.frames.extend([go_and_put(row, column, ""), "2300000107".into()]);
+        page
+    }
+}
+
+fn go_and_put(row: usize, column: usize, bytes: &str) -> String {
+    host(format!("\x1B[{row};{column}f{bytes}").as_bytes())
 }
 
 fn pages() -> Vec<Page> {
     let every_row: Vec<_> = (1..=24).map(|row| (row, 2 * row, 3)).collect();
     let dense: Vec<_> = (1..=60).map(|place| (27, 2 * place, 1)).collect();
     let ends = [(1, 1, 2), (3, 79, 5), (24, 79, 2)];
+    let form = |name| Page::new(name, 24, 80, &[(3, 15, 3), (24, 80, 1)]);
+    let wide_form = |name| Page::new(name, 48, 160, &[(3, 15, 3), (48, 160, 1)]);
     vec![
         Page::new("three fields", 24, 80, &[(3, 15, 3), (4, 15, 2), (24, 80, 1)]),
         Page::new("fields over a row's end and at both ends", 24, 80, &ends),
         Page::new("a field in every row", 24, 80, &every_row),
         Page::new("sixty fields in the last row", 27, 132, &dense),
         Page::new("no field", 48, 160, &[]),
+        form("required fields, none blank")
+            .field(4, 15, "\x1B[3o\x1B[20o  1")
+            .field(5, 79, ".\x1B[20o   ")
+            .field(7, 1, "\x1B[4o\x1B[20o-"),
+        form("one of three required fields blank")
+            .field(4, 15, "\x1B[20oxx")
+            .field(6, 3, "\x1B[3o\x1B[20o 0 ")
+            .blank_field(9, 9, "\x1B[20o  "),
+        form("blank over a row's end, required behind it").blank_field(5, 79, "  \x1B[3o\x1B[20o "),
+        form("required blanked by key").blanked_field(2, 2, "\x1B[4o\x1B[20oabc"),
+        wide_form("three required fields blank")
+            .blank_field(1, 1, "\x1B[20o \x1B[0o ")
+            .blank_field(6, 60, "\x1B[3o\x1B[20o ")
+            .blank_field(48, 100, " \x1B[4o\x1B[20o "),
     ]
 }
 
@@ -226,8 +264,8 @@ fn learn(program: &[String], page: &Page, message: &Message) -> Result<Known, St
     Ok(Known { painted, whole: told[1][0].clone(), state_without_last: without_last.state.clone() })
 }
 
-/// Where the room lacks: 3, the bytes before the last are taken, and nothing else changes; what is not taken, with room enough,
-/// then ends as one call does.
+/// Where the room lacks: 3, the bytes before the last are taken, and nothing else changes; what is not taken, with room
+/// enough, then ends as one call does.
 fn lacking(message: &Message, known: &Known, told: &[Told]) -> Result<(), String> {
     ensure(
         told[0].number == "03" && told[0].taken == message.before_last,
@@ -272,6 +310,33 @@ fn every_room(program: &[String], page: &Page, message: &Message) -> Result<Told
     Ok(known.whole)
 }
 
+/// Key 266 where a required field is blank: at every room up to a full block's length, and with enough, 9, and nothing
+/// changes. Then the fields are filled, and the last one lets it send. Gives that length.
+fn held_back(program: &[String], page: &Page, message: &Message) -> Result<usize, String> {
+    let full = tell(program, &[painting(page, message), vec![room(ENOUGH), host(b"\x1BS")]])?;
+    let painted = full[0].last().ok_or("no page")?;
+    let length = full[1][0].sent;
+    ensure(full[1][0].number == "00" && length > 0, "no full block by command")?;
+    let mut groups = vec![painting(page, message)];
+    let all = (0..=length).chain([ENOUGH]);
+    groups.extend(all.clone().map(|bytes| vec![room(bytes), message.whole.clone()]));
+    let fill = |&(row, column): &(usize, usize)| {
+        vec![go_and_put(row, column, ""), "230000002E".into(), message.whole.clone()]
+    };
+    groups.extend(page.blank.iter().map(fill));
+    let told = tell(program, &groups)?;
+    for (bytes, told) in all.zip(&told[1..]) {
+        let held = told[0].number == "09" && told[0].taken == 0 && told[0].state == painted.state;
+        let what = format!("room {bytes}: not 9, or something changed");
+        ensure(held && nothing(painted, &told[0]), &what)?;
+    }
+    for (still_blank, told) in told.iter().rev().take(page.blank.len()).enumerate() {
+        let number = if still_blank == 0 { "00" } else { "09" };
+        ensure(told[2].number == number, &format!("{still_blank} still blank: not {number}"))?;
+    }
+    Ok(length)
+}
+
 /// True if every room is answered as document 01 says.
 pub fn rooms(program: &[String]) -> Result<bool, String> {
     for page in pages() {
@@ -279,8 +344,13 @@ pub fn rooms(program: &[String]) -> Result<bool, String> {
         for message in messages() {
             let place =
                 format!("{} ({} by {}), {}", page.name, page.rows, page.columns, message.name);
-            let whole = every_room(program, &page, &message)
-                .map_err(|error| format!("{place}: {error}"))?;
+            let at_place = |error| format!("{place}: {error}");
+            if message.parts.is_none() && !page.blank.is_empty() {
+                let length = held_back(program, &page, &message).map_err(at_place)?;
+                println!("{place}: 9 at rooms 0 to {length}");
+                continue;
+            }
+            let whole = every_room(program, &page, &message).map_err(at_place)?;
             println!("{place}: rooms 0 to {}", whole.sent);
             if message.full {
                 let first = full_block.get_or_insert_with(|| whole.bytes.clone());

@@ -1,7 +1,8 @@
 //! Plausible and implausible host streams and key bursts, aimed at the page they will meet.
 
 use crate::random::Random;
-use crate::terminal::{State, COLUMNS, KINDS, PROTECTED, ROWS};
+use crate::terminal::{State, COLUMNS, KINDS, PROTECTED, REQUIRED, ROWS};
+use std::ops::Range;
 
 const FINALS: &[u8] = b"ABCDEFGdHfIZWJKmhlnoHfmJKGo";
 /// Final bytes after ESC [, and second bytes after ESC, that no command has.
@@ -32,7 +33,35 @@ const UNPROTECTED_KINDS: &[(&str, &[u8])] = &[
     ("\x1B[03o", DIGITS),
     ("\x1B[4o", LETTERS),
     ("\x1B[4o", LETTERS),
+    ("\x1B[3o\x1B[20o", DIGITS),
 ];
+/// Pens with required: after each kind, by value, twice, taken off and added again, and with `m` behind.
+const REQUIRED_PENS: &[&str] = &[
+    "\x1BW\x1B[20o",
+    "\x1B[0o\x1B[20o",
+    "\x1B[o\x1B[020o",
+    "\x1B[3o\x1B[20o",
+    "\x1B[3o\x1B[20o\x1B[20o",
+    "\x1B[3o\x1B[20o\x1B[0m",
+    "\x1B[4o\x1B[20o",
+    "\x1B[4o\x1B[00020o\x1B[20o",
+    "\x1B[3o\x1B[20o\x1B[4o\x1B[20o",
+];
+/// Pens without: it was never there, or one of the commands that can has taken it off.
+const NOT_REQUIRED_PENS: &[&str] = &[
+    "\x1BW",
+    "\x1B[3o",
+    "\x1B[4o",
+    "\x1BW\x1B[20o\x1BW",
+    "\x1B[3o\x1B[20o\x1B[0o",
+    "\x1BW\x1B[20o\x1B[o",
+    "\x1B[3o\x1B[20o\x1B[3o",
+    "\x1B[0o\x1B[20o\x1B[20o\x1B[4o",
+    "\x1B[4o\x1B[20o\x1BV\x1B[3o",
+    "\x1BW\x1B[20o\x1B[1o\x1BW",
+];
+/// One of these among 20s fills a field; some of them not every kind of cell takes, and some look nearly blank.
+const FILLING: &[u8] = b"...-_0179AzO,!";
 
 /// The send mode's commands as they are taken: the number is read by its value.
 const SEND_MODES: &[&str] =
@@ -56,6 +85,7 @@ pub const BEGUN: &[&str] = &[
     "\x1B #",
     "\x1B[",
     "\x1B[1",
+    "\x1B[20",
     "\x1B[6;6",
     "\x1B[;;;;;;;",
     "\x1B[?",
@@ -128,9 +158,10 @@ impl<'a> Stream<'a> {
         self.marks.get(place).map_or(false, |marks| marks & PROTECTED != 0)
     }
 
-    /// Both protected, or both numeric, and so on.
+    /// Both protected, or both numeric, and so on, and both required or neither.
     fn same_kind(&self, one: usize, other: usize) -> bool {
-        let kind = |place: usize| self.marks.get(place).map_or(0, |marks| marks & KINDS);
+        let kind =
+            |place: usize| self.marks.get(place).map_or(0, |marks| marks & (KINDS | REQUIRED));
         kind(one) == kind(other)
     }
 
@@ -297,7 +328,7 @@ impl<'a> Stream<'a> {
     fn start_of_field(&mut self, length: usize) -> usize {
         let width = usize::from(self.columns);
         let rows = usize::from(self.rows);
-        let before = self.random.between(1, length - 1);
+        let before = self.random.between(1, (length - 1).clamp(1, width - 1));
         match self.random.below(10) {
             0..=4 => self.random.between(1, rows - 1) * width - before,
             5 => rows * width - before,
@@ -502,7 +533,7 @@ impl<'a> Stream<'a> {
             b'm' => &[0, 1, 4, 5, 7, 8],
             b'h' | b'l' => &[6],
             b'n' => &[5, 6],
-            b'o' => &[0, 1, 3, 4, 0, 1, 3, 4, 3, 4, 2, 5, 20],
+            b'o' => &[0, 1, 3, 4, 0, 1, 3, 4, 3, 4, 2, 5, 20, 20],
             _ => &[0, 1, 2, 5, 6],
         };
         let number = match last {
@@ -714,6 +745,162 @@ impl<'a> Stream<'a> {
         }
     }
 
+    /// Of a field's cells, those that are required: all, some at either end, one, those that the row's end
+    /// cuts off, or none.
+    fn required_cells(&mut self, start: usize, length: usize) -> Range<usize> {
+        let width = usize::from(self.columns);
+        let in_first_row = length.min(width - start % width);
+        let some = self.random.between(1, length);
+        match self.random.below(10) {
+            0..=2 => 0..length,
+            3 => 0..self.random.pick(&[1, 1, some]),
+            4 | 5 => length - some..length,
+            6 => some - 1..some,
+            7 | 8 => in_first_row..length,
+            _ => 0..0,
+        }
+    }
+
+    /// All 20s, half the time; else one character among them, or several.
+    fn nearly_blank(&mut self, length: usize) -> Vec<u8> {
+        let mut text = vec![b' '; length];
+        let characters = self.random.pick(&[0, 0, 0, 0, 0, 1, 1, 1, 1, length]);
+        for _ in 0..characters {
+            let place = self.random.below(length);
+            text[place] = self.random.pick(FILLING);
+        }
+        text
+    }
+
+    /// A field with required cells, or none, between protected ones; where it starts, and its length.
+    fn required_field(&mut self) -> (usize, usize) {
+        let width = usize::from(self.columns);
+        let length = match self.random.below(10) {
+            0 | 1 => 1,
+            2 => self.random.between(width + 1, width + 6),
+            _ => self.random.between(2, 8),
+        };
+        let start = self.start_of_field(length);
+        let required = self.required_cells(start, length);
+        let text = self.nearly_blank(length);
+        self.goto(self.cell(start - 1));
+        self.protect();
+        self.put(b"|");
+        for (cells, pens) in [
+            (0..required.start, NOT_REQUIRED_PENS),
+            (required.clone(), REQUIRED_PENS),
+            (required.end..length, NOT_REQUIRED_PENS),
+        ] {
+            if !cells.is_empty() {
+                let pen = self.random.pick(pens);
+                self.put(pen.as_bytes());
+                self.put(&text[cells]);
+            }
+        }
+        self.protect();
+        self.put(b"|");
+        self.unprotect();
+        (start, length)
+    }
+
+    /// A form of required fields, blank or not, and blocks by key in both settings and by command, with
+    /// fields filled, blanked, erased or moved in between. Most often none stays blank, as that would hold
+    /// back all later blocks of the page.
+    pub fn required_form(mut self) -> Vec<Part> {
+        let mut parts = Vec::new();
+        self.escape(b'b');
+        if self.random.chance(80) {
+            self.erase_all();
+        }
+        let count = self.random.pick(&[1, 1, 1, 2, 2, 3, 4]);
+        let fields: Vec<_> = (0..count).map(|_| self.required_field()).collect();
+        self.end_part(&mut parts);
+        for _ in 0..self.random.between(2, 4) {
+            let field = self.random.pick(&fields);
+            self.change_required(field, &mut parts);
+            self.send_required(&mut parts);
+        }
+        match self.random.below(10) {
+            0..=4 => fields.iter().for_each(|&field| self.fill(field)),
+            5..=7 => self.erase_all(),
+            _ => return parts,
+        }
+        self.end_part(&mut parts);
+        self.send_required(&mut parts);
+        parts
+    }
+
+    fn erase_all(&mut self) {
+        let erased = self.random.pick(&["\x1Bc", "\x1BW\x1B[6h\x1B[2J\x1B[6l"]);
+        self.put(erased.as_bytes());
+    }
+
+    /// A character of the host in the first cell and in the last, as the page's end may lie between them.
+    fn fill(&mut self, (start, length): (usize, usize)) {
+        for place in [start, start + length - 1] {
+            self.goto_round(place);
+            let pen = self.random.pick(REQUIRED_PENS);
+            self.put(pen.as_bytes());
+            self.put(b"7");
+        }
+    }
+
+    fn goto_round(&mut self, place: usize) {
+        let cells = usize::from(self.rows) * usize::from(self.columns);
+        self.goto(self.cell(place % cells));
+    }
+
+    /// Something that fills a field or makes it blank, or makes it no required field, or nothing.
+    fn change_required(&mut self, (start, length): (usize, usize), parts: &mut Vec<Part>) {
+        let cell = self.random.below(length);
+        self.goto_round(start + cell);
+        match self.random.below(24) {
+            0..=3 => self.bytes.clear(),
+            4 => self.text(1),
+            5 => {
+                let part = self.random.pick(&["K", "1K", "2K"]);
+                self.put(format!("\x1B[{part}").as_bytes());
+            }
+            6 => self.scroll(),
+            // The pen is protected, so this is refused, and locks the keys.
+            7 | 8 => {
+                self.protect();
+                self.put(b"\x1B[20o");
+            }
+            _ => {}
+        }
+        self.end_part(parts);
+        let keys = match self.random.below(12) {
+            0..=2 => vec![263],
+            3 => vec![u32::from(b' ')],
+            4..=6 => vec![self.random.pick(FILLING).into()],
+            7 => vec![typed(self.random), 258, self.random.pick(&[264, 265])],
+            8 => vec![typed(self.random), 263],
+            9 => vec![260, typed(self.random)],
+            _ => vec![],
+        };
+        parts.extend(keys.into_iter().map(Part::Key));
+    }
+
+    /// Key 266 with the mode as it is or switched, ESC S, or both.
+    fn send_required(&mut self, parts: &mut Vec<Part>) {
+        if self.random.chance(40) {
+            self.send_mode();
+            self.end_part(parts);
+        }
+        // What was refused locks the keys.
+        if self.random.chance(80) {
+            parts.push(Part::Key(268));
+        }
+        let by_command = || Part::Host(b"\x1BS".to_vec());
+        match self.random.below(10) {
+            0..=6 => parts.push(Part::Key(266)),
+            7 => parts.extend([Part::Key(266), by_command()]),
+            8 => parts.extend([by_command(), Part::Key(266)]),
+            _ => parts.push(by_command()),
+        }
+    }
+
     /// One sequence, after locks are lifted, so that its refusal shows alone.
     pub fn probe(mut self) -> Vec<u8> {
         self.escape(b'b');
@@ -801,7 +988,11 @@ impl<'a> Stream<'a> {
             b'h' | b'l' => self.list_with_one(&["6"], &["0", "", "5", "7", "66", "9999"]),
             b'n' => self.random.pick(&["", "0", "1", "4", "7", "56", "9999"]).into(),
             b'W' => self.random.pick(&["1", "3", "4", "6", "25", "9999"]).into(),
-            b'o' => self.random.pick(&["2", "5", "6", "20", "02", "34", "259", "9999"]).into(),
+            b'o' if self.random.chance(35) => {
+                self.protect();
+                self.random.pick(&["20", "20", "020"]).into()
+            }
+            b'o' => self.random.pick(&["2", "5", "6", "19", "21", "02", "34", "9999"]).into(),
             _ => self.random.pick(&["3", "4", "12", "9999"]).into(),
         };
         self.put(format!("\x1B[{list}").as_bytes());
@@ -878,13 +1069,13 @@ impl<'a> Stream<'a> {
     }
 
     fn refusal(&mut self) {
-        match self.random.below(15) {
+        match self.random.below(16) {
             0..=3 => self.unknown(),
             4 | 5 => self.too_many(),
             6 | 7 => self.value_not_allowed(),
             8 | 9 => self.spoilt(),
-            10 => self.private_form(),
-            11 | 12 => self.broken_off(),
+            10 | 11 => self.private_form(),
+            12 | 13 => self.broken_off(),
             _ => self.high(),
         }
     }

@@ -1,7 +1,9 @@
 //! The terminal of document 01 with request M-101's fields, M-102's messages, M-103's numeric and
-//! alphabetic cells and M-106's send mode: page, state, host bytes, commands, keys, blocks, numbers.
+//! alphabetic cells, M-106's send mode and M-107's required fields: page, state, host bytes, commands,
+//! keys, blocks, numbers.
 
 use crate::wrong;
+use std::ops::Range;
 
 pub const PROTECTED: u16 = 0x0001;
 pub const MODIFIED: u16 = 0x0002;
@@ -10,6 +12,8 @@ pub const NUMERIC: u16 = 0x0080;
 pub const ALPHABETIC: u16 = 0x0100;
 /// What DAQ sets: a cell or pen has one of these at most, and is plain and unprotected without.
 pub const KINDS: u16 = PROTECTED | NUMERIC | ALPHABETIC;
+/// Beside any kind but protected: the cell's field must not be blank when key 266 sends.
+pub const REQUIRED: u16 = 0x0200;
 
 pub const ROWS: [u16; 3] = [24, 27, 48];
 pub const COLUMNS: [u16; 3] = [80, 132, 160];
@@ -253,9 +257,12 @@ pub fn good_character(byte: u8) -> bool {
     (0x20..=0x7E).contains(&byte)
 }
 
-/// No bit but those named, and not two kinds at once.
+/// No bit but those named, not two kinds at once, and required only beside one that isn't protected.
 pub fn good_marks(marks: u16) -> bool {
-    marks & !(KINDS | MODIFIED | VISUAL) == 0 && (marks & KINDS).count_ones() <= 1
+    match marks & !(MODIFIED | VISUAL) {
+        PROTECTED => true,
+        kind => matches!(kind & !REQUIRED, 0 | NUMERIC | ALPHABETIC),
+    }
 }
 
 /// Whether a key may put a character into a cell with these marks: where it is numeric or
@@ -350,8 +357,13 @@ pub fn key(
         (_, _, true) if wrong::is(54) && screen.key_meets_untaking_cell(key) => 8,
         (_, _, true) => 7,
         _ if screen.key_meets_untaking_cell(key) => 8,
+        _ if wrong::is(69) && screen.key_is_held_back(key) && screen.wrongly_lacks_room() => 3,
+        _ if screen.key_is_held_back(key) => 9,
         _ => 0,
     };
+    if number == 9 && wrong::is(70) {
+        screen.clear_modified();
+    }
     if number != 0 {
         return Answer::nothing(number);
     }
@@ -414,6 +426,21 @@ impl Screen<'_> {
         beyond.find(|&p| self.protected(p) || self.wrongly_ends(p)).unwrap_or(self.cells())
     }
 
+    /// All fields of the page, in page order.
+    fn fields(&self) -> impl Iterator<Item = Range<usize>> + '_ {
+        let mut place = 0;
+        std::iter::from_fn(move || {
+            let start = (place..self.cells()).find(|&p| self.starts_field(p))?;
+            place = self.field_end(start);
+            Some(start..place)
+        })
+    }
+
+    /// Whether some cell of these has one of these marks.
+    fn marked(&self, mut cells: Range<usize>, marks: u16) -> bool {
+        cells.any(|place| self.marks[place] & marks != 0)
+    }
+
     /// Wrong edit 11's limit.
     fn wrongly_ends(&self, place: usize) -> bool {
         wrong::is(11) && place % self.width() == 0
@@ -473,21 +500,14 @@ impl Screen<'_> {
     /// Each field sent, in page order: its place and all its characters; then 03.
     fn block(&self, changed: bool) -> Vec<u8> {
         let mut bytes = Vec::new();
-        let mut place = 0;
-        while place < self.cells() {
-            if !self.starts_field(place) {
-                place += 1;
-                continue;
-            }
-            let end = self.field_end(place);
-            let looked_at = if wrong::is(34) { place + 1 } else { end };
-            let modified = self.marks[place..looked_at].iter().any(|m| m & MODIFIED != 0);
-            if modified || !changed {
-                let (row, column) = (place / self.width() + 1, place % self.width() + 1);
+        for field in self.fields() {
+            let Range { start, end } = field;
+            let looked_at = if wrong::is(34) { start + 1 } else { end };
+            if !changed || self.marked(start..looked_at, MODIFIED) {
+                let (row, column) = (start / self.width() + 1, start % self.width() + 1);
                 bytes.extend_from_slice(format!("\x1B[{row};{column}f").as_bytes());
-                bytes.extend_from_slice(&self.characters[place..end]);
+                bytes.extend_from_slice(&self.characters[field]);
             }
-            place = end;
         }
         bytes.push(0x03);
         bytes
@@ -630,9 +650,11 @@ impl Screen<'_> {
             }
             b'M' => self.line_up(),
             b'H' => self.state.set_stop(true),
+            b'V' if wrong::is(73) => self.state.pen = self.state.pen & !KINDS | PROTECTED,
             b'V' => self.set_pen_kind(PROTECTED),
             b'W' if wrong::is(53) => self.set_pen_kind(self.state.pen & NUMERIC),
             b'W' => self.set_pen_kind(0),
+            b'S' if wrong::is(66) && self.has_blank_required_field() => {}
             b'S' => self.send_block(wrong::is(58) && !self.state.full)?,
             b'c' => self.as_fresh(),
             b'`' => self.state.manual = true,
@@ -783,10 +805,12 @@ impl Screen<'_> {
                 _ => return Ok(false),
             },
             b'o' => match number {
+                0 if wrong::is(68) => self.state.pen &= !KINDS,
                 0 => self.set_pen_kind(0),
                 1 => self.set_pen_kind(PROTECTED),
                 3 => self.set_pen_kind(NUMERIC),
                 4 => self.set_pen_kind(ALPHABETIC),
+                20 => return Ok(self.require_of_pen()),
                 _ => return Ok(false),
             },
             _ => return Ok(false),
@@ -794,9 +818,22 @@ impl Screen<'_> {
         Ok(true)
     }
 
-    /// One kind takes the place of another, 0 being plain and unprotected; visual marks stay.
+    /// One kind takes the place of another, 0 being plain and unprotected; required goes, visual
+    /// marks stay.
     fn set_pen_kind(&mut self, kind: u16) {
-        self.state.pen = self.state.pen & !KINDS | kind;
+        self.state.pen = self.state.pen & !(KINDS | REQUIRED) | kind;
+    }
+
+    /// Required comes beside the pen's kind; false if that is protected.
+    fn require_of_pen(&mut self) -> bool {
+        let good = self.state.pen & PROTECTED == 0;
+        if good {
+            self.state.pen |= REQUIRED;
+        }
+        if good && wrong::is(67) {
+            self.state.pen &= !NUMERIC;
+        }
+        good
     }
 
     /// Row and column, each within the page or refused.
@@ -828,7 +865,7 @@ impl Screen<'_> {
         true
     }
 
-    /// The whole list is looked at before the pen changes; its kind stays.
+    /// The whole list is looked at before the pen changes; its kind stays, and required does.
     fn visual_marks(&mut self, arguments: &[u16]) -> bool {
         let mut pen = self.state.pen;
         for argument in arguments {
@@ -880,6 +917,38 @@ impl Screen<'_> {
             }
             _ => false,
         }
+    }
+
+    /// Number 9: a required field of the page is blank, be it in the block or not.
+    fn key_is_held_back(&self, key: u32) -> bool {
+        key == 266 && self.has_blank_required_field()
+    }
+
+    fn has_blank_required_field(&self) -> bool {
+        let mut fields = self.fields();
+        fields.any(|field| {
+            let Range { start, end } = field;
+            let end = if wrong::is(64) { start + 1 } else { end };
+            let passed_by = wrong::is(63) && !self.marked(field, MODIFIED);
+            !passed_by && self.blank_and_required(start..end)
+        })
+    }
+
+    /// One required cell is enough, and one character other than 20, in whichever cells.
+    fn blank_and_required(&self, mut field: Range<usize>) -> bool {
+        let row_end = (field.start / self.width() + 1) * self.width();
+        let end = if wrong::is(72) { field.end.min(row_end) } else { field.end };
+        let filled = |place: usize| match self.characters[place] {
+            _ if wrong::is(65) && self.marks[place] & REQUIRED == 0 => false,
+            b'.' => !wrong::is(71),
+            character => character != b' ',
+        };
+        self.marked(field.start..end, REQUIRED) && !field.any(filled)
+    }
+
+    /// Wrong edit 69's case: the block wouldn't have found room either.
+    fn wrongly_lacks_room(&self) -> bool {
+        self.block(!self.state.full).len() > self.output.len()
     }
 
     fn key(&mut self, key: u32) -> Result<(), NoRoom> {
@@ -945,8 +1014,8 @@ impl Screen<'_> {
         Ok(())
     }
 
-    /// Keeps visual marks and kind, sets modified, and goes on to the next unprotected cell, round
-    /// the page.
+    /// Keeps visual marks, kind and required, sets modified, and goes on to the next unprotected
+    /// cell, round the page.
     fn typed(&mut self, character: u8) {
         let (here, cells) = (self.here(), self.cells());
         let same = self.characters[here] == character;

@@ -1,4 +1,5 @@
-//! Document 01's examples, request M-101's fields, M-102's messages, M-103's kinds of cell and M-106's send mode.
+//! Document 01's examples, request M-101's fields, M-102's messages, M-103's kinds of cell, M-106's send mode and
+//! M-107's required fields.
 
 use crate::bytes;
 use crate::feed::record;
@@ -6,9 +7,10 @@ use crate::frames::{lines, unhex, Calls, Mode, Program, Session};
 use crate::generate::transcript;
 use crate::generate_calls::{calls, sweep};
 use crate::random::Random;
+use crate::required::{has_blank_required_field, Count};
 use crate::streams::{HARDLY_SEND_MODES, NEARLY_SEND_MODES};
 use crate::terminal::{good_marks, host, key, start, Answer, Half, State};
-use crate::terminal::{ALPHABETIC, COLUMNS, MODIFIED, NUMERIC, PROTECTED, ROWS, VISUAL};
+use crate::terminal::{ALPHABETIC, COLUMNS, MODIFIED, NUMERIC, PROTECTED, REQUIRED, ROWS, VISUAL};
 use crate::wrong;
 use std::collections::{BTreeMap, BTreeSet};
 
@@ -58,7 +60,7 @@ impl Page {
         self.state.soft && self.state.message != 0
     }
 
-    /// All that a call given 8 leaves as it was.
+    /// All that a call given 8 or 9 leaves as it was.
     fn all(&self) -> (State, Vec<u8>, Vec<u16>, Vec<u8>) {
         let Page { state, characters, marks, output } = self;
         (state.clone(), characters.clone(), marks.clone(), output.clone())
@@ -444,16 +446,37 @@ fn sweep_sets_kinds_on_every_size() {
             met.insert((size.clone(), &part[0][..6], value(&part[0], 4)));
         }
     }
-    let (kinds, nameless) = ([0x0001, 0x0080, 0x0100], (9..16).map(|bit| 1 << bit));
-    let bits: Vec<u16> = kinds.into_iter().chain(nameless).collect();
+    let named = [PROTECTED, NUMERIC, ALPHABETIC, REQUIRED];
+    let bits: Vec<u16> = named.into_iter().chain((10..16).map(|bit| 1 << bit)).collect();
     let times = |value: u16| met.iter().filter(|met| met.2 == value).count();
     for (place, &bit) in bits.iter().enumerate() {
         assert_eq!(times(bit), 9 * 4, "{bit:04X}");
-        for (other_place, &other) in bits[..place].iter().enumerate() {
-            let everywhere = place < 3 && other_place < 3;
+        for &other in &bits[..place] {
+            let everywhere = place < named.len();
             assert_eq!(times(bit | other), if everywhere { 9 * 4 } else { 4 });
         }
     }
+}
+
+/// Each way to require and fill the three cells, in both settings, modified or not, with room and without.
+#[test]
+fn sweep_sends_required_fields() {
+    let input = sweep();
+    let output = Mode::Calls.run(&input);
+    let mut told = lines(&output);
+    let mut numbers = BTreeMap::new();
+    for line in lines(&input) {
+        let first = told.next().expect("a line a frame");
+        if line == b"230000010A" {
+            *numbers.entry(&first[..2]).or_insert(0) += 1;
+        }
+        if matches!(&line[..2], b"20" | b"21" | b"22" | b"23") {
+            assert!(told.nth(2).is_some());
+        }
+    }
+    // Blank with one of seven sets of required cells; else half have room.
+    let want: [(&[u8], usize); 3] = [(b"00", 57 * 4), (b"03", 57 * 4), (b"09", 7 * 8)];
+    assert_eq!(numbers, BTreeMap::from(want));
 }
 
 /// Message and byte that host bytes leave on a fresh page, read as one call and byte by byte.
@@ -563,7 +586,7 @@ fn values_not_allowed() {
         (b'h', &[6]),
         (b'l', &[6]),
         (b'n', &[5, 6]),
-        (b'o', &[0, 1, 3, 4]),
+        (b'o', &[0, 1, 3, 4, 20]),
     ] {
         for value in (0..200).chain([9_998, 9_999]) {
             let good = allowed.contains(&value);
@@ -784,10 +807,11 @@ fn every_character_in_every_kind() {
     }
 }
 
-/// Marks are in range with at most one of bits 0, 7 and 8, and none of 9 to 15.
+/// Marks are in range with at most one of bits 0, 7 and 8, none of 10 to 15, and 9 only without 0.
 fn marks_in_range(marks: u16) -> bool {
-    let kinds = [0, 7, 8].into_iter().filter(|bit| marks >> bit & 1 == 1).count();
-    kinds < 2 && marks >> 9 == 0
+    let bit = |bit: &u16| marks >> bit & 1 == 1;
+    let kinds = [0, 7, 8].into_iter().filter(bit).count();
+    kinds < 2 && marks >> 10 == 0 && !(bit(&9) && bit(&0))
 }
 
 #[test]
@@ -800,14 +824,17 @@ fn all_marks_in_cell_and_pen() {
         assert_eq!(state.sound(), marks_in_range(marks) && marks & MODIFIED == 0);
         right += usize::from(state.sound());
     }
-    assert_eq!(right, 4 * 32);
+    assert_eq!(right, 7 * 32);
 }
 
 #[test]
-fn two_kinds_or_a_nameless_bit_give_2() {
+fn wrong_marks_give_2() {
     let calls: [fn(&mut Page) -> Answer; 3] =
         [|page| page.host(b"\x1Bc"), |page| page.key(999), |page| page.key(268)];
-    for value in [0x0081, 0x0101, 0x0180, 0x0181, 0x0200, 0x1000, 0x8000, 0x8080, 0xFFFF] {
+    let two_kinds = [0x0081, 0x0101, 0x0180, 0x0181, 0x0380];
+    let required_protected = [0x0201, 0x0203, 0x027D, 0x0281, 0x0301];
+    let nameless = [0x0400, 0x0800, 0x1000, 0x2000, 0x4000, 0x8000, 0x0600, 0x8080, 0xFFFF];
+    for value in two_kinds.into_iter().chain(required_protected).chain(nameless) {
         for place in [0, 1_000, 1_919, usize::MAX] {
             for call in calls {
                 let mut page = Page::fresh();
@@ -849,7 +876,7 @@ fn pen_kinds() {
 
 #[test]
 fn refused_kinds_leave_the_pen() {
-    for bytes in [&b"\x1B[2o"[..], b"\x1B[5o", b"\x1B[20o", b"\x1B[9999o", b"\x1B[3;o", b"\x1B[;4o"]
+    for bytes in [&b"\x1B[2o"[..], b"\x1B[5o", b"\x1B[19o", b"\x1B[9999o", b"\x1B[3;o", b"\x1B[;4o"]
     {
         assert_eq!(told(bytes), (2, b'o'));
         let mut page = Page::fresh();
@@ -1063,7 +1090,8 @@ fn generated_kinds() {
     assert!(given_8.iter().all(|key| matches!(key, 33..=44 | 47..=126 | 264 | 265)));
 }
 
-/// In `calls` every two kinds and every nameless bit are met in cells and in the pen, and right ones.
+/// In `calls` every two kinds, required and protected, and every nameless bit are met in cells and in the
+/// pen, and right ones.
 #[test]
 fn generated_marks() {
     let (mut damaged, mut right) = (BTreeSet::new(), BTreeSet::new());
@@ -1075,16 +1103,17 @@ fn generated_marks() {
         let marks = value(&frame, 4);
         let alone = |bit: u16| marks & 0xFF81 == bit;
         if number == 2 {
-            let bits = [0x0081, 0x0101, 0x0180].into_iter().chain((9..16).map(|bit| 1 << bit));
+            let pairs = [0x0081, 0x0101, 0x0180, 0x0201];
+            let bits = pairs.into_iter().chain((10..16).map(|bit| 1 << bit));
             damaged.extend(bits.filter(|&bits| alone(bits)).map(|bits| (place.to_string(), bits)));
         } else if number != 1 {
-            let kinds = [0, PROTECTED, NUMERIC, ALPHABETIC];
+            let kinds = [0x0000, 0x0001, 0x0080, 0x0100, 0x0200, 0x0280, 0x0300];
             right.extend(
                 kinds.into_iter().filter(|&kind| alone(kind)).map(|k| (place.to_string(), k)),
             );
         }
     }
-    assert_eq!((damaged.len(), right.len()), (2 * 10, 2 * 4), "{damaged:?} {right:?}");
+    assert_eq!((damaged.len(), right.len()), (2 * 10, 2 * 7), "{damaged:?} {right:?}");
 }
 
 /// 1;2 to 1;4 and all behind 1;5; the cursor in the first field.
@@ -1296,7 +1325,7 @@ fn half_in_range(half: &Half) -> bool {
         half.arguments.iter().rposition(|&argument| argument != 0).map_or(0, |last| last + 1);
     let small = half.arguments.iter().all(|&argument| argument <= 9_999);
     match (half.kind, half.spoilt, half.count) {
-        (0 | 1 | 2, false, 0) | (4, false, 1) | (3, true, 1) => reached == 0,
+        (0..=2, false, 0) | (4, false, 1) | (3, true, 1) => reached == 0,
         (3, false, 1..=8) | (5, false, 1) => small && reached <= usize::from(half.count),
         _ => false,
     }
@@ -1654,4 +1683,602 @@ fn bytes_sees_a_cut() {
         wrong::choose(0);
         assert!(run.cut_unlike_whole(&output).is_some());
     }
+}
+
+/// Two numeric cells that are required, then KN protected; the full block has all behind them too.
+#[test]
+fn example_of_required_fields() {
+    let input = b"001850
+011B5B336F1B5B32306F20201B5B316F4B4E1B5B306F1B5B313B3166
+02010A
+011B53
+020034
+02010A
+";
+    let output = format!(
+        "00010100000780
+00010100000004
+09010100000000
+000101000000001B5B313B316620201B5B313B3566{}03
+00010200000001
+000102000000001B5B313B3166342003
+",
+        "20".repeat(1_916)
+    );
+    assert_eq!(String::from_utf8_lossy(&Mode::Transcript.run(input)), output);
+}
+
+/// The commands for the kinds of pen that required goes with.
+const OPEN_PENS: [(&str, u16); 7] = [
+    ("", 0),
+    ("\x1BW", 0),
+    ("\x1B[0o", 0),
+    ("\x1B[o", 0),
+    ("\x1B[3o", NUMERIC),
+    ("\x1B[04o", ALPHABETIC),
+    ("\x1BV\x1B[4o", ALPHABETIC),
+];
+
+/// The pen that host bytes leave on a fresh page, read whole and cut; text stored then has its marks.
+fn pen_after(bytes: &str) -> u16 {
+    let page = whole_and_cut(Page::fresh, format!("{bytes}#").as_bytes());
+    assert_eq!((page.marks[0], page.told()), (page.state.pen, (0, 0)), "{bytes:?}");
+    page.state.pen
+}
+
+#[test]
+fn required_comes_beside_the_kind() {
+    for (pen, kind) in OPEN_PENS {
+        for required in ["\x1B[20o", "\x1B[020o", "\x1B[0000000020o", "\x1B[20o\x1B[20o"] {
+            assert_eq!(pen_after(&format!("{pen}{required}")), kind | REQUIRED);
+            let visual = pen_after(&format!("\x1B[1;7m{pen}{required}\x1B[4m"));
+            assert_eq!(visual, kind | REQUIRED | 0x2C);
+        }
+    }
+}
+
+/// Also where the kind stays what it was.
+#[test]
+fn other_values_take_required_off() {
+    let closing = [("\x1B[1o", PROTECTED), ("\x1BV", PROTECTED)];
+    for (first, _) in OPEN_PENS {
+        for (then, kind) in OPEN_PENS.into_iter().skip(1).chain(closing) {
+            assert_eq!(pen_after(&format!("\x1B[5m{first}\x1B[20o{then}")), kind | 0x10);
+        }
+    }
+    assert_eq!(pen_after("\x1B[20o\x1Bc"), 0);
+}
+
+#[test]
+fn visual_marks_leave_required() {
+    for list in ["", "0", "1;0", "8;0;0"] {
+        for (pen, kind) in OPEN_PENS {
+            assert_eq!(pen_after(&format!("{pen}\x1B[20o\x1B[4m\x1B[{list}m")), kind | REQUIRED);
+        }
+    }
+}
+
+/// Nothing changes but lock and message; text behind is stored with the pen as it was.
+#[test]
+fn protected_pen_refuses_required() {
+    for pen in ["\x1BV", "\x1B[1o", "\x1B[20o\x1BV", "\x1B[3o\x1B[20o\x1B[20o\x1B[01o"] {
+        for required in ["\x1B[20o", "\x1B[020o", "\x1B[20o\x1B[20o"] {
+            let bytes = format!("\x1B[7m{pen}{required}");
+            assert_eq!(told(bytes.as_bytes()), (2, b'o'));
+            let page = whole_and_cut(Page::fresh, format!("{bytes}#").as_bytes());
+            let marks = PROTECTED | 0x20;
+            assert_eq!((page.state.pen, page.marks[0], page.characters[0]), (marks, marks, b'#'));
+            assert!(page.refused());
+        }
+    }
+}
+
+#[test]
+fn required_has_one_argument() {
+    for bytes in ["\x1B[20;o", "\x1B[;20o", "\x1B[20;20o", "\x1B[3;20o", "\x1B[20;3o"] {
+        assert_eq!(told(bytes.as_bytes()), (2, b'o'));
+        for (pen, kind) in OPEN_PENS {
+            for (first, required) in [("", 0), ("\x1B[20o", REQUIRED)] {
+                let mut page = Page::fresh();
+                page.host(format!("{pen}{first}{bytes}").as_bytes());
+                assert_eq!(page.state.pen, kind | required);
+            }
+        }
+    }
+    assert_eq!(told(b"\x1B[>20o"), (3, b'o'));
+    assert_eq!(told(b"\x1B[?20o"), (3, b'o'));
+}
+
+/// Key 266 is given 0 or, with nothing changed at all, 9.
+fn held_back(page: &mut Page) -> bool {
+    let before = page.all();
+    let answer = page.key(266);
+    if answer.number == 9 {
+        assert_eq!(answer, Answer { number: 9, taken: 0, sent: 0, stored: 0 });
+        assert!(page.all() == before);
+    } else {
+        assert_eq!(answer.number, 0);
+    }
+    answer.number == 9
+}
+
+/// 3;79 to 4;1 with these marks and characters, all else protected.
+fn three_cells(marks: [u16; 3], characters: [u8; 3]) -> Page {
+    let mut page = Page::fresh().room(100);
+    page.marks.fill(PROTECTED);
+    page.marks[238..241].copy_from_slice(&marks);
+    page.characters[238..241].copy_from_slice(&characters);
+    page
+}
+
+/// Any of three cells required, modified and of any content, in both settings.
+#[test]
+fn every_field_of_three_cells() {
+    let mut times = 0;
+    for way in 0..8 * 8 * 27 * 2 {
+        let (required, modified, content, full) =
+            (way % 8, way / 8 % 8, way / 64 % 27, way / 64 / 27 == 1);
+        let bit = |bits: usize, cell: usize, mark| if bits >> cell & 1 == 1 { mark } else { 0 };
+        let marks =
+            [0, 1, 2].map(|cell| bit(required, cell, REQUIRED) | bit(modified, cell, MODIFIED));
+        let characters = [content % 3, content / 3 % 3, content / 9].map(|code| b" .x"[code]);
+        let mut page = three_cells(marks, characters);
+        page.state.full = full;
+        let held = required != 0 && content == 0;
+        assert_eq!(held_back(&mut page), held, "{marks:?} {characters:?}");
+        times += usize::from(held);
+        if !held {
+            let field = [&b"\x1B[3;79f"[..], &characters].concat();
+            let has = if full || modified != 0 { &field[..] } else { b"" };
+            assert!(page.output.starts_with(&[has, b"\x03"].concat()));
+            assert_eq!(page.marks[238..241], marks.map(|marks| marks & REQUIRED));
+        }
+    }
+    assert_eq!(times, 7 * 8 * 2);
+}
+
+/// Whatever the cell takes from a key, and whether it is the required one or the one beside it.
+#[test]
+fn only_20_is_blank() {
+    for character in 0x20..=0x7E {
+        for kind in [0, NUMERIC, ALPHABETIC] {
+            for characters in [[character, b' ', b' '], [b' ', character, b' ']] {
+                let mut page = three_cells([kind | REQUIRED, kind, 0], characters);
+                assert_eq!(held_back(&mut page), character == b' ');
+            }
+        }
+    }
+}
+
+/// 2;2 to 2;4 plain with text, 3;80 to 4;1 required and blank, 5;5 numeric and required with a digit.
+fn form_with_a_blank() -> Page {
+    let mut page = Page::fresh();
+    page.host(b"\x1BV");
+    page.host(&[b'#'; 1_920]);
+    page.host(b"\x1BW\x1B[2;2fabc\x1B[3;80f\x1B[20o  \x1B[5;5f\x1B[3o\x1B[20o7\x1BW\x1B[2;2f");
+    page
+}
+
+/// All of its fields.
+const FORM_BLOCK: &[u8] = b"\x1B[2;2fabc\x1B[3;80f  \x1B[5;5f7\x03";
+
+/// A changed block would leave the blank field out, or have nothing at all, and is held back all the same.
+#[test]
+fn unmodified_blank_field_holds_back() {
+    for mode in [&b"\x1B[>6h"[..], b"\x1B[>6l"] {
+        let mut page = form_with_a_blank();
+        page.host(mode);
+        assert!(held_back(&mut page) && held_back(&mut page));
+        page.key(u32::from(b'X'));
+        assert!(held_back(&mut page));
+        assert_eq!(page.marks[81], MODIFIED);
+    }
+}
+
+/// What was changed before a call given 9 is in the block that leaves later.
+#[test]
+fn held_back_changes_are_sent_later() {
+    let mut page = form_with_a_blank();
+    page.key(u32::from(b'X'));
+    assert!(held_back(&mut page));
+    page.host(b"\x1B[4;1f");
+    assert_eq!(page.key(u32::from(b' ')).number, 0);
+    assert!(held_back(&mut page));
+    page.host(b"\x1B[4;1f");
+    assert_eq!(page.key(u32::from(b'.')).number, 0);
+    assert_eq!(page.sent_by_key(266), b"\x1B[2;2fXbc\x1B[3;80f .\x03");
+    assert_eq!(page.sent_by_key(266), b"\x03");
+    page.host(b"\x1B[5;5f");
+    assert_eq!(page.key(263).number, 0);
+    assert!(held_back(&mut page));
+    assert_eq!(page.marks[324], NUMERIC | REQUIRED | MODIFIED);
+}
+
+/// It sends, and clears modified, in both settings; key 266 stays held back behind it.
+#[test]
+fn command_is_not_held_back() {
+    for mode in [&b"\x1B[>6h"[..], b"\x1B[>6l"] {
+        let mut page = form_with_a_blank();
+        page.host(mode);
+        assert_eq!(page.sent_by_host(b"\x1BS"), FORM_BLOCK);
+        page.key(u32::from(b'a'));
+        assert!(held_back(&mut page));
+        let state = page.state.clone();
+        assert_eq!(page.sent_by_host(b"\x1BS"), FORM_BLOCK);
+        assert_eq!(page.state, state);
+        assert!(page.marks.iter().all(|marks| marks & MODIFIED == 0));
+        assert!(held_back(&mut page));
+        let room = page.room(FORM_BLOCK.len() - 1).host(b"\x1BS").number;
+        assert_eq!(room, 3);
+    }
+}
+
+/// 9 comes after 2, 4 and 5, and before 3 with every room.
+#[test]
+fn order_of_9() {
+    for full in [false, true] {
+        for room in 0..=FORM_BLOCK.len() + 1 {
+            let mut page = form_with_a_blank().room(room);
+            page.state.full = full;
+            page.key(u32::from(b'X'));
+            assert!(held_back(&mut page));
+            page.characters[239] = b'.';
+            let length = if full { FORM_BLOCK.len() } else { 10 };
+            assert_eq!(page.key(266).number, if room < length { 3 } else { 0 });
+        }
+    }
+    let mut page = form_with_a_blank();
+    assert_eq!((page.key(267).number, page.key(269).number), (4, 4));
+    for lock in [b"\x1B`", b"\x1By"] {
+        page.host(lock);
+        assert_eq!(page.key(266).number, 5);
+        page.host(b"\x1Bb");
+        assert_eq!(page.key(266).number, 9);
+    }
+    page.marks[0] |= REQUIRED;
+    assert_eq!((page.key(266).number, page.key(267).number), (2, 2));
+    assert_eq!(page.host(b"\x1BS").number, 2);
+}
+
+/// No other key is held back.
+#[test]
+fn only_key_266_is_given_9() {
+    for number in (0..300).chain([65_535, 0x1_010A, u32::MAX]) {
+        for cursor in ["2;2", "3;80", "5;5", "9;9"] {
+            let mut page = form_with_a_blank();
+            page.host(format!("\x1B[{cursor}f").as_bytes());
+            assert_eq!(page.key(number).number == 9, number == 266);
+        }
+    }
+}
+
+/// One blank field is enough among required ones that aren't, wherever it stands.
+#[test]
+fn one_blank_field_of_several() {
+    for blank in 0..5 {
+        let mut page = Page::fresh();
+        page.host(b"\x1BV");
+        page.host(&[b'#'; 1_920]);
+        for field in 0..5 {
+            let text = if field == blank { "   " } else { " . " };
+            let row = 5 * field + 1;
+            page.host(format!("\x1B[{row};79f\x1B[4o\x1B[20o{text}").as_bytes());
+        }
+        assert!(held_back(&mut page));
+        page.host(format!("\x1B[{};1f", 5 * blank + 2).as_bytes());
+        assert_eq!(page.key(u32::from(b'-')).number, 0);
+        assert!(!held_back(&mut page));
+    }
+}
+
+/// The page's last cell and its first are in two fields, and each must have a character of its own.
+#[test]
+fn required_at_both_ends_of_the_page() {
+    let mut page = Page::fresh();
+    page.host(b"\x1BV");
+    page.host(&[b'#'; 1_920]);
+    page.host(b"\x1B[24;79f\x1B[0o\x1B[20o    ");
+    assert_eq!(page.cursor(), (1, 3));
+    for (cell, still_held) in
+        [(b"\x1B[24;80f.", true), (b"\x1B[01;01f.", false), (b"\x1B[24;80f ", true)]
+    {
+        page.host(cell);
+        assert_eq!(held_back(&mut page), still_held);
+    }
+}
+
+/// One required cell makes a whole fresh page required, and one character anywhere fills it.
+#[test]
+fn required_cell_of_a_page_without_protection() {
+    for (rows, columns) in sizes() {
+        let mut page = Page::sized(rows, columns);
+        assert!(!held_back(&mut page));
+        page.host(b"\x1B[12;70f\x1B[20o \x1BW");
+        assert!(held_back(&mut page));
+        page.host(format!("\x1B[{rows};{columns}f.").as_bytes());
+        assert!(!held_back(&mut page));
+    }
+    let mut page = Page::fresh();
+    page.marks.fill(PROTECTED);
+    assert_eq!(page.sent_by_key(266), b"\x03");
+}
+
+/// Typing and moving keep each cell's bit, and so does blanking; a moved character doesn't take it along.
+#[test]
+fn keys_keep_required() {
+    for number in [u32::from(b'-'), 263, 264, 265] {
+        let mut page = three_cells([REQUIRED, NUMERIC, ALPHABETIC | REQUIRED], *b" . ");
+        page.host(b"\x1B[3;79f");
+        assert_eq!(page.key(number).number, 0);
+        let marks = [238, 239, 240].map(|place: usize| page.marks[place] & !MODIFIED);
+        assert_eq!(marks, [REQUIRED, NUMERIC, ALPHABETIC | REQUIRED]);
+        assert_eq!(held_back(&mut page), number == 263);
+    }
+}
+
+/// Erased cells and rows that come in aren't required; a scroll moves the bit; text puts the pen's in its place.
+#[test]
+fn erased_scrolled_and_stored_required() {
+    let mut page = Page::fresh();
+    page.host(b"\x1B[3o\x1B[20o12\x1BM");
+    assert_eq!(page.marks[80..83], [NUMERIC | REQUIRED, NUMERIC | REQUIRED, 0]);
+    assert!(page.marks[..80].iter().all(|&marks| marks == 0));
+    page.host(b"\x1B[24;1f\x1BD");
+    assert_eq!(page.marks[..3], [NUMERIC | REQUIRED, NUMERIC | REQUIRED, 0]);
+    assert!(page.marks[1_840..].iter().all(|&marks| marks == 0));
+    page.host(b"\x1B[1;2f\x1B[K");
+    assert_eq!(
+        (page.marks[..2].to_vec(), page.state.pen),
+        (vec![NUMERIC | REQUIRED, 0], NUMERIC | REQUIRED)
+    );
+    page.host(b"\x1B[1;1f\x1B[0oA\x1B[20oB\x1B[4oC");
+    assert_eq!(page.marks[..3], [0, REQUIRED, ALPHABETIC]);
+    page.host(b"\x1B[2J");
+    assert!(page.marks.iter().all(|&marks| marks == 0));
+    assert!(!held_back(&mut page));
+}
+
+/// A form of which the host erases the blank field sends again.
+#[test]
+fn erased_field_holds_nothing_back() {
+    let mut page = form_with_a_blank();
+    assert!(held_back(&mut page));
+    page.host(b"\x1B[3;1f\x1B[K\x1B[4;1f\x1B[K");
+    assert!(!held_back(&mut page));
+}
+
+/// A call given 9 is no block: the copy that the sent ones keep is what a full block would send.
+#[test]
+fn held_back_blocks_keep_a_copy() {
+    let mut random = Random::new(107);
+    let mut page = form_with_a_blank();
+    let mut copy = fields_of(&page.sent_by_host(b"\x1BS"));
+    let mut met = BTreeMap::new();
+    for _ in 0..1_500 {
+        match random.below(9) {
+            0..=2 => drop(page.key(random.pick(b"0a -.").into())),
+            3 => drop(page.key(random.between(256, 265) as u32)),
+            4 => drop(page.key(random.pick(&[260, 263]))),
+            5 => drop(page.host(random.pick(&[b"\x1B[>6h", b"\x1B[>6l"]))),
+            _ => {
+                let full = page.state.full;
+                let held = held_back(&mut page);
+                *met.entry((full, held)).or_insert(0) += 1;
+                if !held {
+                    let end =
+                        page.output.iter().position(|&byte| byte == 0x03).expect("03 at the end");
+                    copy.extend(fields_of(&page.output[..=end]));
+                    assert_eq!(copy, fields_of(&page.sent_by_host(b"\x1BS")));
+                }
+            }
+        }
+    }
+    assert!(met.len() == 4 && met.values().all(|&times| times > 40), "{met:?}");
+}
+
+#[test]
+fn dump_shows_required() {
+    let output = Mode::Dump.run(b"001850\n011B5B336F1B5B32306F311B5B306F411B5B32306F20\n");
+    let pens: Vec<_> = lines(&output).filter(|line| line.starts_with(b"pen")).collect();
+    assert_eq!(pens[1], b"pen 0200 erasure 0 full 0");
+    let marks: Vec<_> = lines(&output).filter(|line| line.starts_with(b":")).collect();
+    assert!(marks[24].starts_with(b":0280000002000000"));
+}
+
+/// Set by hand, bit 9 goes with every kind but protected, in a cell and in the pen.
+#[test]
+fn calls_take_required() {
+    for (value, number) in
+        [("0200", "09"), ("0280", "09"), ("037E", "09"), ("0201", "02"), ("0400", "02")]
+    {
+        let input = format!("2000180050\n270000{value}\n230000010A");
+        let output = Mode::Calls.run(input.as_bytes());
+        assert_eq!(lines(&output).nth(5).map(|line| &line[..2]), Some(number.as_bytes()));
+        let pen = u16::from_str_radix(value, 16).expect("digits") & !MODIFIED;
+        let output = Mode::Calls.run(format!("2000180050\n280004{pen:04X}\n21").as_bytes());
+        let number = if number == "09" { "00" } else { number };
+        assert_eq!(lines(&output).nth(5).map(|line| &line[..2]), Some(number.as_bytes()));
+    }
+}
+
+#[test]
+fn blank_fields_are_seen() {
+    let open = 0x0082;
+    for (characters, marks, blank) in [
+        (&b"    "[..], &[0, 0, 0, 0][..], false),
+        (b"    ", &[open, open, 0x0200, open], true),
+        (b"   .", &[0x0300, 0, 0, 0], false),
+        (b"x | ", &[0x0200, 0, 1, 0], false),
+        (b"x | ", &[0, 0, 1, 0x0202], true),
+        (b"|| |", &[1, 1, 0x0280, 1], true),
+        (b"    ", &[1, 1, 1, 1], false),
+    ] {
+        assert_eq!(has_blank_required_field(characters, marks), blank, "{characters:?} {marks:?}");
+    }
+}
+
+/// Edits that let a blank field leave, hold back one that isn't blank, or change something with 9 are seen by
+/// what `required` looks at; the right program passes.
+#[test]
+fn required_sees_wrong_edits() {
+    let told = |edit| {
+        wrong::choose(edit);
+        let mut seeds = SEEDS;
+        let told = seeds.find_map(|seed| Count::default().transcript(seed, 300).err());
+        wrong::choose(0);
+        told.unwrap_or_default()
+    };
+    for edit in [63, 72] {
+        assert!(told(edit).ends_with("a block left while a required field was blank"), "{edit}");
+    }
+    for edit in [65, 71] {
+        assert!(told(edit).ends_with("9 without a blank required field"), "{edit}");
+    }
+    assert!(told(70).ends_with("a call given 9 changed something"));
+    assert!(!told(64).is_empty() && told(0).is_empty());
+}
+
+/// A cell of a field, with its place in page order.
+struct Cell {
+    place: usize,
+    character: u8,
+    marks: u16,
+}
+
+fn is_blank(field: &[Cell]) -> bool {
+    field.iter().all(|cell| cell.character == b' ')
+}
+
+fn has(field: &[Cell], marks: u16) -> bool {
+    field.iter().any(|cell| cell.marks & marks != 0)
+}
+
+/// What generated transcripts have of required fields, each by a name, with how often it came.
+#[derive(Default)]
+struct Required(BTreeMap<String, usize>);
+
+impl Required {
+    fn count(&mut self, name: &str, holds: bool) {
+        *self.0.entry(name.to_string()).or_insert(0) += usize::from(holds);
+    }
+
+    /// A line of a transcript, on the page as it is before.
+    fn line(&mut self, session: &Session, line: &[u8]) {
+        let State { manual, soft, .. } = session.state;
+        match line {
+            b"02010A" if !manual && !soft => self.send_key(session),
+            b"011B53" => {
+                let blank = has_blank_required_field(&session.characters, &session.marks);
+                self.count("by command", blank);
+            }
+            _ if line.ends_with(b"1B5B32306F") => {
+                let before = &line[..line.len() - 10];
+                let protected = before.ends_with(b"1B56") || before.ends_with(b"1B5B316F");
+                self.count("refused of a protected pen", protected);
+            }
+            _ => {}
+        }
+    }
+
+    /// What the page's required fields are like.
+    fn send_key(&mut self, session: &Session) {
+        let cells: Vec<Cell> = session
+            .characters
+            .iter()
+            .zip(&session.marks)
+            .enumerate()
+            .map(|(place, (&character, &marks))| Cell { place, character, marks })
+            .collect();
+        let fields = cells.split(|cell| cell.marks & PROTECTED != 0);
+        let required: Vec<_> = fields.filter(|field| has(field, REQUIRED)).collect();
+        let blank: Vec<_> = required.iter().copied().filter(|field| is_blank(field)).collect();
+        let mode = if session.state.full { "full" } else { "changed" };
+        self.count(&format!("held back, {mode}"), !blank.is_empty());
+        self.count(&format!("not held back, {mode}"), !required.is_empty() && blank.is_empty());
+        if let [field] = blank[..] {
+            self.blank_field(field, usize::from(session.state.columns));
+            self.count("one of several", required.len() > 1);
+        }
+        let some = |all: fn(&Cell) -> bool| {
+            blank.is_empty() && required.iter().any(|field| field.iter().all(all))
+        };
+        let required_blank = |cell: &Cell| cell.character == b' ' || cell.marks & REQUIRED == 0;
+        self.count("filled beside its required cells", some(required_blank));
+        self.count("filled by periods", some(|cell| matches!(cell.character, b' ' | b'.')));
+    }
+
+    /// The only one that is blank.
+    fn blank_field(&mut self, field: &[Cell], width: usize) {
+        let row_end = (field[0].place / width + 1) * width;
+        let (first_row, further) = field.split_at(field.len().min(row_end - field[0].place));
+        self.count("of one cell", field.len() == 1);
+        self.count("over a row's end", !further.is_empty());
+        self.count("required behind a row's end alone", !has(first_row, REQUIRED));
+        self.count("modified", has(field, MODIFIED));
+        self.count("not modified", !has(field, MODIFIED));
+        self.count("numeric", has(field, NUMERIC));
+        self.count("alphabetic", has(field, ALPHABETIC));
+        self.count("first cell not required", !has(&field[..1], REQUIRED));
+        self.count("first cell alone required", field.len() > 1 && !has(&field[1..], REQUIRED));
+    }
+}
+
+#[test]
+fn generated_required_fields() {
+    let mut required = Required::default();
+    for seed in SEEDS {
+        let mut session = Session::new();
+        for line in lines(&transcript(seed, 300)) {
+            if session.going {
+                required.line(&session, line);
+            }
+            session.line(line, &mut Vec::new());
+        }
+    }
+    for (name, often) in [
+        ("held back, changed", 100),
+        ("held back, full", 100),
+        ("not held back, changed", 100),
+        ("not held back, full", 100),
+        ("by command", 50),
+        ("refused of a protected pen", 20),
+        ("one of several", 50),
+        ("of one cell", 20),
+        ("over a row's end", 50),
+        ("required behind a row's end alone", 10),
+        ("modified", 50),
+        ("not modified", 50),
+        ("numeric", 50),
+        ("alphabetic", 50),
+        ("first cell not required", 20),
+        ("first cell alone required", 10),
+        ("filled beside its required cells", 20),
+        ("filled by periods", 20),
+    ] {
+        let times = required.0.get(name).copied().unwrap_or(0);
+        assert!(times >= often, "{name}: {times} {:?}", required.0);
+    }
+}
+
+/// In `calls` key 266 is given 9 with no room, with little and with more, in both settings.
+#[test]
+fn generated_rooms_for_required_fields() {
+    let mut met = BTreeMap::new();
+    for seed in SEEDS.step_by(2) {
+        let mut program = Calls::new();
+        for line in lines(&calls(seed, 300)) {
+            let (room, full) = (program.room, program.state.full);
+            let mut out = Vec::new();
+            program.line(line, &mut out);
+            if line == b"230000010A" && out.starts_with(b"09") {
+                let room = match room {
+                    0 => "none",
+                    1..=100 => "little",
+                    _ => "more",
+                };
+                *met.entry((room, full)).or_insert(0) += 1;
+            }
+        }
+    }
+    assert!(met.len() == 6 && met.values().all(|&times| times > 10), "{met:?}");
 }

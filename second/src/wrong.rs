@@ -1,11 +1,11 @@
-//! Sixty-two wrong edits kept as switches; WRONG.md has a line on each. 0 is the right program.
+//! Seventy-three wrong edits kept as switches; WRONG.md has a line on each. 0 is the right program.
 
 use std::cell::Cell;
 
-pub const COUNT: u8 = 62;
+pub const COUNT: u8 = 73;
 
 /// Edits that no transcript can show; only `calls` reaches them.
-pub const CALLS_ONLY: [u8; 4] = [4, 37, 39, 40];
+pub const CALLS_ONLY: [u8; 5] = [4, 37, 39, 40, 69];
 
 thread_local! {
     static CHOSEN: Cell<u8> = const { Cell::new(0) };

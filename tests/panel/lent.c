@@ -232,7 +232,7 @@ static void check(uint8_t number, enum place place)
         uint32_t taken = panel_four_bytes(result + PANEL_RESULT_TAKEN);
         uint32_t sent = panel_four_bytes(result + PANEL_RESULT_SENT);
         size_t given = now == HOST ? now_length[BYTES] : 0, room = now == START ? 0 : now_length[OUTPUT];
-        if (result[PANEL_RESULT_NUMBER] != number || number > PANEL_NOT_TAKEN)
+        if (result[PANEL_RESULT_NUMBER] != number || number > PANEL_REQUIRED_BLANK)
             fault("number %d returned, %d in the result", number, result[PANEL_RESULT_NUMBER]);
         if (taken > given || sent > room || (number == PANEL_DONE && taken != given))
             fault("number %d, taken %u, sent %u", number, taken, sent);

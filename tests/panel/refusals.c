@@ -1,6 +1,6 @@
 /* What C can get wrong, all of it in turn: lengths, the record's bytes, marks, sizes, keys, rooms. Which number is
-   expected is worked out here from documents 01 and 02 (M-100 to M-103, M-106) and the layout in panel.h; lent.c looks
-   at what is left. */
+   expected is worked out here from documents 01 and 02 (M-100 to M-103, M-106, M-107) and the layout in panel.h; lent.c
+   looks at what is left. */
 #include "lent.h"
 
 #include "panel.h"
@@ -91,11 +91,13 @@ static bool half_read_is_valid(void)
     return count >= counts[kind].least && count <= counts[kind].most && reached <= count && most <= 9999;
 }
 
-/* Bits 9 to 15 are zero; of protected, numeric and alphabetic there is one at most. */
+/* Bits 10 to 15 are zero; of protected, numeric and alphabetic there is one at most, and with required no protected. */
 static bool is_valid_mark(unsigned mark)
 {
     unsigned areas = mark & (PANEL_MARK_PROTECTED | PANEL_MARK_NUMERIC | PANEL_MARK_ALPHABETIC);
-    return mark < 0x200 && (areas & (areas - 1)) == 0;
+    if (mark & PANEL_MARK_REQUIRED && mark & PANEL_MARK_PROTECTED)
+        return false;
+    return mark < 0x400 && (areas & (areas - 1)) == 0;
 }
 
 /* Line 2, of a size that is listed and of page slices that fit it. */
@@ -332,6 +334,9 @@ static const struct good goods[] = {
       {PANEL_RECORD_COLUMN, 2}}},
     {"alphabetic pen", 27, 132, "\033[3o\033[4m\033[4o",
      {{PANEL_RECORD_PEN, PANEL_MARK_UNDERLINED}, {PANEL_RECORD_PEN + 1, PANEL_MARK_ALPHABETIC >> 8}}},
+    {"required alphabetic pen", 24, 80, "\033[4o\033[20o\033[7m",
+     {{PANEL_RECORD_PEN, PANEL_MARK_REVERSED},
+      {PANEL_RECORD_PEN + 1, (PANEL_MARK_REQUIRED | PANEL_MARK_ALPHABETIC) >> 8}}},
     {"the whole form to be sent, half read after ESC [ alone", 24, 80, "\033[>6l\033[",
      {{PANEL_RECORD_FULL, 1}, {PANEL_RECORD_KIND, PANEL_KIND_BRACKET_ALONE}, {PANEL_RECORD_COUNT, 1}}},
     {"half read after ESC [ >", 24, 160, "\033[>6l\033[>6h\033[>",
@@ -435,7 +440,7 @@ static void try_half_read(void)
     printf("half-read sequences: %ld records, %ld of them valid\n", tried, valid);
 }
 
-/* A cell's character with every value, its mark with those of bits 0 to 9. */
+/* A cell's character with every value, its mark with those of bits 0 to 10. */
 static void damage_cells(void)
 {
     make_good(&goods[2]);
@@ -446,7 +451,7 @@ static void damage_cells(void)
             try_host("a character", number_before(HOST, 0, 0));
             put_back();
         }
-        for (unsigned value = 0; value < 0x400; value++) {
+        for (unsigned value = 0; value < 0x800; value++) {
             put_two_bytes(marks + 2 * cells[i], value);
             try_host("a mark", number_before(HOST, 0, 0));
             put_back();
@@ -463,19 +468,24 @@ static uint8_t make(enum call call)
     return call == START ? lend(START, 24, 80, &kept) : lend(KEY, PANEL_KEY_UNLOCK, 0, &kept);
 }
 
-/* A mark, and what a call is given where a cell or the pen has it. Of bits 0, 7 and 8 there is one at most, bits 9 to
-   15 are zero, and the pen has no bit 1. */
+/* A mark, and what a call is given where a cell or the pen has it. Of bits 0, 7 and 8 there is one at most, bit 9 is
+   never with bit 0, bits 10 to 15 are zero, and the pen has no bit 1. */
 static const struct {
     uint16_t mark;
     uint8_t in_cell, in_pen;
 } tried_marks[] = {
     {0x0000, 0, 0}, {0x0001, 0, 0}, {0x0080, 0, 0}, {0x0100, 0, 0},                 /* none of them, or one */
     {0x0081, 2, 2}, {0x0101, 2, 2}, {0x0180, 2, 2}, {0x0181, 2, 2},                 /* two of them, or all */
-    {0x0200, 2, 2}, {0x0400, 2, 2}, {0x0800, 2, 2}, {0x1000, 2, 2}, {0x2000, 2, 2}, /* bits 9 to 15 */
-    {0x4000, 2, 2}, {0x8000, 2, 2}, {0x0201, 2, 2}, {0x0280, 2, 2}, {0x0300, 2, 2}, {0x8001, 2, 2}, {0x8080, 2, 2},
-    {0x8100, 2, 2}, {0x0002, 0, 2}, {0x0003, 0, 2}, {0x0082, 0, 2}, {0x0102, 0, 2}, /* modified */
-    {0x007C, 0, 0}, {0x007D, 0, 0}, {0x00FC, 0, 0}, {0x017C, 0, 0},                 /* with all visual marks */
-    {0x007F, 0, 2}, {0x00FE, 0, 2}, {0x017E, 0, 2}, {0x00FD, 2, 2}, {0x017D, 2, 2}, {0x01FC, 2, 2}, {0xFFFF, 2, 2},
+    {0x0200, 0, 0}, {0x0280, 0, 0}, {0x0300, 0, 0}, {0x0201, 2, 2}, {0x0380, 2, 2}, /* and required */
+    {0x0281, 2, 2}, {0x0301, 2, 2}, {0x0381, 2, 2},
+    {0x0400, 2, 2}, {0x0800, 2, 2}, {0x1000, 2, 2}, {0x2000, 2, 2}, {0x4000, 2, 2}, /* bits 10 to 15 */
+    {0x8000, 2, 2}, {0x0600, 2, 2}, {0x0A00, 2, 2}, {0x1200, 2, 2}, {0x2200, 2, 2}, {0x4200, 2, 2}, {0x8200, 2, 2},
+    {0x0401, 2, 2}, {0x0480, 2, 2}, {0x0500, 2, 2}, {0x8001, 2, 2}, {0x8080, 2, 2}, {0x8100, 2, 2},
+    {0x0002, 0, 2}, {0x0003, 0, 2}, {0x0082, 0, 2}, {0x0102, 0, 2}, {0x0202, 0, 2}, /* modified */
+    {0x0203, 2, 2}, {0x0282, 0, 2}, {0x0302, 0, 2},
+    {0x007C, 0, 0}, {0x007D, 0, 0}, {0x00FC, 0, 0}, {0x017C, 0, 0}, {0x027C, 0, 0}, /* with all visual marks */
+    {0x007F, 0, 2}, {0x00FE, 0, 2}, {0x017E, 0, 2}, {0x027E, 0, 2}, {0x00FD, 2, 2}, {0x017D, 2, 2}, {0x01FC, 2, 2},
+    {0x027D, 2, 2}, {0x027F, 2, 2}, {0x03FE, 2, 2}, {0x03FF, 2, 2}, {0xFFFF, 2, 2},
 };
 
 /* A host call without bytes, and key 268, which is done under locks too; after them all is put back. */

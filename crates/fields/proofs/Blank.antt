@@ -1,15 +1,39 @@
--- The search for a field that is left blank, a cell at a time.
-use mathlib.Core.Path.{_≡_, sym, ap, _∙_}
+-- The search for a required cell, and for a field that is left blank, a cell at a time.
+use mathlib.Core.Path.{_≡_, refl, sym, ap, _∙_}
 use mathlib.Core.Bool.{Bool, true, false}
-use Prim.Native.Nat.{ℕ, suc, _+_, _-_, _<_, _≤_}
+use mathlib.Core.List.{List, [], _∷_}
+use Prim.Native.Nat.{ℕ, zero, suc, _+_, _-_, _<_, _≤_}
 use native.Mathlib.Omega.{arith}
-use Rattle.words.specs.Choice.{_and_}
-use Rattle.words.specs.Lists.{some}
-use Rattle.words.proofs.Choosing.{then-case, else-case, either-way, both, first-decides, first-holds, second-decides}
-use Rattle.page.specs.Marks.{unprotected}
-use Rattle.page.specs.Page.{Page, cells}
-use Rattle.fields.specs.Fields.{startsField, fieldFrom, fieldsFrom, fieldsOf}
-use Rattle.fields.specs.Required.{isLeftBlank, someLeftBlank}
+use lib.ListN.{length, getD}
+use Rattle.words.specs.Choice.{_and_, _or_}
+use Rattle.words.specs.Lists.{some, someFrom}
+use Rattle.words.proofs.Choosing.{then-case, else-case, either-way, both, neither, first-decides, first-holds, second-decides}
+use Rattle.page.specs.Marks.{isRequired, unprotected}
+use Rattle.page.specs.Page.{Page, someRequired}
+use Rattle.fields.specs.Fields.{startsField, fieldFrom, fieldsFrom}
+use Rattle.fields.specs.Required.{isLeftBlank}
+
+-- One of a page's cells is required, asked by their numbers or one after another.
+counted-on : (test : ℕ → Bool) (marks : List ℕ) (i : ℕ) → ((k : ℕ) → test (i + k) ≡ isRequired (getD marks k 0)) → someFrom test i (length marks) ≡ some isRequired marks
+unfolding someFrom some
+counted-on test [] i same = refl
+counted-on test (mark ∷ later) i same =
+    let first : i + 0 ≡ i = omega arith in
+    let here : test i ≡ isRequired mark = sym (ap test first) ∙ same 0 in
+    let rest = counted-on test later (i + 1) (λ k. let next : i + suc k ≡ i + 1 + k = omega arith in sym (ap test next) ∙ same (suc k)) in
+    λ j. here j or rest j
+
+pub required-somewhere : (marks : List ℕ) → someRequired marks 0 (length marks - 0) ≡ some isRequired marks
+required-somewhere marks =
+    let whole : length marks - 0 ≡ length marks = omega arith in
+    ap (someRequired marks 0) whole
+    ∙ counted-on (λ k. isRequired (getD marks k 0)) marks 0 (λ k. let same : 0 + k ≡ k = omega arith in ap (λ (n : ℕ). isRequired (getD marks n 0)) same)
+
+pub not-required : (marks : List ℕ) → some isRequired marks ≡ false → (cell : ℕ) → isRequired (getD marks cell 0) ≡ false
+unfolding some
+not-required [] none cell = refl
+not-required (mark ∷ later) none zero = neither none .0
+not-required (mark ∷ later) none (suc cell) = not-required later (neither none .1) cell
 
 -- `all` is how many cells the page has.
 module _ (page : Page) (all : ℕ) where
@@ -20,12 +44,6 @@ module _ (page : Page) (all : ℕ) where
   abbrev pub startsBlank : ℕ → Bool
   startsBlank cell =
       startsField (unprotected (page .marks)) cell and isLeftBlank page (fieldFrom (unprotected (page .marks)) all cell)
-
-  pub from-first : cells page ≡ all → someLeftBlank page ≡ leftBlankFrom 0 (all - 0)
-  unfolding someLeftBlank leftBlankFrom fieldsOf
-  from-first same =
-      let whole : all ≡ all - 0 = omega arith in
-      ap (λ (n : ℕ). some (isLeftBlank page) (fieldsFrom (unprotected (page .marks)) n 0 n)) same ∙ ap (leftBlankFrom 0) whole
 
   module _ (cell to : ℕ) where
     pub blank-here : cell < to → startsBlank cell ≡ true → leftBlankFrom cell (to - cell) ≡ true

@@ -3,7 +3,7 @@
 use mathlib.Core.Bool.{Bool}
 use Rattle.words.specs.Choice.{_and_}
 use Rattle.words.specs.Lists.{some}
-use Rattle.page.specs.Marks.{unprotected}
+use Rattle.page.specs.Marks.{isRequired, unprotected}
 use Rattle.page.specs.Page.{Page, cells, someRequired, allBlank}
 use Rattle.fields.specs.Fields.{Field, fieldsOf}
 
@@ -13,6 +13,8 @@ isLeftBlank page field =
     someRequired (page .marks) (field .start) (field .length)
     and allBlank (page .characters) (field .start) (field .length)
 
--- Some field of the page is such.
+-- Some field of the page is such. (The first test is there to be quick: where no cell is required no field is such.)
 unfoldable pub someLeftBlank : Page → Bool
-someLeftBlank page = some (isLeftBlank page) (fieldsOf (unprotected (page .marks)) (cells page))
+someLeftBlank page =
+    some isRequired (page .marks)
+    and some (isLeftBlank page) (fieldsOf (unprotected (page .marks)) (cells page))

@@ -7,6 +7,7 @@ ghost use Prim.Native.Nat.{_-_, _*_, _<_, _≤_};
 ghost use lib.ListN.{length};
 ghost use Rattle.places.specs.Places.{placeOf, Counted};
 ghost use Rattle.words.specs.Choice.{_and_};
+ghost use Rattle.words.specs.Lists.{some};
 ghost use Rattle.page.specs.Marks.{unprotected};
 ghost use Rattle.page.specs.Page.{pageOf};
 ghost use Rattle.fields.specs.Fields.{joined, startsField, fieldStart, fieldEnd};
@@ -206,10 +207,11 @@ fn starts_left_blank(characters: &[u8], marks: &[Mark], cell: usize) -> bool
     false
 }
 
-// Whether the page has such a field.
-pub fn has_left_blank(characters: &[u8], marks: &[Mark]) -> bool
+// Whether one starts at any cell.
+fn seek_left_blank(characters: &[u8], marks: &[Mark]) -> bool
     requires { ⌜ length (now characters) ≡ length (now marks) ⌝ }
-    ensures { λ r. ⌜ r ≡ someLeftBlank (pageOf (now (characters .entry)) (now (marks .entry))) ⌝ }
+    ensures { λ r. ⌜ r ≡ some (isLeftBlank (pageOf (now (characters .entry)) (now (marks .entry))))
+        (fieldsOf (unprotected (now (marks .entry))) (length (now (marks .entry)))) ⌝ }
 {
     let mut cell = 0;
     while cell < marks.len() {
@@ -217,6 +219,17 @@ pub fn has_left_blank(characters: &[u8], marks: &[Mark]) -> bool
             return true;
         }
         cell += 1;
+    }
+    false
+}
+
+// Whether the page has such a field.
+pub fn has_left_blank(characters: &[u8], marks: &[Mark]) -> bool
+    requires { ⌜ length (now characters) ≡ length (now marks) ⌝ }
+    ensures { λ r. ⌜ r ≡ someLeftBlank (pageOf (now (characters .entry)) (now (marks .entry))) ⌝ }
+{
+    if page::has_required(marks, 0, marks.len()) {
+        return seek_left_blank(characters, marks);
     }
     false
 }

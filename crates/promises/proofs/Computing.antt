@@ -1,6 +1,6 @@
 -- What is opened where something is computed from the definitions: each name stands for all that its line lists.
 use Rattle.words.specs.Choice.{if_then_else_, _and_, _or_, _is_to_}
-use Rattle.words.specs.Lists.{within, every, allFrom, someFrom, eachFrom, numbersFrom, onPart, selected}
+use Rattle.words.specs.Lists.{within, every, some, allFrom, someFrom, eachFrom, numbersFrom, onPart, selected}
 use Rattle.words.specs.Output.{placed}
 use Rattle.sequence.specs.Record.{argumentsFit, largestArgument, validHalfRead, withDigit, withNextArgument}
 use Rattle.sequence.specs.Reading.{isControl, isCancel, outsideSequence, afterEsc, afterIntermediate, afterBracket, rightAfterBracket, afterPrivateMark, sequenceReadOn, insideSequence, advanceOf}
@@ -9,6 +9,7 @@ use Rattle.page.specs.Page.{validPage, textStored, typed, takesFromRight, takes
 use Rattle.places.specs.Places.{placeOf}
 use Rattle.output.specs.Decimal.{decimal, placeBytes}
 use Rattle.fields.specs.Fields.{joined, startsField, fieldStart, endFrom, fieldEnd, fieldsFrom}
+use Rattle.fields.specs.Required.{isLeftBlank, someLeftBlank}
 use Rattle.fields.specs.Searches.{orElse, firstUnprotectedFrom, firstUnprotected, nextUnprotected}
 use Rattle.blocks.specs.Blocks.{entryBytes, encode, entryOf, isInBlock}
 use Rattle.blocks.specs.Decode.{inFront, split, readNumber, readEntry, decode}
@@ -28,7 +29,7 @@ use Rattle.table.specs.PrivateForms.{privateStep}
 use Rattle.table.specs.Moves.{toPlace, keptColumn, isMove, moveStep}
 use Rattle.commands.specs.Commands.{escStep, listedStep, bracketStep}
 use Rattle.commands.specs.Host.{eventStep, hostStep}
-use Rattle.keys.specs.Keys.{isTyping, isEditing, isFieldMove, isKnown, isLocked, isLockedOut, lacksCell, isNotTaken, goneTo, typedStep, fieldBlanked, restShifted, takenStep, keyStep}
+use Rattle.keys.specs.Keys.{isTyping, isEditing, isFieldMove, isKnown, isLocked, isLockedOut, lacksCell, isNotTaken, isHeldBack, goneTo, typedStep, fieldBlanked, restShifted, takenStep, keyStep}
 use Rattle.terminal.specs.Runs.{stepsOf, fitting, after, bytesSentBy, cellsStoredBy, countOf, refusedBy, protectionBy}
 use Rattle.terminal.specs.Answers.{numberOf, unchanged, afterSteps, changesNothing, gives}
 use Rattle.terminal.specs.Tests.{firstOf, exceedsRoom, passesLine2, startLines, hostRefusals, keyRefusals, hostLines, keyLines}
@@ -54,6 +55,11 @@ unfoldable pub laying : Unit {0}
 unfolding tests inFront split readNumber readEntry decode samePlace laidOn lay entryBytes encode decimal placeBytes
 laying = tt
 
+-- Whether one of some fields that are known is left blank.
+unfoldable pub blankFields : Unit {0}
+unfolding tests some allFrom someFrom unprotected joined startsField endFrom fieldEnd fieldsFrom isLeftBlank someLeftBlank
+blankFields = tt
+
 -- The blocks found in bytes.
 unfoldable pub finding : Unit {0}
 unfolding tests endsReport endsHead outside inside afterByte blocksFrom
@@ -65,7 +71,7 @@ unfolding tests withDigit withNextArgument isControl isCancel outsideSequence af
 hostSteps = tt
 
 unfoldable pub keySteps : Unit {0}
-unfolding tests within eachFrom numbersFrom onPart allFrom numericTakes alphabeticTakes takes unprotected typed takesFromRight takesFromLeft tagged blanked closedUp markAfterBlock modifiedCleared placeOf joined fieldStart endFrom fieldEnd orElse firstUnprotectedFrom firstUnprotected nextUnprotected onBy rightBy unlocked bytesOf blockTransmission sendBlock isTyping isEditing isFieldMove isKnown isLocked isLockedOut lacksCell isNotTaken goneTo typedStep fieldBlanked restShifted takenStep keyStep
+unfolding tests within some eachFrom numbersFrom onPart allFrom numericTakes alphabeticTakes takes unprotected typed takesFromRight takesFromLeft tagged blanked closedUp markAfterBlock modifiedCleared placeOf joined fieldStart endFrom fieldEnd someLeftBlank orElse firstUnprotectedFrom firstUnprotected nextUnprotected onBy rightBy unlocked bytesOf blockTransmission sendBlock isTyping isEditing isFieldMove isKnown isLocked isLockedOut lacksCell isNotTaken isHeldBack goneTo typedStep fieldBlanked restShifted takenStep keyStep
 keySteps = tt
 
 -- Calls, with all but their steps; and what several of them leave.

@@ -7,11 +7,10 @@ use Prim.Native.Nat.{ℕ, _<_}
 use native.Mathlib.Omega.{arith}
 use lib.ListN.{length, getD}
 use Rattle.words.proofs.Choosing.{not-both, either-way, second-decides, neither}
+use Rattle.words.proofs.Ranges.{no-place-holds, at-no-place}
 use Rattle.page.specs.Marks.{isModified, unprotected}
 use Rattle.page.specs.Page.{Page, cells, markAfterBlock}
 use Rattle.blocks.specs.Blocks.{isInBlock, block}
-use Rattle.blocks.proofs.Pages.{none-modified}
-use Rattle.blocks.proofs.Laying.{unmodified}
 use Rattle.steps.specs.Steps.{Terminal, Transmission, silent, report, fullBlock, changedBlock, Stepped, Valid}
 use Rattle.steps.specs.Claims.{markLeft}
 use Rattle.promises.specs.Rules.{Rules, stepOf}
@@ -37,12 +36,12 @@ omits-exactly t valid stored tracks field listed =
         no-cell = λ cell low high was-stored.
             let unsent = omitted-unsent t (sendable valid) false field listed omitted in
             not-both (tracks .stored-are cell (omega (arith, is .on-page)) was-stored)
-            (unmodified (t .page .marks) (field .length) (field .start) cell (neither unsent .1) low high);
+            (at-no-place _ (field .start) (field .length) cell (neither unsent .1) low high);
       },
       λ unstored.
           unsent-omitted t (sendable valid) false field listed
           (second-decides false _ refl
-          ∙ none-modified columns (t .page) (field .length) (field .start)
+          ∙ no-place-holds _ (field .start) (field .length)
           (λ cell low high. tracks .others-are-not cell (omega (arith, is .on-page)) (is .all-unprotected cell (low, high)) (unstored .no-cell cell low high))),
     )
 

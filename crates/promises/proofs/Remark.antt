@@ -95,7 +95,7 @@ changed-block = block-amid 78 (bytes "AC .D") carriedTags (omega arith) refl ref
 call-266 : keyCall (carried carriedTags) 266 (replicate 11 0) ≡ leaves 0 0 0 changedBytes (carried noTag)
 unfolding validity keySteps calls
 call-266 =
-    sends-known (carried carriedTags) 266 changedBytes (replicate 11 0) (record { valid = carried-valid; known = refl; not-locked-out = refl; has-cell = refl; taken = refl })
+    sends-known (carried carriedTags) 266 changedBytes (replicate 11 0) (record { valid = carried-valid; known = refl; not-locked-out = refl; has-cell = refl; taken = refl; not-held-back = refl })
     changed-block refl refl refl refl refl
 
 -- The copy after it, worked out from the bytes of the two alone, is the full block of the page as it stands.

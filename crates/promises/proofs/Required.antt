@@ -8,8 +8,7 @@ use native.Mathlib.Omega.{arith}
 use borrow.Author.Tests.{eqb-false}
 use lib.Dec.{eqb}
 use lib.ListN.{length}
-use Rattle.words.proofs.Choosing.{either-way, first-decides}
-use Rattle.words.proofs.Elements.{none-passes}
+use Rattle.words.proofs.Choosing.{either-way, first-decides, refuted}
 use Rattle.words.proofs.Ranges.{some-place-fails}
 use Rattle.fields.specs.Fields.{Field}
 use Rattle.fields.specs.Required.{isLeftBlank, someLeftBlank}
@@ -18,7 +17,7 @@ use Rattle.steps.specs.Seen.{seen, characterAt, fieldsHere}
 use Rattle.keys.specs.Keys.{keyStep}
 use Rattle.keys.proofs.Theorems.{key-sends-full, key-sends-changed}
 use Rattle.terminal.specs.Lines.{HasRequired, LeftBlank, required-blank, keyTable, Decides, none-holds, this-holds, not-this}
-use Rattle.terminal.proofs.Lines.{left-blank, some-required}
+use Rattle.terminal.proofs.Lines.{left-blank, some-required, none-left-blank}
 use Rattle.promises.specs.Rules.{Rules, ourRules}
 use Rattle.promises.specs.Entries.{Entries, ourEntries}
 use Rattle.promises.specs.Demands.{Numbers}
@@ -75,9 +74,8 @@ none-blank t key true bytes sends = key-sends-full key t bytes sends .asked .non
 none-blank t key false bytes sends = key-sends-changed key t bytes sends .asked .none-blank
 
 our-filled : (t : Terminal) (key : ℕ) (full : Bool) (bytes : List ℕ) → keyStep key t .transmission ≡ blockTransmission full bytes → (field : Field) → List·Memᴰ field (fieldsHere t) → HasRequired t field → Filled t field
-unfolding someLeftBlank
 our-filled t key full bytes sends field listed has =
-    fills t field has (none-passes (isLeftBlank (seen t)) field (fieldsHere t) (none-blank t key full bytes sends) listed)
+    fills t field has (refuted _ (λ blank. none-left-blank t (none-blank t key full bytes sends) field (left-blank t field listed blank)))
 
 -- Entries that are numbered by the table give 9 so, whatever their rules.
 held-back-of : (rules : Rules) (entries : Entries) → Numbers rules entries → (t : Terminal) (lent : List ℕ) → (entries .key t 266 lent .number ≡ 9) ↔ (PastOtherLines t × Blank t)

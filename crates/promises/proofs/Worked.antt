@@ -249,7 +249,7 @@ typedX-valid = record { size = refl; state = refl; page = refl }
 call-first : keyCall typedX 266 (replicate 9 0) ≡ leaves 0 0 0 firstBytes (sentX 2)
 unfolding validity keySteps calls
 call-first =
-    sends-known typedX 266 firstBytes (replicate 9 0) (record { valid = typedX-valid; known = refl; not-locked-out = refl; has-cell = refl; taken = refl })
+    sends-known typedX 266 firstBytes (replicate 9 0) (record { valid = typedX-valid; known = refl; not-locked-out = refl; has-cell = refl; taken = refl; not-held-back = refl })
     changed-firstTagged refl refl refl refl refl
 
 sentX-valid : Valid (inFull (sentX 2))
@@ -259,7 +259,7 @@ sentX-valid = record { size = refl; state = refl; page = refl }
 call-full : keyCall (inFull (sentX 2)) 266 (replicate 17 0) ≡ leaves 0 0 0 (fullBytes "X" "C") (inFull (sentX 2))
 unfolding validity keySteps calls
 call-full =
-    sends-known (inFull (sentX 2)) 266 (fullBytes "X" "C") (replicate 17 0) (record { valid = sentX-valid; known = refl; not-locked-out = refl; has-cell = refl; taken = refl })
+    sends-known (inFull (sentX 2)) 266 (fullBytes "X" "C") (replicate 17 0) (record { valid = sentX-valid; known = refl; not-locked-out = refl; has-cell = refl; taken = refl; not-held-back = refl })
     (full-noTag "X" "C") refl refl refl refl refl
 
 typedY-valid : Valid typedY
@@ -269,7 +269,7 @@ typedY-valid = record { size = refl; state = refl; page = refl }
 call-second : keyCall typedY 266 (replicate 9 0) ≡ leaves 0 0 0 secondBytes end
 unfolding validity keySteps calls
 call-second =
-    sends-known typedY 266 secondBytes (replicate 9 0) (record { valid = typedY-valid; known = refl; not-locked-out = refl; has-cell = refl; taken = refl })
+    sends-known typedY 266 secondBytes (replicate 9 0) (record { valid = typedY-valid; known = refl; not-locked-out = refl; has-cell = refl; taken = refl; not-held-back = refl })
     changed-secondTagged refl refl refl refl refl
 
 -- All that is seen, call by call; and the inputs that these calls did are those above.

@@ -8,12 +8,13 @@ use native.Mathlib.Omega.{arith}
 use borrow.Author.Tests.{eqb-true, eqb-false, not-true, eq-eqb, ne-eqb}
 use lib.Dec.{eqb}
 use Rattle.words.specs.Choice.{if_then_else_, _and_, _or_, _is_to_}
-use Rattle.words.proofs.Choosing.{true-is-not-false, not-both, either-way, then-case, else-case, both, both-hold, neither, one-holds, first-holds, second-decides, range-holds, range-is, refuted}
+use Rattle.words.proofs.Choosing.{true-is-not-false, not-both, either-way, then-case, else-case, both, both-hold, neither, one-fails, one-holds, first-holds, second-decides, range-holds, range-is, refuted}
 use Rattle.words.proofs.Elements.{some-passes, none-passes}
 use Rattle.words.proofs.Ranges.{in-range, all-places-hold, some-place-fails, some-place-holds, at-no-place}
 use Rattle.page.specs.Page.{takesFromRight, takesFromLeft, someRequired}
 use Rattle.fields.specs.Fields.{Field}
 use Rattle.fields.specs.Required.{isLeftBlank, someLeftBlank}
+use Rattle.fields.proofs.Blank.{not-required}
 use Rattle.state.specs.declared.State.{State}
 use Rattle.steps.specs.Steps.{Terminal, cursorCell}
 use Rattle.steps.specs.Seen.{seen, characterAt, unprotectedAt, takesAt, requiredAt, fieldsHere, endHere}
@@ -192,11 +193,14 @@ is-left-blank t field blank =
     both-hold _ _ (some-required t field (blank .has-required))
     (all-places-hold (λ k. eqb (characterAt t k) 0x20) (field .start) (field .length) (λ cell low high. eq-eqb _ 0x20 (blank .only-20s cell low high)))
 
--- Where no field's test holds, none is.
+-- Where no cell is required, or no field's test holds, none is.
 pub none-left-blank : (t : Terminal) → someLeftBlank (seen t) ≡ false → (field : Field) → LeftBlank t field → ⊥
 unfolding someLeftBlank
 none-left-blank t none field blank =
-    not-both (is-left-blank t field blank) (none-passes (isLeftBlank (seen t)) field (fieldsHere t) none (blank .on-page))
+    ⊎-elim
+    (λ no-cell. not-both (blank .has-required .is-required) (not-required (seen t .marks) no-cell (blank .has-required .cell)))
+    (λ no-field. not-both (is-left-blank t field blank) (none-passes (isLeftBlank (seen t)) field (fieldsHere t) no-field (blank .on-page)))
+    (one-fails none)
 
 pub line-9 : (key : ℕ) (t : Terminal) → (isHeldBack key t ≡ true) ↔ Line9 key t
 unfolding isHeldBack someLeftBlank
@@ -204,7 +208,7 @@ line-9 key t = (holds, λ line. held-back line)
   where
     holds : isHeldBack key t ≡ true → Line9 key t
     holds held =
-        let found = some-passes (isLeftBlank (seen t)) (fieldsHere t) (both held .1) in
+        let found = some-passes (isLeftBlank (seen t)) (fieldsHere t) (both (both held .1) .1) in
         required-blank (eqb-true key 266 (both held .0)) (found .0) (left-blank t (found .0) (found .1) (found .2))
 
     held-back : Line9 key t → isHeldBack key t ≡ true

@@ -1,48 +1,31 @@
-use mathlib.Core.Path.{_≡_, sym, _∙_}
-use Prim.Native.Nat.{_-_, _≤_}
+use mathlib.Core.Path.{sym, ap, _∙_}
+use Prim.Native.Nat.{ℕ}
 use borrow.Author.Needs.{needs}
-use lib.ListN.{length}
+use Rattle.words.specs.Lists.{some}
+use Rattle.words.proofs.Choosing.{first-decides, first-fails}
+use Rattle.page.specs.Marks.{unprotected}
 use Rattle.page.specs.Page.{pageOf}
-use Rattle.fields.specs.Required.{someLeftBlank}
-use Rattle.fields.proofs.Blank.{leftBlankFrom, from-first, blank-here, blank-later, blank-nowhere}
+use Rattle.fields.specs.Fields.{fieldsOf}
+use Rattle.fields.specs.Required.{isLeftBlank, someLeftBlank}
+use Rattle.fields.proofs.Blank.{required-somewhere}
 use Rattle.fields.proofs.has_left_blank.Statement.{statement}
 use Rattle.fields.proofs.has_left_blank.Tie as tie
 
--- no field that starts before `cell` is left blank
-abbrev Inv-loop : tie.InvT-loop
-Inv-loop characters marks cell₀ cell =
-    (cell ≤ length marks)
-    × (someLeftBlank (pageOf characters marks) ≡ leftBlankFrom (pageOf characters marks) (length marks) cell (length marks - cell))
-
-abbrev μ-loop : tie.MeasureT-loop
-μ-loop characters marks cell₀ cell = length marks - cell
-
-loop-holds : tie.Need-loop-holds Inv-loop μ-loop
-loop-holds c = (search needs, from-first _ _ (c .before .before .pre))
-
-returns : tie.Need-returns Inv-loop μ-loop
+returns : tie.Need-returns
+unfolding someLeftBlank
 returns c =
-    let turn = c .before .before .before in
-    sym (turn .loop .inv .1 ∙ blank-here _ _ _ _ (c .before .before .loop-test .taken) (sym (c .before .starts-left-blank .ensures) ∙ c .if1 .taken))
+    let start = c .before .before .before .before .before in
+    let page = pageOf (start .args .characters .now) (start .args .marks .now) in
+    let required = sym (required-somewhere _) ∙ sym (c .before .before .has-required .ensures) ∙ c .before .if1 .taken in
+    c .seek-left-blank .ensures
+    ∙ ap (λ (all : ℕ). some (isLeftBlank page) (fieldsOf (unprotected (page .marks)) all)) (sym (start .pre))
+    ∙ sym (first-decides _ _ required)
 
-loop-again : tie.Need-loop-again Inv-loop μ-loop
-loop-again c =
-    let turn = c .before .before .before in
-    (search needs, turn .loop .inv .1 ∙ blank-later _ _ _ _ (c .before .before .loop-test .taken) (sym (c .before .starts-left-blank .ensures) ∙ c .if1 .left))
-
-returns-2 : tie.Need-returns-2 Inv-loop μ-loop
-returns-2 c = sym (c .before .loop .inv .1 ∙ blank-nowhere _ _ _ _ (c .loop-test .left))
+returns-2 : tie.Need-returns-2
+unfolding someLeftBlank
+returns-2 c =
+    let not-required = sym (required-somewhere _) ∙ sym (c .before .has-required .ensures) ∙ c .if1 .left in
+    sym (first-fails _ _ not-required)
 
 pub has-left-blank-spec : {M : Type 1} → statement M
-has-left-blank-spec =
-    tie.close
-    (tie.spec
-    Inv-loop
-    μ-loop
-    loop-holds
-    (λ c κs. search needs)
-    returns
-    (λ c. search needs)
-    (λ c. search needs)
-    loop-again
-    returns-2)
+has-left-blank-spec = tie.close (tie.spec (λ c κs. search needs) (λ c κs. search needs) returns returns-2)
