@@ -32,4 +32,5 @@ pub mod Theorems
 pub mod Sheets
 pub mod Computing
 pub mod Worked
+pub mod HeldBack
 pub mod Remark

@@ -174,22 +174,22 @@ pub record Seen : Type 0 where
   pub stored : ℕ
   pub sent : List ℕ
 
-abbrev gives : ℕ → ℕ → List ℕ → Seen
+abbrev pub gives : ℕ → ℕ → List ℕ → Seen
 gives number stored sent = record { number = number; stored = stored; sent = sent }
 
-abbrev seen : Outcome → Seen
+abbrev pub seen : Outcome → Seen
 seen outcome = gives (outcome .number) (outcome .stored) (bytesSent outcome)
 
 -- What is seen of some calls, and the inputs that they did.
-record Told (t : Terminal) (calls : List Call) (saw : List Seen) (inputs : List Input) : Type 0 where
-  outcomes-seen : map seen (outcomes ourEntries t calls) ≡ saw
-  inputs-are : inputsDone ourEntries t calls ≡ inputs
+pub record Told (t : Terminal) (calls : List Call) (saw : List Seen) (inputs : List Input) : Type 0 where
+  pub outcomes-seen : map seen (outcomes ourEntries t calls) ≡ saw
+  pub inputs-are : inputsDone ourEntries t calls ≡ inputs
 
-no-calls : {t : Terminal} → Told t [] [] []
+pub no-calls : {t : Terminal} → Told t [] [] []
 unfolding streams
 no-calls = record { outcomes-seen = refl; inputs-are = refl }
 
-next-call : {t : Terminal} {calls : List Call} {saw : List Seen} {inputs : List Input} (call : Call) (outcome : Outcome) → outcomeOf ourEntries call t ≡ outcome → Told (outcome .terminal) calls saw inputs → Told t (call ∷ calls) (seen outcome ∷ saw) (inputsOf call outcome ++ inputs)
+pub next-call : {t : Terminal} {calls : List Call} {saw : List Seen} {inputs : List Input} (call : Call) (outcome : Outcome) → outcomeOf ourEntries call t ≡ outcome → Told (outcome .terminal) calls saw inputs → Told t (call ∷ calls) (seen outcome ∷ saw) (inputsOf call outcome ++ inputs)
 unfolding outcomes
 next-call {calls} call outcome is later = record {
   outcomes-seen = (λ i. seen (is i) ∷ map seen (outcomes ourEntries (is i .terminal) calls)) ∙ ap (λ (rest : List Seen). seen outcome ∷ rest) (later .outcomes-seen);

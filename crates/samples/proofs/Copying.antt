@@ -9,7 +9,7 @@ use denote.Enum.Declared
 use lib.Dec.{eqb}
 use lib.ListN.{length, take}
 use types.Run
-use Rattle.words.proofs.Choosing.{both}
+use Rattle.words.proofs.Choosing.{not-both, both}
 use Rattle.page.specs.Page.{Page}
 use Rattle.blocks.specs.Blocks.{entriesSent, block}
 use Rattle.blocks.specs.Lay.{lay}
@@ -18,14 +18,19 @@ use Rattle.steps.specs.Steps.{Terminal, Transmission, silent, report, fullBlock
 use Rattle.steps.specs.Seen.{blockHere}
 use Rattle.steps.proofs.Writing.{block-bytes}
 use Rattle.sending.specs.Sending.{sendsFull}
-use Rattle.keys.specs.Keys.{keyStep}
+use Rattle.keys.specs.Keys.{isHeldBack, keyStep}
 use Rattle.terminal.specs.declared.Answer.{Answer}
 use Rattle.terminal.specs.declared.Answer.the-variants.{Done, WrongSize, WrongState, NoRoom, UnknownKey, Locked, TooLong, NoCell, NotTaken, RequiredBlank}
 use Rattle.terminal.specs.declared.Reply.{Reply}
 use Rattle.terminal.specs.Runs.{after, bytesSentBy}
 use Rattle.terminal.specs.Answers.{Outcome, numberOf, given, bytesSent}
+use Rattle.terminal.specs.Tests.{Passes}
+use Rattle.terminal.specs.Lines.{required-blank}
 use Rattle.terminal.specs.Calls.{hostCall, keyCall}
 use Rattle.terminal.proofs.Answer.{the-type}
+use Rattle.terminal.proofs.Cases
+use Rattle.terminal.proofs.Cases.{KeyCase, key-case}
+use Rattle.terminal.proofs.Lines.{line-9}
 use Rattle.terminal.proofs.Theorems.{key-done, key-found-valid, bytes-sent}
 use Rattle.promises.specs.Rules.{byte, press, stepOf, steps}
 use Rattle.promises.specs.Copying.{HostStoresNothing, blockIn, blocksSent, standings, copies}
@@ -44,9 +49,9 @@ use Rattle.samples.proofs.Asking.{afterEsc, onS, valid-after-esc, full-
 use Rattle.samples.proofs.Laws.{host-fits, key-fits}
 
 -- Every answer but the first has another number than 0.
-pub not-done : (answer : Answer) → Run.OneOf (1 ∷ 2 ∷ 3 ∷ 4 ∷ 5 ∷ 6 ∷ 7 ∷ 8 ∷ []) (Declared.tagOf the-type answer) → false ≡ eqb (numberOf answer) 0
+pub not-done : (answer : Answer) → Run.OneOf (1 ∷ 2 ∷ 3 ∷ 4 ∷ 5 ∷ 6 ∷ 7 ∷ 8 ∷ 9 ∷ []) (Declared.tagOf the-type answer) → false ≡ eqb (numberOf answer) 0
 unfolding numberOf
-not-done Done others = absurd (Run.miss (1 ∷ 2 ∷ 3 ∷ 4 ∷ 5 ∷ 6 ∷ 7 ∷ 8 ∷ []) 0 tt others)
+not-done Done others = absurd (Run.miss (1 ∷ 2 ∷ 3 ∷ 4 ∷ 5 ∷ 6 ∷ 7 ∷ 8 ∷ 9 ∷ []) 0 tt others)
 not-done WrongSize others = refl
 not-done WrongState others = refl
 not-done NoRoom others = refl
@@ -74,14 +79,15 @@ module _ (t : Terminal) (key : ℕ) (lentFull lentTyped lentLater : List ℕ) wh
         third = is-third ∙ ap (λ (u : Terminal). keyCall u 266 lentLater) left-then;
       }
 
--- What 266 sends, by its mode: a block of the page.
+-- What 266 sends, by its mode, where it is not held back: a block of the page.
 module _ (t : Terminal) where
   abbrev laterBlock : List ℕ
   laterBlock = blockHere (sendsFull (t .state)) t
 
-  later-sent : keyStep 266 t .transmission ≡ blockTransmission (sendsFull (t .state)) laterBlock
+  later-sent : isHeldBack 266 t ≡ false → keyStep 266 t .transmission ≡ blockTransmission (sendsFull (t .state)) laterBlock
   unfolding stepOf
-  later-sent = block-asked t (sendsFull (t .state)) (press 266) (by-266 _ refl)
+  later-sent free =
+      block-asked t (sendsFull (t .state)) (press 266) (by-266 _ refl (λ field blank. not-both (line-9 266 t .1 (required-blank refl field blank)) free))
 
   block-is-block : Valid t → (full : Bool) → IsBlock (blockHere full t)
   unfolding block
@@ -123,10 +129,10 @@ module _ (t : Terminal) (valid : Valid t) (key : ℕ) where
   holds = Promised.copying-steps (afterEsc t) (valid-after-esc t valid) (byte (code "S")) first-block (full-sent t) (press key ∷ press 266 ∷ []) tt
 
   -- Where the key sent nothing that is a block, where it sent one, and 266 its own.
-  copies-then : (sent : List (List ℕ)) → blockIn (two .transmission) ≡ sent
+  copies-then : isHeldBack 266 (two .terminal) ≡ false → (sent : List (List ℕ)) → blockIn (two .transmission) ≡ sent
       → first-block ∷ copies first-block (sent ++ (laterBlock (two .terminal) ∷ [])) ≡ map (blockHere true) (one .terminal ∷ (map (λ (b : List ℕ). two .terminal) sent ++ (three .terminal ∷ [])))
-  copies-then sent told =
-      let last = ap blockIn (later-sent (two .terminal)) ∙ block-in _ _ in
+  copies-then free sent told =
+      let last = ap blockIn (later-sent (two .terminal) free) ∙ block-in _ _ in
       subst (λ (blocks : List (List ℕ)). first-block ∷ copies first-block (sent ++ (blocks ++ [])) ≡ map (blockHere true) (one .terminal ∷ (map (λ (b : List ℕ). two .terminal) sent ++ (map (λ (b : List ℕ). three .terminal) blocks ++ [])))) last
       (subst (λ (blocks : List (List ℕ)). first-block ∷ copies first-block (blocks ++ (blockIn (three .transmission) ++ [])) ≡ map (blockHere true) (one .terminal ∷ (map (λ (b : List ℕ). two .terminal) blocks ++ (map (λ (b : List ℕ). three .terminal) (blockIn (three .transmission)) ++ [])))) told holds)
 
@@ -136,35 +142,40 @@ module _ (t : Terminal) (valid : Valid t) (key : ℕ) where
   page-unstored no-cell =
       sym (same-full-block (one .terminal) one-valid two (our-step-laws .every-step (press key) (one .terminal) one-valid) no-cell)
 
-  unsent : blockIn (two .transmission) ≡ [] → lay (laterBlock (two .terminal)) first-block ≡ blockHere true (three .terminal)
+  unsent : isHeldBack 266 (two .terminal) ≡ false → blockIn (two .transmission) ≡ [] → lay (laterBlock (two .terminal)) first-block ≡ blockHere true (three .terminal)
   unfolding copies place
-  unsent none = ap (place 1) (copies-then [] none)
+  unsent free none = ap (place 1) (copies-then free [] none)
 
-  sent-itself : (bytes : List ℕ) → blockIn (two .transmission) ≡ bytes ∷ [] → two .cells ≡ [] → lay (laterBlock (two .terminal)) first-block ≡ blockHere true (three .terminal)
+  sent-itself : isHeldBack 266 (two .terminal) ≡ false → (bytes : List ℕ) → blockIn (two .transmission) ≡ bytes ∷ [] → two .cells ≡ [] → lay (laterBlock (two .terminal)) first-block ≡ blockHere true (three .terminal)
   unfolding copies place
-  sent-itself bytes sent no-cell =
-      let all = copies-then (bytes ∷ []) sent in
+  sent-itself free bytes sent no-cell =
+      let all = copies-then free (bytes ∷ []) sent in
       let same : first-block ≡ lay bytes first-block = ap (place 0) all ∙ sym (page-unstored no-cell) ∙ sym (ap (place 1) all) in
       ap (lay (laterBlock (two .terminal))) same ∙ ap (place 2) all
 
-  copy-right : (transmission : Transmission) → two .transmission ≡ transmission → lay (laterBlock (two .terminal)) first-block ≡ blockHere true (three .terminal)
+  copy-right : isHeldBack 266 (two .terminal) ≡ false → (transmission : Transmission) → two .transmission ≡ transmission → lay (laterBlock (two .terminal)) first-block ≡ blockHere true (three .terminal)
   unfolding blockIn stepOf
-  copy-right silent sends = unsent (ap blockIn sends)
-  copy-right (report bytes) sends = unsent (ap blockIn sends)
-  copy-right (fullBlock bytes) sends = sent-itself bytes (ap blockIn sends) (our-step-laws .every-step (press key) (one .terminal) one-valid .full-block bytes sends .no-cell)
-  copy-right (changedBlock bytes) sends = sent-itself bytes (ap blockIn sends) (our-step-laws .every-step (press key) (one .terminal) one-valid .changed-block bytes sends .no-cell)
+  copy-right free silent sends = unsent free (ap blockIn sends)
+  copy-right free (report bytes) sends = unsent free (ap blockIn sends)
+  copy-right free (fullBlock bytes) sends = sent-itself free bytes (ap blockIn sends) (our-step-laws .every-step (press key) (one .terminal) one-valid .full-block bytes sends .no-cell)
+  copy-right free (changedBlock bytes) sends = sent-itself free bytes (ap blockIn sends) (our-step-laws .every-step (press key) (one .terminal) one-valid .changed-block bytes sends .no-cell)
 
 -- A key call given 0 is its key's step.
 record Pressed (t : Terminal) (key : ℕ) (outcome : Outcome) : Type 0 where
   valid : Valid t
   terminal : outcome .terminal ≡ keyStep key t .terminal
   sent : bytesSent outcome ≡ bytesOf (keyStep key t .transmission)
+  let-go : isHeldBack key t ≡ false
 
-pressed : (t : Terminal) (key : ℕ) (lent : List ℕ) → keyCall t key lent .number ≡ 0 → Pressed t key (keyCall t key lent)
+passed : {t : Terminal} {key : ℕ} {lent : List ℕ} → KeyCase t key lent → keyCall t key lent .number ≡ 0 → Passes t key
+passed (Cases.refused answer some is) is-done = absurd (some (sym (ap (λ (o : Outcome). o .number) is) ∙ is-done))
+passed (Cases.pressed passes fits is) is-done = passes
+
+key-pressed : (t : Terminal) (key : ℕ) (lent : List ℕ) → keyCall t key lent .number ≡ 0 → Pressed t key (keyCall t key lent)
 unfolding after bytesSentBy
-pressed t key lent is-done =
+key-pressed t key lent is-done =
     let did = key-done t key lent is-done in
-    record { valid = key-found-valid t key lent is-done; terminal = did .terminal; sent = bytes-sent did ∙ append-nil _ }
+    record { valid = key-found-valid t key lent is-done; terminal = did .terminal; sent = bytes-sent did ∙ append-nil _; let-go = passed (key-case t key lent) is-done .not-held-back }
 
 -- What the calls sent, and where all were given 0, what that is.
 module _ {t : Terminal} {key : ℕ} {lentFull lentTyped lentLater : List ℕ} {replies : ThreeReplies} {page : Page} {full typed later : List ℕ} (calls : ThreeCalls t key lentFull lentTyped lentLater replies page full typed later) where
@@ -183,10 +194,10 @@ module _ {t : Terminal} {key : ℕ} {lentFull lentTyped lentLater : List ℕ} {r
     first-asked = full-asked t lentFull (sym (ap (λ (o : Outcome). o .number) (calls .first)) ∙ numbers .0)
 
     second-pressed : Pressed (fullCall t lentFull .terminal) key (typedCall t key lentFull lentTyped)
-    second-pressed = pressed _ key lentTyped (sym (ap (λ (o : Outcome). o .number) (calls .second)) ∙ numbers .1)
+    second-pressed = key-pressed _ key lentTyped (sym (ap (λ (o : Outcome). o .number) (calls .second)) ∙ numbers .1)
 
     third-pressed : Pressed (typedCall t key lentFull lentTyped .terminal) 266 (laterCall t key lentFull lentTyped lentLater)
-    third-pressed = pressed _ 266 lentLater (sym (ap (λ (o : Outcome). o .number) (calls .third)) ∙ numbers .2)
+    third-pressed = key-pressed _ 266 lentLater (sym (ap (λ (o : Outcome). o .number) (calls .third)) ∙ numbers .2)
 
     before-later : typedCall t key lentFull lentTyped .terminal ≡ two t (first-asked .valid) key .terminal
     before-later = second-pressed .terminal ∙ ap (λ (u : Terminal). keyStep key u .terminal) (first-asked .terminal)
@@ -195,7 +206,7 @@ module _ {t : Terminal} {key : ℕ} {lentFull lentTyped lentLater : List ℕ} {r
     full-bytes = ap bytesSent (calls .first) ∙ first-asked .sent
 
     later-bytes : take (replies .later .sent) later ≡ laterBlock (typedCall t key lentFull lentTyped .terminal)
-    later-bytes = ap bytesSent (calls .third) ∙ third-pressed .sent ∙ ap bytesOf (later-sent (typedCall t key lentFull lentTyped .terminal)) ∙ block-bytes _ _
+    later-bytes = ap bytesSent (calls .third) ∙ third-pressed .sent ∙ ap bytesOf (later-sent (typedCall t key lentFull lentTyped .terminal) (third-pressed .let-go)) ∙ block-bytes _ _
 
     pub full-is-block : IsBlock (take (replies .full .sent) full)
     full-is-block = subst IsBlock (sym full-bytes) (block-is-block t (first-asked .valid) true)
@@ -207,7 +218,7 @@ module _ {t : Terminal} {key : ℕ} {lentFull lentTyped lentLater : List ℕ} {r
     laid-right =
         (λ i. lay (later-bytes i) (full-bytes i))
         ∙ ap (λ (u : Terminal). lay (laterBlock u) (blockHere true t)) before-later
-        ∙ copy-right t (first-asked .valid) key (two t (first-asked .valid) key .transmission) refl
+        ∙ copy-right t (first-asked .valid) key (subst (λ (u : Terminal). isHeldBack 266 u ≡ false) before-later (third-pressed .let-go)) (two t (first-asked .valid) key .transmission) refl
         ∙ ap (λ (u : Terminal). blockHere true (keyStep 266 u .terminal)) (sym before-later)
         ∙ ap (blockHere true) (sym (third-pressed .terminal))
         ∙ ap (λ (o : Outcome). blockHere true (o .terminal)) (sym (calls .third))

@@ -3,6 +3,7 @@ pub mod WrongReasons
 pub mod WrongContracts
 pub mod WrongReads
 pub mod WrongModes
+pub mod WrongRequired
 pub mod WrongKeys
 pub mod WrongBounds
 pub mod WrongFields

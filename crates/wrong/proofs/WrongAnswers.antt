@@ -89,7 +89,7 @@ block-refused : keyCall oneField 266 [] ≡ unchanged NoRoom oneField []
 unfolding validity keySteps
 block-refused =
     key-no-room oneField 266 []
-    (record { valid = one-field-valid; known = refl; not-locked-out = refl; has-cell = refl; taken = refl })
+    (record { valid = one-field-valid; known = refl; not-locked-out = refl; has-cell = refl; taken = refl; not-held-back = refl })
     (omega (arith, ap length one-field-changed))
 
 pub clearsTagsRefused-breaks-refusals : Refusals ourRules clearsTagsRefused → ⊥

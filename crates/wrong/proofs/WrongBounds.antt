@@ -16,12 +16,15 @@ use Rattle.blocks.specs.Blocks.{Entry, entryBytes, encode, block}
 use Rattle.blocks.proofs.Claims.{blankForm, firstAndEven}
 use Rattle.blocks.proofs.Theorems.{longest-reached}
 use Rattle.state.specs.State.{freshState}
+use Rattle.fields.specs.Required.{someLeftBlank}
 use Rattle.steps.specs.Steps.{Terminal, Stepped, bytesOf, Valid}
+use Rattle.steps.specs.Seen.{seen}
 use Rattle.commands.specs.Host.{hostStep}
 use Rattle.terminal.specs.Runs.{bytesSentBy}
 use Rattle.terminal.specs.Answers.{Outcome}
 use Rattle.terminal.specs.Calls.{hostCall}
 use Rattle.terminal.specs.Lines.{Line3, this-holds, not-this}
+use Rattle.terminal.proofs.Lines.{none-left-blank}
 use Rattle.words.specs.Text.{bytes}
 use Rattle.promises.specs.Rules.{ourRules, press, byteSteps}
 use Rattle.promises.specs.Further.{by-266, Progress, SendsBlocks, Bounded}
@@ -48,30 +51,34 @@ pub many-in-full-valid : Valid manyInFull
 many-in-full-valid = in-full-valid many-valid
 
 pub endsTwice-breaks-bounded : Bounded endsTwice → ⊥
-unfolding keySteps streams
+unfolding keySteps streams eachFrom firstAndEven placeOf
 endsTwice-breaks-bounded kept =
     let longest = block true 160 (manyFields .page) in
     let bound : length (longest ++ (0x03 ∷ [])) ≤ 35138 = kept manyInFull many-in-full-valid (press 266) true (longest ++ (0x03 ∷ [])) refl in
     omega (arith, bound, length-append longest (0x03 ∷ []), longest-reached)
 
 pub sendsFixedBlock-breaks-bounded : Bounded sendsFixedBlock → ⊥
-unfolding keySteps streams
+unfolding keySteps streams eachFrom firstAndEven placeOf
 sendsFixedBlock-breaks-bounded kept =
     let long : List ℕ = replicate 35139 0x03 in
     let bound : length long ≤ 35138 = kept manyFields many-valid (press 266) false long refl in
     omega (arith, bound, length-replicate {A = ℕ} 35139 0x03)
 
 pub endsTwice-breaks-sends-blocks : SendsBlocks endsTwice → ⊥
-unfolding keySteps streams
+unfolding keySteps streams eachFrom firstAndEven placeOf
 endsTwice-breaks-sends-blocks kept =
     let longest = block true 160 (manyFields .page) in
     let is-block = kept manyInFull many-in-full-valid (press 266) true (longest ++ (0x03 ∷ [])) .0 refl .1 in
     omega (arith, ap length is-block, length-append longest (0x03 ∷ []))
 
+many-not-required : someLeftBlank (seen manyFields) ≡ false
+unfolding keySteps eachFrom firstAndEven placeOf
+many-not-required = refl
+
 pub withholdsChanged-breaks-sends-blocks : SendsBlocks withholdsChanged → ⊥
-unfolding keySteps streams isBlock
+unfolding keySteps streams isBlock eachFrom firstAndEven placeOf
 withholdsChanged-breaks-sends-blocks kept =
-    let sent = kept manyFields many-valid (press 266) false (block false 160 (manyFields .page)) .1 (by-266 false refl, refl) in
+    let sent = kept manyFields many-valid (press 266) false (block false 160 (manyFields .page)) .1 (by-266 false refl (none-left-blank manyFields many-not-required), refl) in
     true-is-not-false (sym (ap isBlock sent))
 
 -- With room for the longest block, a call that is given 3 has sent something: of two blocks, asked for in one call, the

@@ -6,26 +6,28 @@ use Prim.Native.Nat.{ℕ, _+_, _-_, _%_}
 use Prim.Native.Char.{code}
 use lib.Dec.{eqb, leb}
 use lib.ListN.{length, take, drop, getD, set, replicate}
-use Rattle.words.specs.Choice.{if_then_else_, _and_, _is_to_}
-use Rattle.words.specs.Lists.{selected}
+use Rattle.words.specs.Choice.{if_then_else_, _and_, _or_, _is_to_}
+use Rattle.words.specs.Lists.{some, allFrom, someFrom, selected}
 use Rattle.sequence.specs.declared.Reason.the-variants.{UnknownCommand}
 use Rattle.sequence.specs.Range.{argumentOf}
 use Rattle.page.specs.Marks.{withoutBits, isProtected, withoutModified}
 use Rattle.page.specs.Page.{Page, pageOf}
 use Rattle.fields.specs.Fields.{Field}
-use Rattle.blocks.specs.Blocks.{encode}
+use Rattle.fields.specs.Required.{isLeftBlank, someLeftBlank}
+use Rattle.blocks.specs.Blocks.{isInBlock, encode}
 use Rattle.state.specs.declared.Locks.{Locks}
 use Rattle.state.specs.declared.State.{State}
 use Rattle.state.specs.State.{withLocks, noLocks}
 use Rattle.state.specs.Pen.{withFull}
-use Rattle.steps.specs.Steps.{Terminal, Transmission, silent, report, fullBlock, changedBlock, Stepped, stores, sends}
-use Rattle.steps.specs.Steps.{cursorCell, withState, refusing}
-use Rattle.steps.specs.Seen.{cellsHere, characterAt, unprotectedAt, modifiedAt, fieldsHere, entryHere, blockHere}
+use Rattle.steps.specs.Steps.{Terminal, Transmission, silent, report, fullBlock, changedBlock, Stepped}
+use Rattle.steps.specs.Steps.{goesTo, stores, sends, cursorCell, withState, refusing}
+use Rattle.steps.specs.Seen.{seen, cellsHere, characterAt, unprotectedAt, modifiedAt, requiredAt, fieldsHere}
+use Rattle.steps.specs.Seen.{entryHere, blockHere}
 use Rattle.table.specs.Table.{allowed}
 use Rattle.sending.specs.Sending.{sendsFull, sendBlock}
 use Rattle.commands.specs.Host.{hostStep}
-use Rattle.keys.specs.Keys.{isTyping, takenStep, keyStep}
-use Rattle.terminal.specs.declared.Answer.the-variants.{NoRoom}
+use Rattle.keys.specs.Keys.{isTyping, isHeldBack, takenStep, keyStep}
+use Rattle.terminal.specs.declared.Answer.the-variants.{NoRoom, RequiredBlank}
 use Rattle.terminal.specs.Runs.{fitting}
 use Rattle.terminal.specs.Answers.{Outcome, gives}
 use Rattle.terminal.specs.Tests.{_answers_, firstOf, exceedsRoom, keyLines}
@@ -39,12 +41,12 @@ withOnByte onByte = record { onByte = onByte; onKey = keyStep }
 abbrev withOnKey : (ℕ → Terminal → Stepped) → Rules
 withOnKey onKey = record { onByte = hostStep; onKey = onKey }
 
--- A key call that does another step, after lines 1, 2, 4, 5, 7 and 8; entries whose keys follow other rules.
+-- A key call that does another step, after lines 1, 2, 4, 5, 7, 8 and 9; entries whose keys follow other rules.
 abbrev pub keyCallBy : (ℕ → Terminal → Stepped) → Terminal → ℕ → List ℕ → Outcome
 keyCallBy onKey t key output =
     let room = length output in
     let pressed = onKey key t ∷ [] in
-    let lines = take 6 (keyLines t key output) ++ (exceedsRoom room pressed answers NoRoom ∷ []) in
+    let lines = take 7 (keyLines t key output) ++ (exceedsRoom room pressed answers NoRoom ∷ []) in
     gives (firstOf lines) 0 t output (fitting room pressed)
 
 abbrev pub keysBy : Rules → Entries
@@ -56,7 +58,8 @@ sendsChanged s = not (sendsFull s)
 
 abbrev sendingWhere : (State → Bool) → (Terminal → Transmission) → Rules
 sendingWhere mode transmission = withOnKey (λ key t.
-    if eqb key 266 and mode (t .state) then sends (transmission t) (t .state) (withTagsCleared t .page)
+    if eqb key 266 and mode (t .state) and not (isHeldBack key t) then
+    sends (transmission t) (t .state) (withTagsCleared t .page)
     else keyStep key t)
 
 -- A step that leaves another terminal.
@@ -117,6 +120,51 @@ endsTwice = sendingWhere sendsFull (λ t. fullBlock (blockHere true t ++ (0x03 �
 -- or a changed block is 35,139 bytes of 03, whatever the page.
 abbrev pub sendsFixedBlock : Rules
 sendsFixedBlock = sendingWhere sendsChanged (λ t. changedBlock (replicate 35139 0x03))
+
+-- or ESC S is held back where 266 is.
+abbrev pub holdsEscSBack : Rules
+holdsEscSBack = withOnByte (λ b t.
+    if eqb (t .state .half .kind) 1 and eqb b (code "S") and someLeftBlank (seen t) then
+    goesTo (t .state) (withNothingRead t)
+    else hostStep b t)
+
+-- Required fields. 266 is held back by another test,
+abbrev holdingBackWhere : (Terminal → Bool) → Rules
+holdingBackWhere test = withOnKey (λ key t.
+    if eqb key 266 and test t then goesTo (t .state) t
+    else takenStep key t)
+
+-- and 9 is given by it.
+abbrev pub heldBackCall : (Terminal → Bool) → Rules → Terminal → ℕ → List ℕ → Outcome
+heldBackCall test rules t key output =
+    let room = length output in
+    let pressed = rules .onKey key t ∷ [] in
+    let held = (eqb key 266 and test t) answers RequiredBlank in
+    let lines = take 6 (keyLines t key output) ++ (held ∷ exceedsRoom room pressed answers NoRoom ∷ []) in
+    gives (firstOf lines) 0 t output (fitting room pressed)
+
+-- The fields that are to be sent are looked at alone;
+unfoldable pub someSentBlank : Terminal → List Field → Bool
+someSentBlank t fields =
+    some (λ (field : Field). isInBlock (sendsFull (t .state)) (seen t .marks) field and isLeftBlank (seen t) field) fields
+
+abbrev pub looksAtWhatItSends : Rules
+looksAtWhatItSends = holdingBackWhere (λ t. someSentBlank t (fieldsHere t))
+
+abbrev pub looksAtWhatItSendsCalls : Entries
+looksAtWhatItSendsCalls = withKey (heldBackCall (λ t. someSentBlank t (fieldsHere t)) looksAtWhatItSends)
+
+-- or of a field the required cells alone.
+unfoldable pub requiredBlank : Terminal → Field → Bool
+requiredBlank t field =
+    someFrom (requiredAt t) (field .start) (field .length)
+    and allFrom (λ cell. not (requiredAt t cell) or eqb (characterAt t cell) 0x20) (field .start) (field .length)
+
+abbrev pub looksAtRequiredCells : Rules
+looksAtRequiredCells = holdingBackWhere (λ t. some (requiredBlank t) (fieldsHere t))
+
+abbrev pub looksAtRequiredCellsCalls : Entries
+looksAtRequiredCellsCalls = withKey (heldBackCall (λ t. some (requiredBlank t) (fieldsHere t)) looksAtRequiredCells)
 
 -- What a field is. One that runs over its first row's end is sent as two,
 unfoldable pub cutAtRowEnd : ℕ → Field → List Field
