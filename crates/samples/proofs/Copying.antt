@@ -23,7 +23,7 @@ use Rattle.terminal.specs.declared.Answer.{Answer}
 use Rattle.terminal.specs.declared.Answer.the-variants.{Done, WrongSize, WrongState, NoRoom, UnknownKey, Locked, TooLong, NoCell, NotTaken, RequiredBlank}
 use Rattle.terminal.specs.declared.Reply.{Reply}
 use Rattle.terminal.specs.Runs.{after, bytesSentBy}
-use Rattle.terminal.specs.Answers.{Outcome, numberOf, given, bytesSent}
+use Rattle.terminal.specs.Answers.{Outcome, numberOf, given, unchanged, bytesSent}
 use Rattle.terminal.specs.Tests.{Passes}
 use Rattle.terminal.specs.Lines.{required-blank}
 use Rattle.terminal.specs.Calls.{hostCall, keyCall}
@@ -168,6 +168,7 @@ record Pressed (t : Terminal) (key : ℕ) (outcome : Outcome) : Type 0 where
   let-go : isHeldBack key t ≡ false
 
 passed : {t : Terminal} {key : ℕ} {lent : List ℕ} → KeyCase t key lent → keyCall t key lent .number ≡ 0 → Passes t key
+unfolding unchanged
 passed (Cases.refused answer some is) is-done = absurd (some (sym (ap (λ (o : Outcome). o .number) is) ∙ is-done))
 passed (Cases.pressed passes fits is) is-done = passes
 

@@ -2,16 +2,17 @@
 -- by SendsBlocks.
 use mathlib.Core.Path.{_≡_, refl, sym, ap, _∙_, subst}
 use mathlib.Core.Bool.{Bool, true, false}
-use mathlib.Core.List.{List, [], _∷_, List·Memᴰ, List·Memᴰ·head, List·Memᴰ·eq-of-singleton}
+use mathlib.Core.List.{List, [], _∷_, _++_, List·Memᴰ, List·Memᴰ·head, List·Memᴰ·eq-of-singleton}
 use Prim.Native.Nat.{ℕ}
 use Prim.Native.Char.{code}
 use native.Mathlib.Omega.{arith}
 use borrow.Author.Tests.{eqb-false}
-use lib.ListN.{getD}
+use lib.Dec.{eqb}
+use lib.ListN.{take, getD}
 use Rattle.words.specs.Choice.{if_then_else_, _and_}
 use Rattle.words.specs.Lists.{some}
 use Rattle.words.specs.Text.{bytes}
-use Rattle.words.proofs.Choosing.{true-is-not-false}
+use Rattle.words.proofs.Choosing.{true-is-not-false, then-case}
 use Rattle.sequence.specs.Record.{escRead}
 use Rattle.page.specs.Marks.{isRequired}
 use Rattle.fields.specs.Fields.{Field}
@@ -20,10 +21,13 @@ use Rattle.blocks.specs.Blocks.{block}
 use Rattle.steps.specs.Steps.{Terminal, Stepped, silent, changedBlock, blockTransmission, goesTo, Valid}
 use Rattle.steps.specs.Seen.{seen, fieldsHere, blockHere}
 use Rattle.keys.specs.Keys.{takenStep}
-use Rattle.terminal.specs.declared.Answer.the-variants.{RequiredBlank}
+use Rattle.terminal.specs.declared.Answer.{Answer}
+use Rattle.terminal.specs.declared.Answer.the-variants.{NoRoom, RequiredBlank}
+use Rattle.terminal.specs.Tests.{_answers_, exceedsRoom, keyLines}
+use Rattle.terminal.specs.Runs.{fitting}
 use Rattle.terminal.specs.Answers.{gives}
 use Rattle.terminal.specs.Lines.{HasRequired}
-use Rattle.terminal.proofs.Firsts.{this, past, decided}
+use Rattle.terminal.proofs.Firsts.{First, this, past, decided}
 use Rattle.promises.specs.Rules.{byte}
 use Rattle.promises.specs.Further.{Filled, Required, full-by-esc-s, SendsBlocks}
 use Rattle.wrong.specs.Rules.{isBlock, someSentBlank, looksAtWhatItSends, looksAtWhatItSendsCalls, requiredBlank, looksAtRequiredCells, looksAtRequiredCellsCalls, holdsEscSBack}
@@ -76,9 +80,16 @@ required-blank : some (requiredBlank halfFilled) (fieldsHere halfFilled) ≡ tru
 unfolding blankFields requiredBlank
 required-blank = ap (some (requiredBlank halfFilled)) two-cells ∙ refl
 
-given-9 : looksAtRequiredCellsCalls .key halfFilled 266 [] .number ≡ 9
+abbrev pressed : List Stepped
+pressed = looksAtRequiredCells .onKey 266 halfFilled ∷ []
+
+by-line-9 : First (take 6 (keyLines halfFilled 266 []) ++ ((eqb 266 266 and some (requiredBlank halfFilled) (fieldsHere halfFilled)) answers RequiredBlank ∷ exceedsRoom 0 pressed answers NoRoom ∷ [])) RequiredBlank
 unfolding validity calls keySteps
-given-9 = ?
+by-line-9 = past refl (past refl (past refl (past refl (past refl (past refl (this required-blank))))))
+
+given-9 : looksAtRequiredCellsCalls .key halfFilled 266 [] .number ≡ 9
+unfolding calls
+given-9 = ap (λ (answer : Answer). gives answer 0 halfFilled [] (fitting 0 pressed) .number) (decided by-line-9)
 
 pub looksAtRequiredCells-breaks-required : Required looksAtRequiredCells looksAtRequiredCellsCalls → ⊥
 looksAtRequiredCells-breaks-required kept =
@@ -98,11 +109,12 @@ left-blank : someLeftBlank (seen afterEsc) ≡ true
 unfolding blankFields
 left-blank = ap (λ (fields : List Field). some isRequired (blankField .page .marks) and some (isLeftBlank (blankField .page)) fields) one-cell ∙ refl
 
+s-held-back : holdsEscSBack .onByte (code "S") afterEsc .transmission ≡ silent
+unfolding _and_
+s-held-back = ap (λ (step : Stepped). step .transmission) (then-case _ _ _ left-blank)
+
 pub holdsEscSBack-breaks-sends-blocks : SendsBlocks holdsEscSBack → ⊥
 unfolding streams isBlock blockTransmission
 holdsEscSBack-breaks-sends-blocks kept =
     let sent = kept afterEsc after-esc-valid (byte (code "S")) true (blockHere true afterEsc) .1 (full-by-esc-s refl, refl) in
-    true-is-not-false (sym (ap isBlock (sym held ∙ sent)))
-  where
-    held : holdsEscSBack .onByte (code "S") afterEsc .transmission ≡ silent
-    held = ?
+    true-is-not-false (sym (ap isBlock (sym s-held-back ∙ sent)))
