@@ -14,7 +14,7 @@ use Rattle.words.specs.Lists.{selected}
 use Rattle.words.proofs.Choosing.{true-is-not-false, either-line, either-way, both, both-hold, neither, less-or-not}
 use Rattle.words.proofs.Elements.{map-same}
 use Rattle.words.proofs.Ranges.{at-no-place}
-use Rattle.page.specs.Marks.{isProtected, isModified, unprotected}
+use Rattle.page.specs.Marks.{isProtected, unprotected}
 use Rattle.page.specs.Page.{Page, cells}
 use Rattle.places.specs.Places.{placeOf}
 use Rattle.fields.specs.Fields.{Field, fieldEnd, fieldsOf}

@@ -1,6 +1,6 @@
--- Document 01, "Fields, keys and blocks", and document 02, M-103, M-106 and M-107: what the keys do. A key that finds no
--- cell or field does nothing, nor one that brings a character where it isn't taken, nor 266 where a required field is
--- blank: line 7, 8 or 9 is then given.
+-- Document 01, "Fields, keys and blocks", and document 02, M-103, M-106 and M-107: what the keys do. A key that finds
+-- no cell or field does nothing, nor one that brings a character where it isn't taken, nor 266 where a required field
+-- is blank: line 7, 8 or 9 is then given.
 use mathlib.Core.Bool.{Bool, true, false, not}
 use mathlib.Core.List.{List, [], _∷_}
 use Prim.Native.Nat.{ℕ, _-_}
@@ -66,7 +66,8 @@ isNotTaken key t =
     else if eqb key 265 then not (takesFromLeft (seen t) (cursorCell (t .state)) (carried t))
     else false
 
--- Line 9: 266, in either mode, while some field has a required cell and holds nothing but 20s. (ESC S is not held back.)
+-- Line 9: 266, in either mode, while some field has a required cell and holds nothing but 20s. (ESC S is never held
+-- back.)
 unfoldable pub isHeldBack : ℕ → Terminal → Bool
 isHeldBack key t = eqb key 266 and someLeftBlank (seen t)
 

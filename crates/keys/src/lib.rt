@@ -319,8 +319,8 @@ fn act(state: State, characters: &mut [u8], marks: &mut [Mark], key: usize) -> S
     }
 }
 
-// The step of a key that lines 8 and 9 let pass. Its transmission is written into the output; where it does not fit nothing
-// happens.
+// The step of a key that lines 8 and 9 let pass. Its transmission is written into the output; where it does not fit
+// nothing happens.
 pub fn step(
     state: State,
     characters: &mut [u8],

@@ -2,7 +2,7 @@
 -- and a field CD. A call given 9 does no step, so the copy and what a changed block omits are as if it had not been.
 use mathlib.Core.Path.{_≡_, refl, sym, ap, _∙_}
 use mathlib.Core.List.{List, [], _∷_, _++_, map}
-use mathlib.Core.Bool.{Bool, true, false}
+use mathlib.Core.Bool.{true, false}
 use Prim.Native.Nat.{ℕ}
 use Prim.Native.Char.{code}
 use native.Mathlib.Omega.{arith}
@@ -12,7 +12,6 @@ use Rattle.words.specs.Lists.{some}
 use Rattle.words.specs.Output.{placed}
 use Rattle.words.specs.Text.{bytes}
 use Rattle.page.specs.Marks.{isRequired}
-use Rattle.page.specs.Page.{Page}
 use Rattle.fields.specs.Fields.{Field}
 use Rattle.fields.specs.Required.{isLeftBlank}
 use Rattle.blocks.specs.Blocks.{block}

@@ -50,10 +50,8 @@ decided-by-9 (not-this _ _ _ _ (not-this _ _ _ _ (this-holds _ _ _))) nine = abs
 decided-by-9 (not-this _ _ _ _ (not-this _ _ _ _ (not-this _ _ _ _ (this-holds _ _ _)))) nine = absurd (omega arith)
 decided-by-9 (not-this _ _ _ _ (not-this _ _ _ _ (not-this _ _ _ _ (not-this _ _ _ _ (this-holds _ _ _))))) nine = absurd (omega arith)
 decided-by-9 (not-this _ _ _ _ (not-this _ _ _ _ (not-this _ _ _ _ (not-this _ _ _ _ (not-this _ _ _ _ (this-holds _ _ _)))))) nine = absurd (omega arith)
-decided-by-9 {t} (not-this _ _ _ a (not-this _ _ _ b (not-this _ _ _ c (not-this _ _ _ d (not-this _ _ _ e (not-this _ _ _ f (this-holds _ _ (required-blank _ field blank)))))))) nine = (
-  record { not-1 = a; not-2 = b; not-4 = c; not-5 = d; not-7 = e; not-8 = f },
-  (field, blank .on-page, blank .has-required, not-filled t field blank),
-)
+decided-by-9 {t} (not-this _ _ _ a (not-this _ _ _ b (not-this _ _ _ c (not-this _ _ _ d (not-this _ _ _ e (not-this _ _ _ f (this-holds _ _ (required-blank _ field blank)))))))) nine =
+    (record { not-1 = a; not-2 = b; not-4 = c; not-5 = d; not-7 = e; not-8 = f }, (field, blank .on-page, blank .has-required, not-filled t field blank))
 decided-by-9 (not-this _ _ _ _ (not-this _ _ _ _ (not-this _ _ _ _ (not-this _ _ _ _ (not-this _ _ _ _ (not-this _ _ _ _ (not-this _ _ _ _ (this-holds _ _ _)))))))) nine = absurd (omega arith)
 decided-by-9 (not-this _ _ _ _ (not-this _ _ _ _ (not-this _ _ _ _ (not-this _ _ _ _ (not-this _ _ _ _ (not-this _ _ _ _ (not-this _ _ _ _ (not-this _ _ _ _ none-holds)))))))) nine = absurd (omega arith)
 

@@ -6,7 +6,8 @@ use Rattle.page.specs.Marks.{withBit, withoutBits, withoutBit, isModified, vali
 use Rattle.state.specs.declared.State.{State}
 use Rattle.state.specs.State.{withModes}
 
--- DAQ, ESC V and ESC W: of the bits 0, 7 and 8 none is set, or one in place of the others; required, bit 9, is taken off.
+-- DAQ, ESC V and ESC W: of the bits 0, 7 and 8 none is set, or one in place of the others; bit 9, required, is taken
+-- off.
 abbrev pub penUnprotected : ℕ → ℕ
 penUnprotected pen = withoutBits 7 10 (withoutBit 0 pen)
 

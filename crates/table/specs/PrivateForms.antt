@@ -1,5 +1,5 @@
--- Document 02, M-106: the private forms, ESC [ > argument final. What each does stands here and nowhere else; every other
--- is a spoilt sequence.
+-- Document 02, M-106: the private forms, ESC [ > argument final. What each does stands here and nowhere else; every
+-- other is a spoilt sequence.
 use Prim.Native.Nat.{ℕ}
 use Prim.Native.Char.{code}
 use mathlib.Core.Bool.{true, false}

@@ -1,7 +1,7 @@
--- Send keys that look at too few fields, or at too few cells of one, are caught by Required; an ESC S that is held back,
--- by SendsBlocks.
+-- Send keys that look at too few fields, or at too few cells of one, are caught by Required; an ESC S that is held
+-- back, by SendsBlocks.
 use mathlib.Core.Path.{_≡_, refl, sym, ap, _∙_, subst}
-use mathlib.Core.Bool.{Bool, true, false}
+use mathlib.Core.Bool.{true, false}
 use mathlib.Core.List.{List, [], _∷_, _++_, List·Memᴰ, List·Memᴰ·head, List·Memᴰ·eq-of-singleton}
 use Prim.Native.Nat.{ℕ}
 use Prim.Native.Char.{code}
@@ -32,7 +32,7 @@ use Rattle.promises.specs.Rules.{byte}
 use Rattle.promises.specs.Further.{Filled, Required, full-by-esc-s, SendsBlocks}
 use Rattle.wrong.specs.Rules.{isBlock, someSentBlank, looksAtWhatItSends, looksAtWhatItSendsCalls, requiredBlank, looksAtRequiredCells, looksAtRequiredCellsCalls, holdsEscSBack}
 use Rattle.promises.proofs.Sheets.{sheet, at, sheet-fields}
-use Rattle.promises.proofs.Computing.{validity, blockBytes, blankFields, hostSteps, keySteps, calls, streams}
+use Rattle.promises.proofs.Computing.{validity, blockBytes, blankFields, keySteps, calls, streams}
 use Rattle.wrong.proofs.WrongModes.{halfRead}
 
 -- A required field of one cell, blank and not modified; the one field of its page.

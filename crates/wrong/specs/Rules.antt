@@ -146,7 +146,8 @@ heldBackCall test rules t key output =
 -- The fields that are to be sent are looked at alone;
 unfoldable pub someSentBlank : Terminal → List Field → Bool
 someSentBlank t fields =
-    some (λ (field : Field). isInBlock (sendsFull (t .state)) (seen t .marks) field and isLeftBlank (seen t) field) fields
+    let full = sendsFull (t .state) in
+    some (λ (field : Field). isInBlock full (seen t .marks) field and isLeftBlank (seen t) field) fields
 
 abbrev pub looksAtWhatItSends : Rules
 looksAtWhatItSends = holdingBackWhere (λ t. someSentBlank t (fieldsHere t))
