@@ -16,7 +16,7 @@ use Rattle.promises.specs.Rules.{byte, press}
 use Rattle.promises.specs.Demands.{KeysKeep}
 use Rattle.promises.specs.Further.{BlocksKeep, KeysTake}
 use Rattle.wrong.specs.Entries.{blanksRow, typesOnProtected}
-use Rattle.wrong.specs.Rules.{isBlock, clearsAllTags, unprotectsFirst, clearsLooks, keepsTags, typesAnything, carriesAnything, makesPlain}
+use Rattle.wrong.specs.Rules.{isBlock, clearsAllTags, unprotectsFirst, clearsLooks, keepsTags, typesAnything, carriesAnything, makesPlain, takesRequiredOff}
 use Rattle.promises.proofs.Sheets.{sheet, at}
 use Rattle.wrong.proofs.WrongModes.{halfRead}
 use Rattle.promises.proofs.Computing.{validity, hostSteps, keySteps, calls, streams}
@@ -99,3 +99,11 @@ carriesAnything-breaks-keys-take kept =
 pub makesPlain-breaks-keys-take : KeysTake makesPlain → ⊥
 unfolding validity keySteps
 makesPlain-breaks-keys-take kept = true-is-not-false (sym (kept .kinds mixedField (code "3") 0 .numeric))
+
+-- A character typed into a required cell leaves it so no longer.
+abbrev requiredCell : Terminal
+requiredCell = at 1 (sheet (bytes "     ") (512 ∷ 1 ∷ 1 ∷ 1 ∷ 1 ∷ []))
+
+pub takesRequiredOff-breaks-keys-take : KeysTake takesRequiredOff → ⊥
+unfolding keySteps
+takesRequiredOff-breaks-keys-take kept = true-is-not-false (sym (kept .kinds requiredCell (code "3") 0 .required))

@@ -235,16 +235,22 @@ typesAnything = withOnKey (λ key t. if isTyping key then takenStep key t else k
 abbrev pub carriesAnything : Rules
 carriesAnything = withOnKey (λ key t. if eqb key 264 then takenStep key t else keyStep key t)
 
--- or a typed character makes its cell plain.
-abbrev plainly : Terminal → Stepped → Stepped
-plainly t step =
+-- or a typed character takes bits from n to before m off its cell:
+abbrev typingClears : ℕ → ℕ → Rules
+typingClears n m = withOnKey (λ key t.
+    let step = keyStep key t in
     let marks = step .terminal .page .marks in
     let cell = cursorCell (t .state) in
-    let page = pageOf (step .terminal .page .characters) (set marks cell (withoutBits 7 9 (getD marks cell 0))) in
-    stores (step .cells) (step .protection) (step .terminal .state) page
+    let page = pageOf (step .terminal .page .characters) (set marks cell (withoutBits n m (getD marks cell 0))) in
+    if isTyping key then stores (step .cells) (step .protection) (step .terminal .state) page
+    else step)
 
+-- it makes its cell plain, or no longer required.
 abbrev pub makesPlain : Rules
-makesPlain = withOnKey (λ key t. if isTyping key then plainly t (keyStep key t) else keyStep key t)
+makesPlain = typingClears 7 9
+
+abbrev pub takesRequiredOff : Rules
+takesRequiredOff = typingClears 9 10
 
 -- Message and byte. Text clears them,
 abbrev pub textClears : Rules
