@@ -88,7 +88,7 @@ pub fn is_valid_mark(mark: Mark) -> bool
     if is_protected(mark) {
         return mark < 0x80;
     }
-    if mark % 0x200 < 0x180 {
+    if mark % 512 < 0x180 {
         return mark < 0x400;
     }
     false
