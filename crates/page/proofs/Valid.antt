@@ -7,8 +7,8 @@ use borrow.Author.Tests.{lt-ltb, ltb-true, ltb-false, eqb-true, eqb-false, eq-eq
 use lib.Dec.{ltb}
 use lib.Pow.{shr-shr}
 use Rattle.words.specs.Choice.{_and_, _or_}
-use Rattle.words.proofs.Choosing.{both, both-hold, either-way, refuted, true-is-not-false}
-use Rattle.page.specs.Marks.{isProtected, isNumeric, isAlphabetic, isRequired, validMark}
+use Rattle.words.proofs.Choosing.{both, both-hold, either-way, less-or-not, refuted, true-is-not-false}
+use Rattle.page.specs.Marks.{withoutBit, isProtected, isNumeric, isAlphabetic, isRequired, validMark}
 
 -- Which kinds may stand together: no two but required, with any but protected.
 abbrev pub kindsFit : Bool → Bool → Bool → Bool → Bool
@@ -64,7 +64,7 @@ module _ (mark : ℕ) where
   unfolding validMark
   valid-from less p n a r fit = both-hold _ _ (lt-ltb mark 0x400 less) (rw (p, n, a, r) fit)
 
-  -- The same by size: a protected mark is below 80; another one below 400, and below 180 but for bit 9.
+  -- The same by size: a protected mark is below 80; another one below 180 but for bit 9.
   no-kind : mark < 0x80 → (isNumeric mark ≡ false) × (isAlphabetic mark ≡ false) × (isRequired mark ≡ false)
   no-kind less = (
     ne-eqb (mark / 2 ^ 7 % 2) 1 (omega (arith, less)),
@@ -88,11 +88,14 @@ module _ (mark : ℕ) where
           let no-numeric : mark / 2 ^ 7 ≡ 0 = omega (arith, no-alphabetic, eqb-false (mark / 2 ^ 7 % 2) 1 (alone .0)) in
           omega (arith, high, no-numeric)
 
-  pub unprotected-limit : isProtected mark ≡ false → mark % 0x200 < 0x180 → validMark mark ≡ ltb mark 0x400
-  unprotected-limit p one-kind =
-      either-way (ltb mark 0x400)
-      (λ t. below (ltb-true mark 0x400 t) ∙ sym t)
-      (λ t. refuted (validMark mark) (λ v. omega (arith, valid-mark v .0, ltb-false mark 0x400 t)) ∙ sym t)
+  one-kind-fits : isProtected mark ≡ false → mark % 0x200 < 0x180 → mark < 0x400 → validMark mark ≡ true
+  one-kind-fits p one-kind less =
+      either-way (isNumeric mark)
+      (λ n. valid-from less p n (ne-eqb (mark / 2 ^ 8 % 2) 1 (λ a. not-both-kinds (eqb-true (mark / 2 ^ 7 % 2) 1 n) a)) refl (numeric-fits _))
+      (λ n.
+      either-way (isAlphabetic mark)
+      (λ a. valid-from less p n a refl (alphabetic-fits _))
+      (λ a. valid-from less p n a refl (plain-fits _)))
     where
       not-both-kinds : mark / 2 ^ 7 % 2 ≡ 1 → mark / 2 ^ 8 % 2 ≡ 1 → ⊥
       not-both-kinds n a =
@@ -101,16 +104,7 @@ module _ (mark : ℕ) where
           let kinds : mark / 2 ^ 7 ≡ 4 * (mark / 0x200) + 2 = omega (arith, high, one-kind) in
           omega (arith, kinds, n)
 
-      below : mark < 0x400 → validMark mark ≡ true
-      below less =
-          either-way (isNumeric mark)
-          (λ n. valid-from less p n (ne-eqb (mark / 2 ^ 8 % 2) 1 (λ a. not-both-kinds (eqb-true (mark / 2 ^ 7 % 2) 1 n) a)) refl (numeric-fits _))
-          (λ n.
-          either-way (isAlphabetic mark)
-          (λ a. valid-from less p n a refl (alphabetic-fits _))
-          (λ a. valid-from less p n a refl (plain-fits _)))
-
-  pub two-kinds : 0x180 ≤ mark % 0x200 → validMark mark ≡ false
+  two-kinds : 0x180 ≤ mark % 0x200 → validMark mark ≡ false
   two-kinds high =
       refuted (validMark mark)
       (λ v.
@@ -118,3 +112,15 @@ module _ (mark : ℕ) where
       let numeric : isNumeric mark ≡ true = eq-eqb (mark / 2 ^ 7 % 2) 1 (omega (arith, high)) in
       let alone = numeric-alone (isProtected mark) _ (isAlphabetic mark) (isRequired mark) numeric (known .1) in
       omega (arith, high, eqb-false (mark / 2 ^ 8 % 2) 1 alone))
+
+  pub unprotected-limit : isProtected mark ≡ false → validMark mark ≡ ltb (withoutBit 9 mark) 0x180
+  unprotected-limit p =
+      either-way (ltb (withoutBit 9 mark) 0x180)
+      (λ t. let less = ltb-true (withoutBit 9 mark) 0x180 t in one-kind-fits p (omega (arith, less)) (omega (arith, less)) ∙ sym t)
+      (λ t. too-high (ltb-false (withoutBit 9 mark) 0x180 t) ∙ sym t)
+    where
+      too-high : 0x180 ≤ withoutBit 9 mark → validMark mark ≡ false
+      too-high high =
+          less-or-not mark 0x400
+          (λ less. two-kinds (omega (arith, high, less)))
+          (λ more. refuted (validMark mark) (λ v. omega (arith, valid-mark v .0, more)))

@@ -80,18 +80,15 @@ pub fn is_required(mark: Mark) -> bool
     mark / 512 % 2 == 1
 }
 
-// A protected cell has no bit above the visual ones. Another one is not numeric and alphabetic: of bits 0 to 8 the two
-// together make 180 hexadecimal at least.
+// A protected cell has no bit above the visual ones. Another one may have bit 9, and is not numeric and alphabetic: the
+// two together make 180 hexadecimal at least.
 pub fn is_valid_mark(mark: Mark) -> bool
     ensures { λ r. ⌜ r ≡ validMark mark ⌝ }
 {
     if is_protected(mark) {
         return mark < 0x80;
     }
-    if mark % 512 < 0x180 {
-        return mark < 0x400;
-    }
-    false
+    mark / 1024 * 1024 + mark % 512 < 0x180
 }
 
 // Whether a numeric cell takes a character other than 20.

@@ -1,6 +1,6 @@
 use mathlib.Core.Path.{sym, _∙_}
 use borrow.Author.Needs.{needs}
-use Rattle.page.proofs.Valid.{protected-limit, unprotected-limit, two-kinds}
+use Rattle.page.proofs.Valid.{protected-limit, unprotected-limit}
 use Rattle.page.proofs.marks.is_valid_mark.Statement.{statement}
 use Rattle.page.proofs.marks.is_valid_mark.Tie as tie
 
@@ -10,5 +10,6 @@ is-valid-mark-spec =
     (tie.spec
     (λ c κs. search needs)
     (λ c. sym (protected-limit _ (sym (c .before .is-protected .ensures) ∙ c .if1 .taken)))
-    (λ c. sym (unprotected-limit _ (sym (c .before .before .is-protected .ensures) ∙ c .before .if1 .left) (c .if2 .taken)))
-    (λ c. sym (two-kinds _ (c .if2 .left))))
+    (λ c. search needs)
+    (λ c. search needs)
+    (λ c. sym (unprotected-limit _ (sym (c .before .is-protected .ensures) ∙ c .if1 .left))))
