@@ -51,7 +51,7 @@ isNumeric = hasBit 7
 abbrev pub isAlphabetic : ℕ → Bool
 isAlphabetic = hasBit 8
 
--- M-107: a cell of a required field.
+-- M-107: one such cell makes its field a required one.
 abbrev pub isRequired : ℕ → Bool
 isRequired = hasBit 9
 

@@ -53,7 +53,7 @@ pub data Line8 (key : ℕ) (t : Terminal) : Type 0 where
   not-taken-on-the-right : key ≡ 265 → (cell : ℕ) → cursorCell (t .state) ≤ cell → cell + 1 < endHere t
       → takesAt t (cell + 1) (characterAt t cell) ≡ false → Line8 key t
 
--- A field has a required cell; it is one of the page, has one, and holds only 20s.
+-- A field has a required cell. One of the page's is left blank: it has such a cell, and holds only 20s.
 pub record HasRequired (t : Terminal) (field : Field) : Type 0 where
   pub cell : ℕ
   pub from-start : field .start ≤ cell
@@ -65,7 +65,7 @@ pub record LeftBlank (t : Terminal) (field : Field) : Type 0 where
   pub has-required : HasRequired t field
   pub only-20s : (cell : ℕ) → field .start ≤ cell → cell < field .start + field .length → characterAt t cell ≡ 0x20
 
--- 9, of M-107: the key is 266, and some field is such.
+-- 9, of M-107: the key is 266, and some field is left blank.
 pub data Line9 (key : ℕ) (t : Terminal) : Type 0 where
   required-blank : key ≡ 266 → (field : Field) → LeftBlank t field → Line9 key t
 

@@ -132,7 +132,8 @@ holdsEscSBack = withOnByte (λ b t.
 abbrev holdingBackWhere : (Terminal → Bool) → Rules
 holdingBackWhere test = withOnKey (λ key t.
     if eqb key 266 and test t then goesTo (t .state) t
-    else takenStep key t)
+    else if eqb key 266 then takenStep key t
+    else keyStep key t)
 
 -- and 9 is given by it.
 abbrev pub heldBackCall : (Terminal → Bool) → Rules → Terminal → ℕ → List ℕ → Outcome
