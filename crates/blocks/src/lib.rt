@@ -1,5 +1,7 @@
 // The block that is sent to the host, if there is room: its length is worked out first where there might be too little.
 // Its bytes are defined in specs/Blocks.antt.
+#![tactic(auto)]
+
 ghost use Rattle.std.specs.Prelude.{◌≡◌, List, ℕ, ◌+◌, ◌-◌, ◌*◌, ◌<◌, ◌≤◌, leb, length, take, drop};
 ghost use Rattle.words.specs.Output.{Wrote};
 ghost use Rattle.page.specs.Page.{page_of};
@@ -10,7 +12,7 @@ use page::Mark;
 use places::Place;
 
 // Whether a block was sent, and how many bytes it has.
-#[derive(Drop)]
+#[derive(Clone, Copy)]
 pub enum BlockResult {
     Bytes(usize),
     NoRoom,

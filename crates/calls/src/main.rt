@@ -1,5 +1,7 @@
 // Single calls of the terminal's entries, with any state, lent parts and room: what transcripts can't reach.
 // Its lines, in and out, are those of second/FORMATS.md, section "calls".
+#![tactic(auto)]
+
 ghost use Rattle.std.specs.Prelude.{◌≡◌, ◌+◌, ◌%◌, ◌<◌, ◌≤◌, min, length};
 ghost use Rattle.calls.specs.Frames.{two_at, four_at, Lendable};
 
@@ -27,7 +29,7 @@ const MOST_BYTES: usize = 65537;
 const FILLED: u8 = 0xA5;
 
 // The state, and how many of the characters, the marks and the output's bytes are lent to a call.
-#[derive(Drop)]
+#[derive(Clone, Copy)]
 struct Held {
     state: State,
     characters: usize,
@@ -36,7 +38,7 @@ struct Held {
 }
 
 // What is held, and how many bytes of the line being read have come.
-#[derive(Drop)]
+#[derive(Clone, Copy)]
 struct Reading {
     held: Held,
     digits: usize,

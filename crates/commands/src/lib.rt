@@ -1,6 +1,8 @@
 // Document 01, "Reading host bytes" and "Commands": what text, control bytes and commands do to the page.
 // What each function leaves is defined in specs/. Text comes in runs (texts.rt), and what changes little is done in
 // place (light.rt): the rest is here.
+#![tactic(auto)]
+
 mod light;
 mod texts;
 

@@ -8,7 +8,7 @@ use page::Mark;
 use state::{Cursor, State};
 
 // Where the cursor stands after a run of text, and where the run ends among the bytes.
-#[derive(Drop)]
+#[derive(Clone, Copy)]
 pub struct TextRun {
     pub cursor: Cursor,
     pub end: usize,

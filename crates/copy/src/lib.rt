@@ -1,5 +1,7 @@
 // A block laid over a copy of an earlier one: what a host does that keeps the copy of a form.
 // The bytes that are laid are `lay` of crates/blocks/specs/Lay.antt.
+#![tactic(auto)]
+
 ghost use Rattle.std.specs.Prelude.{◌≡◌, ◌+◌, ◌-◌, ◌<◌, ◌≤◌, leb, length, drop, get_or};
 ghost use Rattle.words.specs.Output.{Wrote};
 ghost use Rattle.blocks.specs.Lay.{lay};
@@ -9,14 +11,14 @@ ghost use Rattle.copy.specs.Copy.{IsBlock, entry_end, same_head, source_of, part
 const ESC: u8 = 0x1B;
 
 // Whether the bytes were laid, and how many they are.
-#[derive(Drop)]
+#[derive(Clone, Copy)]
 pub enum Laid {
     Bytes(usize),
     NoRoom,
 }
 
 // Where the bytes that are laid for an entry of the copy stand: in the block that was sent, or in the copy.
-#[derive(Drop)]
+#[derive(Clone, Copy)]
 struct Part {
     sent: bool,
     from: usize,

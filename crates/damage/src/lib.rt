@@ -1,4 +1,6 @@
 // The state's parts by number, so that a test can read and set any of them; see specs/Parts.antt.
+#![tactic(auto)]
+
 ghost use Rattle.std.specs.Prelude.{◌≡◌, ◌%◌};
 ghost use Rattle.damage.specs.Parts.{flag_number, is_on, first_parts, part_of};
 ghost use Rattle.damage.specs.Parts.{chosen, arguments_with, stops_with, with_part};

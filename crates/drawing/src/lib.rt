@@ -1,5 +1,7 @@
 // A terminal drawn as text, so that a person can read it and a program can compare it; see specs/Drawing.antt.
 // Every function writes into a lent text from a place on, and gives the place after.
+#![tactic(auto)]
+
 ghost use Rattle.std.specs.Prelude.{◌≡◌, ◌+◌, ◌*◌, ◌<◌, ◌≤◌, length};
 ghost use Rattle.words.specs.Choice.{if◌then◌else◌};
 ghost use Rattle.words.specs.Output.{Wrote};

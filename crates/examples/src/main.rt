@@ -1,6 +1,8 @@
 // The examples of document 01 that are not starred: a host call of 65,536 bytes is accepted, and one of 65,537 is
 // given 6. A line for each call: its bytes; then its number, the bytes taken, the bytes sent, the cells stored, the
 // cursor's row and column.
+#![tactic(auto)]
+
 use page::Mark;
 use terminal::Reply;
 

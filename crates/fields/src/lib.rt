@@ -1,5 +1,7 @@
 // Fields: unprotected cells that follow on one another in page order; and the searches of the keys.
 // What each function gives is defined in specs/Fields.antt, specs/Searches.antt and specs/Required.antt.
+#![tactic(auto)]
+
 ghost use Rattle.std.specs.Prelude.{◌≡◌, ◌-◌, ◌*◌, ◌<◌, ◌≤◌, length};
 ghost use Rattle.places.specs.Places.{place_of, Counted};
 ghost use Rattle.words.specs.Choice.{◌and◌};
@@ -16,7 +18,7 @@ use page::Mark;
 use places::Place;
 
 // A place that was looked for.
-#[derive(Drop)]
+#[derive(Clone, Copy)]
 pub enum Sought {
     At(Place),
     Nowhere,

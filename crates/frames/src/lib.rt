@@ -1,5 +1,7 @@
 // The frames of the transcript program: a line read, its frame, and what its calls print. What they mean is defined in
 // specs/.
+#![tactic(auto)]
+
 ghost use Rattle.std.specs.Prelude.{◌≡◌, List, ◌++◌, ℕ, ◌+◌, ◌*◌, ◌%◌, ◌<◌, ◌≤◌, min, length, take, drop, set};
 ghost use Rattle.words.specs.Output.{Wrote, placed};
 ghost use Rattle.page.specs.Page.{Page};
@@ -16,7 +18,7 @@ use state::State;
 use terminal::Reply;
 
 // What a line says. The host bytes stand in the line from place 1 to before the place named.
-#[derive(Drop)]
+#[derive(Clone, Copy)]
 pub enum Kind {
     Start(u8, u8),
     Host(usize),
@@ -25,7 +27,7 @@ pub enum Kind {
 }
 
 // The session, beside the two lent slices that its page stands first in.
-#[derive(Drop)]
+#[derive(Clone, Copy)]
 pub struct Held {
     pub going: bool,
     pub cells: usize,
@@ -33,7 +35,7 @@ pub struct Held {
 }
 
 // After a call: the session, where the line printed ends, and the place in the line to carry on from, if there is more.
-#[derive(Drop)]
+#[derive(Clone, Copy)]
 pub struct Printed {
     pub held: Held,
     pub end: usize,

@@ -1,4 +1,6 @@
 // Document 01, "Fields, keys and blocks": the keys. What each function gives is defined in specs/Keys.antt.
+#![tactic(auto)]
+
 ghost use Rattle.std.specs.Prelude.{◌≡◌, false};
 ghost use Rattle.page.specs.Page.{page_of, takes_from_right, takes_from_left, closed_up, moved_right};
 ghost use Rattle.steps.specs.Steps.{Valid, terminal_of, cursor_cell};
@@ -15,7 +17,7 @@ use state::State;
 use steps::Step;
 
 // Cells from `from` to before `end`.
-#[derive(Drop)]
+#[derive(Clone, Copy)]
 struct Rest {
     from: usize,
     end: usize,

@@ -1,4 +1,6 @@
 // The half-read record, lent: document 01's form for "a small record, advanced byte by byte".
+#![tactic(auto)]
+
 ghost use Rattle.std.specs.Prelude.{◌≡◌, true};
 ghost use Rattle.sequence.specs.Record.{valid_half_read};
 ghost use Rattle.sequence.specs.Reading.{advance_of};

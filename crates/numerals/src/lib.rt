@@ -1,6 +1,8 @@
 // Numbers as text: bytes in hexadecimal, read and written, and numbers of five digits.
 // For the programs that a person runs.
 // Every function that writes does so into a lent text from a place on, and gives the place after.
+#![tactic(auto)]
+
 ghost use Rattle.std.specs.Prelude.{◌≡◌, true, ◌+◌, ◌*◌, ◌<◌, ◌≤◌, length, take};
 ghost use Rattle.words.specs.Lists.{every};
 ghost use Rattle.words.specs.Output.{Wrote};

@@ -1,10 +1,12 @@
 // Bytes and decimal numbers, written into a lent output from a place on; each function gives the place after.
+#![tactic(auto)]
+
 ghost use Rattle.std.specs.Prelude.{◌≡◌, [], ◌∷◌, ◌+◌, ◌*◌, ◌/◌, ◌%◌, ◌<◌, ◌≤◌, length};
 ghost use Rattle.words.specs.Output.{Wrote};
 ghost use Rattle.output.specs.Decimal.{decimal, place_bytes};
 
 // How often a unit goes into a number, and what is left.
-#[derive(Drop)]
+#[derive(Clone, Copy)]
 pub struct CountedOff {
     pub times: usize,
     pub left: usize,

@@ -1,5 +1,7 @@
 // The page: characters and marks in two lent slices, each as long as the page has cells.
 // What each function leaves in them is defined in specs/Page.antt.
+#![tactic(auto)]
+
 mod editing;
 mod erasing;
 mod marks;

@@ -1,5 +1,7 @@
 // Document 02, M-100: start, host and key for a program in C, with numbers and byte slices only. They ask nothing of
 // what arrives. What each gives and leaves is defined in specs/Panel.antt; docs/PANEL.md is for who calls them.
+#![tactic(auto)]
+
 ghost use Rattle.std.specs.Prelude.{◌≡◌, [], ◌*◌, ◌≤◌, length};
 ghost use Rattle.words.specs.Output.{placed};
 ghost use Rattle.page.specs.Page.{page_of};

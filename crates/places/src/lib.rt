@@ -1,8 +1,10 @@
 // A cell with its row and column, counted along: a page is walked without dividing.
+#![tactic(auto)]
+
 ghost use Rattle.std.specs.Prelude.{◌≡◌, ◌+◌, ◌-◌, ◌*◌, ◌<◌, ◌≤◌};
 ghost use Rattle.places.specs.Places.{place_of, cell_at, Counted};
 
-#[derive(Drop)]
+#[derive(Clone, Copy)]
 pub struct Place {
     pub cell: usize,
     pub row: usize,

@@ -1,6 +1,8 @@
 // Host bytes read on to the first that brings something about: what each byte does is `advance` of the crate sequence,
 // and this is it again and again (specs/Ahead.antt). A whole command takes a path of its own, in which no record is
 // handed around.
+#![tactic(auto)]
+
 ghost use Rattle.std.specs.Prelude.{◌≡◌, true, false, ◌<◌, ◌+◌, ◌-◌, ◌*◌, eqb, length, get_or, drop};
 ghost use Rattle.words.specs.Choice.{◌and◌, ◌is◌to◌};
 ghost use Rattle.sequence.specs.declared.HalfRead.{HalfRead};
@@ -10,7 +12,7 @@ ghost use Rattle.reading.specs.Ahead.{is_nothing, read_from};
 use sequence::{Event, HalfRead};
 
 // The last byte read: the record before it, the record and the event after it, and where it ends.
-#[derive(Drop)]
+#[derive(Clone, Copy)]
 pub struct Reading {
     pub before: HalfRead,
     pub after: HalfRead,

@@ -1,4 +1,6 @@
 // Document 02, M-100: the state as a record of bytes, written and read; see specs/Record.antt.
+#![tactic(auto)]
+
 mod numbers;
 
 ghost use Rattle.std.specs.Prelude.{◌≡◌, ◌+◌, ◌%◌, ◌<◌, ◌≤◌, length, get_or};

@@ -1,6 +1,8 @@
 // Samples of what is promised: cutting and feeding back (demand 2) and the copy (demand 3), said of what runs. Each
 // function calls the entries, and its contract has the promise.
 // What the contracts say is in specs/Samples.antt; what they rest on is proved in `promises`.
+#![tactic(auto)]
+
 ghost use Rattle.std.specs.Prelude.{◌≤◌, ◌≡◌, eqb, length, take, drop};
 ghost use Rattle.page.specs.Page.{page_of};
 ghost use Rattle.terminal.specs.Answers.{given, number_of};
@@ -16,7 +18,7 @@ use terminal::{Answer, Reply};
 const ESC_S: [u8; 2] = [0x1B, b'S'];
 
 // What two calls handed back.
-#[derive(Drop)]
+#[derive(Clone, Copy)]
 pub struct Replies {
     pub first: Reply,
     pub second: Reply,
@@ -89,7 +91,7 @@ pub fn send_on(
 }
 
 // What ESC S, any key, and 266 handed back.
-#[derive(Drop)]
+#[derive(Clone, Copy)]
 pub struct ThreeReplies {
     pub full: Reply,
     pub typed: Reply,
@@ -97,13 +99,13 @@ pub struct ThreeReplies {
 }
 
 // What became of the host's copy: it was laid, or one of the calls was refused.
-#[derive(Drop)]
+#[derive(Clone, Copy)]
 pub enum Copy {
     Made(Laid),
     NotSent,
 }
 
-#[derive(Drop)]
+#[derive(Clone, Copy)]
 pub struct Copied {
     pub replies: ThreeReplies,
     pub copy: Copy,

@@ -1,6 +1,8 @@
 // What sends: a report, or a block, full or changed.
 // `before` is the state before the command's last byte; it is handed back where the transmission doesn't fit, and then
 // nothing happens.
+#![tactic(auto)]
+
 ghost use Rattle.std.specs.Prelude.{◌≡◌, false, ◌+◌, ◌≤◌, length};
 ghost use Rattle.words.specs.Output.{Wrote};
 ghost use Rattle.page.specs.Page.{Page, page_of};

@@ -1,5 +1,7 @@
 // Document 01, "Reading host bytes", and document 02, M-106: the half-read sequence, advanced by one byte.
 // Which record and which event a byte gives is defined in specs/Reading.antt.
+#![tactic(auto)]
+
 ghost use Rattle.std.specs.Prelude.{◌≡◌, true, ◌≤◌};
 ghost use Rattle.words.specs.Choice.{◌is◌to◌};
 ghost use Rattle.sequence.specs.Record.{largest_argument, arguments_fit, valid_half_read};
@@ -23,7 +25,7 @@ pub const BRACKET_ALONE: u8 = 4;
 pub const AFTER_PRIVATE_MARK: u8 = 5;
 
 // A sequence of which some bytes have been read. The last of `count` arguments is still being read.
-#[derive(Drop)]
+#[derive(Clone, Copy)]
 pub struct HalfRead {
     pub kind: u8,
     pub arguments: [u16; 8],
@@ -32,7 +34,7 @@ pub struct HalfRead {
 }
 
 // Why a command is refused: what M-102 of document 02 tells apart.
-#[derive(Drop)]
+#[derive(Clone, Copy)]
 pub enum Reason {
     UnknownCommand,
     // An argument not allowed, or too many for the command.
@@ -44,7 +46,7 @@ pub enum Reason {
 }
 
 // What a byte brings about.
-#[derive(Drop)]
+#[derive(Clone, Copy)]
 pub enum Event {
     Nothing,
     Text(u8),
@@ -59,7 +61,7 @@ pub enum Event {
     Refused(Reason, u8),
 }
 
-#[derive(Drop)]
+#[derive(Clone, Copy)]
 pub struct Advanced {
     pub half: HalfRead,
     pub event: Event,

@@ -1,4 +1,6 @@
 // The state by value. Methods take it and hand it back with one part replaced; see specs/.
+#![tactic(auto)]
+
 mod moves;
 mod pen;
 mod tabs;
@@ -17,20 +19,20 @@ pub use pen::{
 use places::Place;
 use sequence::{HalfRead, Reason};
 
-#[derive(Drop)]
+#[derive(Clone, Copy)]
 pub struct Size {
     pub rows: usize,
     pub columns: usize,
 }
 
-#[derive(Drop)]
+#[derive(Clone, Copy)]
 pub struct Cursor {
     pub row: usize,
     pub column: usize,
 }
 
 // The pen, and the two modes.
-#[derive(Drop)]
+#[derive(Clone, Copy)]
 pub struct Modes {
     pub pen: Mark,
     // set: erasing takes protected cells too
@@ -40,7 +42,7 @@ pub struct Modes {
 }
 
 // Manual input disabled, the soft lock, and the message: 0 none, 1 to 4 why a command was refused (`message_of`).
-#[derive(Drop)]
+#[derive(Clone, Copy)]
 pub struct Locks {
     pub manual: bool,
     pub soft: bool,
@@ -49,7 +51,7 @@ pub struct Locks {
     pub byte: u8,
 }
 
-#[derive(Drop)]
+#[derive(Clone, Copy)]
 pub struct State {
     pub size: Size,
     pub cursor: Cursor,

@@ -1,4 +1,6 @@
 // What the code tells of a step (specs/Told.antt).
+#![tactic(auto)]
+
 ghost use Rattle.std.specs.Prelude.{◌≡◌, List, ℕ, length};
 ghost use Rattle.page.specs.Page.{Page};
 ghost use Rattle.steps.specs.Steps.{goes_to, refusing, stores};
@@ -7,7 +9,7 @@ ghost use Rattle.steps.specs.Told.{told, tells};
 use sequence::Reason;
 use state::{Cursor, Modes, State};
 
-#[derive(Drop)]
+#[derive(Clone, Copy)]
 pub struct Step {
     pub state: State,
     pub stored: usize,
@@ -19,7 +21,7 @@ pub struct Step {
 }
 
 // A light step, which touches neither page nor output nor tab stops: what it changes of the state (specs/Light.antt).
-#[derive(Drop)]
+#[derive(Clone, Copy)]
 pub enum Light {
     Cursor(Cursor),
     Modes(Modes),

@@ -1,5 +1,7 @@
 // Document 01, "Commands": the table by final byte; in modules of their own, the commands that change the state alone.
 // What each function gives is defined in specs/.
+#![tactic(auto)]
+
 ghost use Rattle.std.specs.Prelude.{◌≡◌, ◌≤◌};
 ghost use Rattle.table.specs.Table.{allowed, value_of};
 

@@ -1,5 +1,7 @@
 // The three public entries of document 01: start, host, key. They ask nothing of what arrives.
 // What each gives and leaves is defined in specs/Calls.antt.
+#![tactic(auto)]
+
 ghost use Rattle.std.specs.Prelude.{◌≡◌, List, [], ℕ, ◌≤◌, length};
 ghost use Rattle.words.specs.Choice.{◌or◌};
 ghost use Rattle.page.specs.Page.{Page, page_of};
@@ -14,7 +16,7 @@ use state::{Size, State};
 use steps::Light;
 
 // Each has a number, and a line of document 01's table: `number_of` and `gives` of specs/Answers.antt.
-#[derive(Drop)]
+#[derive(Clone, Copy)]
 pub enum Answer {
     Done,
     WrongSize,
@@ -28,7 +30,7 @@ pub enum Answer {
     RequiredBlank,
 }
 
-#[derive(Drop)]
+#[derive(Clone, Copy)]
 pub struct Reply {
     pub answer: Answer,
     pub state: State,

@@ -1,6 +1,8 @@
 // The transcript program of document 01: frames in, one a line; a line out for each call. With an argument, whatever it
 // is, the terminal is drawn after each line (a dump). What a line means and prints is defined and proved in
 // crates/frames; here bytes are read, and the text of each call is written.
+#![tactic(auto)]
+
 ghost use Rattle.std.specs.Prelude.{◌≡◌, ◌≤◌, length};
 ghost use Rattle.frames.specs.Sessions.{line_done};
 ghost use Rattle.frames.specs.Transcript.{SoFar, after_byte, after_bytes};
@@ -22,7 +24,7 @@ const MOST_CALLS: usize = 256;
 const MOST_READS: u64 = 0x1000000000000000;
 
 // The session, and how many bytes of the line being read have come.
-#[derive(Drop)]
+#[derive(Clone, Copy)]
 struct Reading {
     held: Held,
     digits: usize,
