@@ -15,14 +15,14 @@ use Rattle.commands.proofs.bracket_step.Goals as goal
 
 pub returns-then-most-eq0 : goal.returns-then-most-eq0
 unfolding bytes_of
-returns-then-most-eq0 c = 
+returns-then-most-eq0 c =
     let t : Terminal = record { state = c.args.state; page = page_of c.args.characters.now c.args.marks.now } in
     rw (not_listed c.args.letter c.args.half t _ c.most_arguments-most.ensures c.if-most-eq0.true)
     (told_silent _ _ _ _ _ _ (c.refuse.ensures t.page) refl)
 
 pub returns-then-most-count : goal.returns-then-most-count
 unfolding bytes_of
-returns-then-most-count c = 
+returns-then-most-count c =
     let t : Terminal = record { state = c.args.state; page = page_of c.args.characters.now c.args.marks.now } in
     rw (too_many c.args.letter c.args.half t _ c.most_arguments-most.ensures c.if-most-eq0.false c.if-most-count.true)
     (told_silent _ _ _ _ _ _ (c.refuse-then-most-count.ensures t.page) refl)
@@ -37,16 +37,16 @@ pub tab_control-requires : goal.tab_control-requires
 tab_control-requires c = (measured c.requires.valid).on_page
 
 pub erase_part-requires : goal.erase_part-requires
-erase_part-requires c = 
+erase_part-requires c =
     let inside = measured c.requires.valid in
     (c.requires.valid, omega (arith, inside.cursor_inside, inside.as_many))
 
 pub status_report-requires : goal.status_report-requires
-status_report-requires c = c.before.before.before.before.before.before.before.before.before.before in ((measured start.requires.0).on_page, start.requires.1.0)
+status_report-requires c = record { on_page = (measured c.requires.valid).on_page; at_in_bounds = c.requires.at_in_bounds.0 }
 
 pub returns-in-73 : goal.returns-in-73
 unfolding bytes_of
-returns-in-73 c = 
+returns-in-73 c =
     let t : Terminal = record { state = c.args.state; page = page_of c.args.characters.now c.args.marks.now } in
     let passed = not_too_many c.args.letter c.args.half t _ c.most_arguments-most.ensures c.if-most-eq0.false c.if-most-count.false in
     rw (passed ∙ final_I _ _ _ _ t c.value-what.ensures c.in-73.is)
@@ -54,28 +54,28 @@ returns-in-73 c =
 
 pub returns-in-90 : goal.returns-in-90
 unfolding bytes_of
-returns-in-90 c = 
+returns-in-90 c =
     let t : Terminal = record { state = c.args.state; page = page_of c.args.characters.now c.args.marks.now } in
     let passed = not_too_many c.args.letter c.args.half t _ c.most_arguments-most.ensures c.if-most-eq0.false c.if-most-count.false in
     rw (passed ∙ final_Z _ _ _ _ t c.value-what.ensures c.in-90.is)
     (told_silent _ _ _ _ _ _ (c.quiet-in-90.ensures t.page ∙ ap (λ (s : State). tells (goes_to s t)) c.tab_back.ensures) refl)
 
 pub returns-in-87 : goal.returns-in-87
-returns-in-87 c = 
+returns-in-87 c =
     let t : Terminal = record { state = c.args.state; page = page_of c.args.characters.now c.args.marks.now } in
     let passed = not_too_many c.args.letter c.args.half t _ c.most_arguments-most.ensures c.if-most-eq0.false c.if-most-count.false in
     rw (passed ∙ final_W _ _ _ _ t c.value-what.ensures c.in-87.is)
     (told_silent _ _ _ _ _ _ (c.tab_control.ensures t.page) (tab_silent _ _ t))
 
 pub returns-in-74 : goal.returns-in-74
-returns-in-74 c = 
+returns-in-74 c =
     let t : Terminal = record { state = c.args.state; page = page_of c.args.characters.now c.args.marks.now } in
     let passed = not_too_many c.args.letter c.args.half t _ c.most_arguments-most.ensures c.if-most-eq0.false c.if-most-count.false in
     rw (passed ∙ final_J _ _ _ _ t c.value-what.ensures c.in-74.is)
     (told_silent _ _ _ _ _ _ c.erase_part.ensures (erase_silent _ _ _ _ t))
 
 pub returns-in-75 : goal.returns-in-75
-returns-in-75 c = 
+returns-in-75 c =
     let t : Terminal = record { state = c.args.state; page = page_of c.args.characters.now c.args.marks.now } in
     let passed = not_too_many c.args.letter c.args.half t _ c.most_arguments-most.ensures c.if-most-eq0.false c.if-most-count.false in
     rw (passed ∙ final_K _ _ _ _ t c.value-what.ensures c.in-75.is)
@@ -83,7 +83,7 @@ returns-in-75 c =
 
 pub returns-in_default : goal.returns-in_default
 unfolding is_light
-returns-in_default c = 
+returns-in_default c =
     let t : Terminal = record { state = c.args.state; page = page_of c.args.characters.now c.args.marks.now } in
     let passed = not_too_many c.args.letter c.args.half t _ c.most_arguments-most.ensures c.if-most-eq0.false c.if-most-count.false in
     let rest = c.in_default.in_default-own.rest in

@@ -14,31 +14,31 @@ pub place-place-requires : goal.place-place-requires
 place-place-requires c = (measured c.requires).on_page
 
 pub overflow_sub-first : goal.overflow_sub-first
-overflow_sub-first c = (measured c.requires).on_page in omega arith
+overflow_sub-first c = let on = (measured c.requires).on_page in omega arith
 
 pub overflow_sub-first-2 : goal.overflow_sub-first-2
-overflow_sub-first-2 c = 
+overflow_sub-first-2 c =
     let here = cell_is c.args.state.size.columns _ c.place-place.ensures in
     let on = (measured c.requires).on_page in
     let row = row_on_page _ c.requires in
     omega arith
 
 pub overflow_add-first : goal.overflow_add-first
-overflow_add-first c = 
+overflow_add-first c =
     let here = cell_is c.args.state.size.columns _ c.place-place.ensures in
     let on = (measured c.requires).on_page in
     let row = row_on_page _ c.requires in
     omega arith
 
 pub erase_part-requires : goal.erase_part-requires
-erase_part-requires c = 
+erase_part-requires c =
     let here = cell_is c.args.state.size.columns _ c.place-place.ensures in
     let on = (measured c.requires).on_page in
     let row = row_on_page _ c.requires in
     (c.requires, omega arith)
 
 pub returns : goal.returns
-returns c = 
+returns c =
     let size = c.args.state.size in
     let column = c.args.state.cursor.column in
     let here = cell_is size.columns _ c.place-place.ensures in

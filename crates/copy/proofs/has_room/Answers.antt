@@ -27,9 +27,9 @@ pub loop-at-smaller : goal.loop-at-smaller
 loop-at-smaller c = nearer _ _ c.loop-at.invariant.0 c.laid_part-part.ensures.goes_on
 
 pub loop-at-preserved : goal.loop-at-preserved
-loop-at-preserved c = 
+loop-at-preserved c =
     let next = c.laid_part-part.ensures in
     (next.goes_to, part_counted _ _ _ _ _ c.loop-at.invariant.1 _ next c.if-left-size.false)
 
 pub returns : goal.returns
-returns c = c.loop-at in all_counted _ _ _ _ _ turn.invariant.1 turn.invariant.0 c.loop-at-test.false
+returns c = let turn = c.loop-at in all_counted _ _ _ _ _ turn.invariant.1 turn.invariant.0 c.loop-at-test.false

@@ -16,7 +16,7 @@ pub laid_part-part-requires : goal.laid_part-part-requires
 laid_part-part-requires c = (c.requires.0, c.loop-at.invariant.0.copy_here, c.loop-at-test.true)
 
 pub put_part-next-requires : goal.put_part-next-requires
-put_part-next-requires c = 
+put_part-next-requires c =
     let laid = c.laid_part-part.ensures in
     let turn = c.loop-at.invariant in
     (laid.in_order, laid.inside, part_fits turn.0 _ laid c.requires.2 turn.1)
@@ -28,7 +28,7 @@ pub loop-at-preserved : goal.loop-at-preserved
 loop-at-preserved c = (part_written c.loop-at.invariant.0 _ c.laid_part-part.ensures c.put_part-next.ensures, search rules)
 
 pub put_byte-requires : goal.put_byte-requires
-put_byte-requires c = c.loop-at.invariant in end_fits turn.0 c.loop-at-test.false c.requires.2 turn.1
+put_byte-requires c = let turn = c.loop-at.invariant in end_fits turn.0 c.loop-at-test.false c.requires.2 turn.1
 
 pub returns : goal.returns
 returns c = all_written c.loop-at.invariant.0 c.loop-at-test.false c.put_byte.ensures

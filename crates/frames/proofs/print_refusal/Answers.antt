@@ -9,10 +9,10 @@ use Rattle.frames.specs.Printing.{line_of}
 use Rattle.frames.proofs.print_refusal.Goals as goal
 
 pub put_byte-requires : goal.put_byte-requires
-put_byte-requires c = c.before.before.before.before.before.before.before in omega (arith, c.put_hex-end.ensures.next_is, hex_length (0xFF ∷ []), start.requires)
+put_byte-requires c = omega (arith, c.put_hex-end.ensures.next_is, hex_length (0xFF ∷ []), c.requires)
 
 pub returns : goal.returns
 unfolding line_of
-returns c = 
+returns c =
     let room : 0 ≤ length c.args.text.now = omega arith in
     wrote_then room c.put_hex-end.ensures c.put_byte.ensures

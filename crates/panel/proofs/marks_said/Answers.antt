@@ -8,12 +8,12 @@ use Rattle.panel.proofs.marks_said.Goals as goal
 
 pub returns-then-cells-gt-MOST_CELLS : goal.returns-then-cells-gt-MOST_CELLS
 unfolding marks_said
-returns-then-cells-gt-MOST_CELLS c = ℕ} _ _ _ (first_fails _ _ (lt-leb _ _ c.if-cells-gt-MOST_CELLS.true)))
+returns-then-cells-gt-MOST_CELLS c = sym (else_case {A = ℕ} _ _ _ (first_fails _ _ (lt-leb _ _ c.if-cells-gt-MOST_CELLS.true)))
 
 pub returns-then-bytes-cells : goal.returns-then-bytes-cells
 unfolding marks_said
-returns-then-bytes-cells c = ℕ} _ _ _ (second_fails _ _ (ne_eqb _ _ c.if-bytes-cells.true)))
+returns-then-bytes-cells c = sym (else_case {A = ℕ} _ _ _ (second_fails _ _ (ne_eqb _ _ c.if-bytes-cells.true)))
 
 pub returns : goal.returns
 unfolding marks_said
-returns c = ℕ} _ _ _ (both_hold _ _ (le-leb _ _ c.if-cells-gt-MOST_CELLS.false) (eq-eqb _ _ c.if-bytes-cells.false)))
+returns c = sym (then_case {A = ℕ} _ _ _ (both_hold _ _ (le-leb _ _ c.if-cells-gt-MOST_CELLS.false) (eq-eqb _ _ c.if-bytes-cells.false)))

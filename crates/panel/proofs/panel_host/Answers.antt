@@ -10,4 +10,4 @@ pub slice_bounds-host_on-end : goal.slice_bounds-host_on-end
 slice_bounds-host_on-end c = sym (own_length _ _ _ c.marks_said-cells.ensures)
 
 pub host_on-requires : goal.host_on-requires
-host_on-requires c = c.marks_said-cells.ensures in own_length _ _ _ said ∙ said
+host_on-requires c = let said = c.marks_said-cells.ensures in own_length _ _ _ said ∙ said

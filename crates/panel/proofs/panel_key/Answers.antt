@@ -10,4 +10,4 @@ pub slice_bounds-key_on-end : goal.slice_bounds-key_on-end
 slice_bounds-key_on-end c = sym (own_length _ _ _ c.marks_said-cells.ensures)
 
 pub key_on-requires : goal.key_on-requires
-key_on-requires c = c.marks_said-cells.ensures in own_length _ _ _ said ∙ said
+key_on-requires c = let said = c.marks_said-cells.ensures in own_length _ _ _ said ∙ said

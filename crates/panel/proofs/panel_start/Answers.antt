@@ -10,4 +10,4 @@ pub slice_bounds-start_on-end : goal.slice_bounds-start_on-end
 slice_bounds-start_on-end c = sym (own_length _ _ _ c.marks_said-cells.ensures)
 
 pub start_on-requires : goal.start_on-requires
-start_on-requires c = c.marks_said-cells.ensures in own_length _ _ _ said ∙ said
+start_on-requires c = let said = c.marks_said-cells.ensures in own_length _ _ _ said ∙ said

@@ -8,12 +8,12 @@ use Rattle.panel.proofs.wrong_length.Goals as goal
 
 pub returns-then-res-ne-RESULT_LENGTH : goal.returns-then-res-ne-RESULT_LENGTH
 unfolding wrong_length
-returns-then-res-ne-RESULT_LENGTH c = ℕ} _ _ _ (ap not (ne_eqb _ _ c.if-res-ne-RESULT_LENGTH.true)))
+returns-then-res-ne-RESULT_LENGTH c = sym (then_case {A = ℕ} _ _ _ (ap not (ne_eqb _ _ c.if-res-ne-RESULT_LENGTH.true)))
 
 pub returns-then-packed-ne-LENGTH : goal.returns-then-packed-ne-LENGTH
 unfolding wrong_length
-returns-then-packed-ne-LENGTH c = ℕ} _ _ _ (ap not (ne_eqb _ _ c.if-packed-ne-LENGTH.true)))
+returns-then-packed-ne-LENGTH c = sym (else_case {A = ℕ} _ _ _ (ap not (eq-eqb _ _ c.if-res-ne-RESULT_LENGTH.false)) ∙ then_case {A = ℕ} _ _ _ (ap not (ne_eqb _ _ c.if-packed-ne-LENGTH.true)))
 
 pub returns : goal.returns
 unfolding wrong_length
-returns c = ℕ} _ _ _ (ap not (eq-eqb _ _ c.if-packed-ne-LENGTH.false)))
+returns c = sym (else_case {A = ℕ} _ _ _ (ap not (eq-eqb _ _ c.if-res-ne-RESULT_LENGTH.false)) ∙ else_case {A = ℕ} _ _ _ (ap not (eq-eqb _ _ c.if-packed-ne-LENGTH.false)))

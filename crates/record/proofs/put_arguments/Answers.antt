@@ -4,4 +4,4 @@ use Rattle.record.proofs.put_arguments.Goals as goal
 
 pub returns : goal.returns
 returns c =
-    rw (exactly_these {n = 8} 0 c.args.t3 (search rules)) c.put_numbers.ensures
+    rw (exactly_these {n = 8} 0 c.args.arguments (search rules)) c.put_numbers.ensures

@@ -14,10 +14,10 @@ pub frame-kind-requires : goal.frame-kind-requires
 frame-kind-requires c = c.requires.0
 
 pub loop-calls-init : goal.loop-calls-init
-loop-calls-init c = c.before.before.before.before.before.before.before.before.before in (omega (arith, c.frame-kind.auto.0, start.requires.0), omega arith, start.requires.1, refl, refl, refl, refl, refl)
+loop-calls-init c = (omega (arith, c.frame-kind.auto.0, c.requires.0), omega arith, c.requires.1, refl, refl, refl, refl, refl)
 
 pub call-printed-requires : goal.call-printed-requires
-call-printed-requires c = c.before.before.before.before.before.before in (turn.loop.invariant.2, (turn.loop.invariant.0, turn.loop.invariant.1))
+call-printed-requires c = record { enough = c.loop-calls.invariant.2; line_len = (c.loop-calls.invariant.0, c.loop-calls.invariant.1) }
 
 pub slice_bounds-write_all-end : goal.slice_bounds-write_all-end
 slice_bounds-write_all-end c = wrote_inside c.call-printed.ensures.0.text
@@ -41,7 +41,7 @@ pub shape_of-text-then-not-printed : goal.shape_of-text-then-not-printed
 shape_of-text-then-not-printed c = omega (arith, c.call-printed.auto.1.1.1.1.1.1.1.0, c.loop-calls.invariant.6)
 
 pub returns-then-not-printed : goal.returns-then-not-printed
-returns-then-not-printed c = 
+returns-then-not-printed c =
     let frame = c.frame-kind in
     let turn = c.loop-calls in
     let last = ends frame.result frame.new.0 turn.calls _ c.loop-calls-test.true c.call-printed.ensures.0 (not-true _ c.if-not-printed.true) in
@@ -55,7 +55,7 @@ pub loop-calls-smaller : goal.loop-calls-smaller
 loop-calls-smaller c = omega (arith, c.loop-calls-test.true)
 
 pub loop-calls-preserved : goal.loop-calls-preserved
-loop-calls-preserved c = 
+loop-calls-preserved c =
     let characters = c.call-printed.auto.1.1.1.1.0 in
     let marks = c.call-printed.auto.1.1.1.1.1.0 in
     let out = c.call-printed.auto.1.1.1.1.1.1.0 in
@@ -76,7 +76,7 @@ pub shape_of-line : goal.shape_of-line
 shape_of-line c = omega (arith, c.frame-kind.auto.0)
 
 pub returns : goal.returns
-returns c = 
+returns c =
     let frame = c.frame-kind in
     let turn = c.loop-calls in
     let none = none_to_come frame.result frame.new.0 turn.calls turn.from _ c.loop-calls-test.false in

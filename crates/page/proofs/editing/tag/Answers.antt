@@ -9,8 +9,6 @@ use Rattle.page.specs.Marks.{with_modified}
 use Rattle.page.specs.Page.{tagged}
 use Rattle.page.proofs.editing.tag.Goals as goal
 
-)
-
 pub loop-cell-init : goal.loop-cell-init
 unfolding tagged
 loop-cell-init c = (
@@ -18,10 +16,11 @@ loop-cell-init c = (
   search rules,
   refl,
   none_changed _ c.args.from 0 c.args.marks.now (λ k x h. else_case _ _ _ (before_range _ _ k (omega arith))),
+)
 
 pub loop-cell-preserved : goal.loop-cell-preserved
 unfolding tagged
-loop-cell-preserved c = 
+loop-cell-preserved c =
     let here : c.loop-cell.cell < length c.args.marks.now = omega arith in (
       search rules,
       search rules,
@@ -35,5 +34,5 @@ loop-cell-preserved c =
 
 pub returns : goal.returns
 unfolding tagged
-returns c = 
+returns c =
     all_changed _ _ _ c.loop-cell.cell c.loop-cell.invariant.3 (λ k x h. else_case _ _ _ (after_range _ _ k (omega arith)))

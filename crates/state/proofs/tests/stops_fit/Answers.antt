@@ -14,10 +14,10 @@ loop-i-init c = (search rules, refl)
 
 pub loop-i-preserved : goal.loop-i-preserved
 loop-i-preserved c =
-    let here : c.loop-i.i < length c.args.t2 = omega arith in
+    let here : c.loop-i.i < length c.args.stops = omega arith in
     (c.loop-i.invariant.0, rw c.both-fit.ensures (c.loop-i.invariant.1 ∙ next_stop_asked _ _ _ here))
 
 pub returns : goal.returns
 returns c =
-    let over : length c.args.t2 ≤ c.loop-i.i = omega arith in
+    let over : length c.args.stops ≤ c.loop-i.i = omega arith in
     sym (c.loop-i.invariant.1 ∙ stops_asked _ _ _ over)
