@@ -17,11 +17,9 @@ returns-then-not-fits c =
     sym (else_case _ _ _ little)
 
 pub put_block-end-requires : goal.put_block-end-requires
-put_block-end-requires c =
-    let page = page_of c.args.characters.now c.args.marks.now in
+put_block-end-requires c = let page = page_of c.args.characters.now c.args.marks.now in
     let fits = sym (c.fits.ensures c.args.characters.now c.requires.columns_nonzero.3) ∙ not-false _ c.if-not-fits.false-raw in
-    let enough : length (block c.args.full c.args.columns page) ≤ length c.args.out.now - c.args.at = leb-true _ _ fits in
-    (c.requires.columns_nonzero, omega (arith, enough, c.requires.at_in_bounds))
+    let enough : length (block c.args.full c.args.columns page) ≤ length c.args.out.now - c.args.at = leb-true _ _ fits in record { columns_nonzero = c.requires.columns_nonzero; marks_in_bounds = omega (arith, enough, c.requires.at_in_bounds) }
 
 pub overflow_sub-result : goal.overflow_sub-result
 overflow_sub-result c = omega (arith, c.put_block-end.ensures.next_is)

@@ -37,9 +37,7 @@ pub tab_control-requires : goal.tab_control-requires
 tab_control-requires c = (measured c.requires.valid).on_page
 
 pub erase_part-requires : goal.erase_part-requires
-erase_part-requires c =
-    let inside = measured c.requires.valid in
-    (c.requires.valid, omega (arith, inside.cursor_inside, inside.as_many))
+erase_part-requires c = let inside = measured c.requires.valid in record { valid = c.requires.valid; first_bound = omega (arith, inside.cursor_inside, inside.as_many) }
 
 pub status_report-requires : goal.status_report-requires
 status_report-requires c = record { on_page = (measured c.requires.valid).on_page; at_in_bounds = c.requires.at_in_bounds.0 }

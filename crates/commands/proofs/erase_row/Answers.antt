@@ -31,11 +31,9 @@ overflow_add-first c =
     omega arith
 
 pub erase_part-requires : goal.erase_part-requires
-erase_part-requires c =
-    let here = cell_is c.args.state.size.columns _ c.place-place.ensures in
+erase_part-requires c = let here = cell_is c.args.state.size.columns _ c.place-place.ensures in
     let on = (measured c.requires).on_page in
-    let row = row_on_page _ c.requires in
-    (c.requires, omega arith)
+    let row = row_on_page _ c.requires in record { valid = c.requires; first_bound = omega arith }
 
 pub returns : goal.returns
 returns c =

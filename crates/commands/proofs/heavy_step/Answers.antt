@@ -18,10 +18,8 @@ esc_step-requires c = record { valid = c.requires.valid; at_in_bounds = (c.requi
 
 -- And the final byte of a command of ESC [ is in the table.
 pub bracket_step-requires : goal.bracket_step-requires
-bracket_step-requires c =
-    let told = c.in-BracketCommand.is in
-    let final = c.requires.at_in_bounds.1 _ told in
-    (c.requires.valid, (c.requires.at_in_bounds.0, final.0, final.1, c.requires.at_in_bounds.2, ap (is_light _ _) (sym told) ∙ c.requires.at_in_bounds.3))
+bracket_step-requires c = let told = c.in-BracketCommand.is in
+    let final = c.requires.at_in_bounds.1 _ told in record { valid = c.requires.valid; at_in_bounds = (c.requires.at_in_bounds.0, final.0, final.1, c.requires.at_in_bounds.2, ap (is_light _ _) (sym told) ∙ c.requires.at_in_bounds.3) }
 
 -- What the called function tells of the event, where it sends nothing; else what it writes.
 pub returns-in-Nothing : goal.returns-in-Nothing

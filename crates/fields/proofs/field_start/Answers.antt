@@ -15,9 +15,7 @@ pub is_joined-requires : goal.is_joined-requires
 is_joined-requires c = c.loop-here.invariant.1
 
 pub back-here-requires : goal.back-here-requires
-back-here-requires c =
-    let here = c.loop-here.invariant in
-    (here.0, joined_has_before _ _ (sym c.is_joined.ensures ∙ c.loop-here-test.true))
+back-here-requires c = let here = c.loop-here.invariant in record { counted = here.0; cell_nonzero = joined_has_before _ _ (sym c.is_joined.ensures ∙ c.loop-here-test.true) }
 
 pub loop-here-smaller : goal.loop-here-smaller
 loop-here-smaller c =

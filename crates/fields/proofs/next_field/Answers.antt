@@ -8,16 +8,12 @@ use Rattle.fields.proofs.Searching.{after_is}
 use Rattle.fields.proofs.next_field.Goals as goal
 
 pub seek_field-after-requires : goal.seek_field-after-requires
-seek_field-after-requires c =
-    let pre = c.requires in
-    let next = cell_is _ _ c.next.ensures in
-    (counted _ pre.0.some_columns c.next.ensures (omega arith), (omega arith, pre.1.1))
+seek_field-after-requires c = let pre = c.requires in
+    let next = cell_is _ _ c.next.ensures in record { counted = counted _ pre.counted.some_columns c.next.ensures (omega arith); cell_in_bounds = (omega arith, pre.cell_in_bounds.1) }
 
 pub seek_field-requires : goal.seek_field-requires
-seek_field-requires c =
-    let pre = c.requires in
-    let first = cell_is _ _ c.first.ensures in
-    (counted _ pre.0.some_columns c.first.ensures (omega arith), (omega arith, pre.1.1))
+seek_field-requires c = let pre = c.requires in
+    let first = cell_is _ _ c.first.ensures in record { counted = counted _ pre.counted.some_columns c.first.ensures (omega arith); cell_in_bounds = (omega arith, pre.cell_in_bounds.1) }
 
 pub returns-in-At : goal.returns-in-At
 unfolding next_field

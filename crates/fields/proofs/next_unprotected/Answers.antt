@@ -7,16 +7,12 @@ use Rattle.fields.proofs.Walks.{found_at_once, found_round, all_cells}
 use Rattle.fields.proofs.next_unprotected.Goals as goal
 
 pub seek_unprotected-after-requires : goal.seek_unprotected-after-requires
-seek_unprotected-after-requires c =
-    let pre = c.requires in
-    let next = cell_is _ _ c.next.ensures in
-    (counted _ pre.0.some_columns c.next.ensures (omega arith), (omega arith, pre.1.1))
+seek_unprotected-after-requires c = let pre = c.requires in
+    let next = cell_is _ _ c.next.ensures in record { counted = counted _ pre.counted.some_columns c.next.ensures (omega arith); cell_in_bounds = (omega arith, pre.cell_in_bounds.1) }
 
 pub seek_unprotected-requires : goal.seek_unprotected-requires
-seek_unprotected-requires c =
-    let pre = c.requires in
-    let first = cell_is _ _ c.first.ensures in
-    (counted _ pre.0.some_columns c.first.ensures (omega arith), (omega arith, pre.1.1))
+seek_unprotected-requires c = let pre = c.requires in
+    let first = cell_is _ _ c.first.ensures in record { counted = counted _ pre.counted.some_columns c.first.ensures (omega arith); cell_in_bounds = (omega arith, pre.cell_in_bounds.1) }
 
 pub returns-in-At : goal.returns-in-At
 unfolding next_unprotected

@@ -10,15 +10,12 @@ use Rattle.fields.proofs.Searching.{before_is}
 use Rattle.fields.proofs.previous_field.Goals as goal
 
 pub seek_field_back-before-requires : goal.seek_field_back-before-requires
-seek_field_back-before-requires c =
-    let pre = c.requires in (pre.0, (omega arith, omega (arith, mul-le-mul pre.1.1 pre.1.2)))
+seek_field_back-before-requires c = let pre = c.requires in record { counted = pre.counted; cell_in_bounds = (omega arith, omega (arith, mul-le-mul pre.cell_in_bounds.1 pre.cell_in_bounds.2)) }
 
 pub seek_field_back-requires : goal.seek_field_back-requires
-seek_field_back-requires c =
-    let pre = c.requires in
+seek_field_back-requires c = let pre = c.requires in
     let end = cell_is _ _ c.end.ensures in
-    let small = mul-le-mul pre.1.1 pre.1.2 in
-    (counted _ pre.0.some_columns c.end.ensures (omega arith), (omega arith, omega arith))
+    let small = mul-le-mul pre.cell_in_bounds.1 pre.cell_in_bounds.2 in record { counted = counted _ pre.counted.some_columns c.end.ensures (omega arith); cell_in_bounds = (omega arith, omega arith) }
 
 pub returns-in-At : goal.returns-in-At
 unfolding previous_field

@@ -31,9 +31,7 @@ returns-then-not-is_hexadecimal c =
 
 pub decode-requires : goal.decode-requires
 unfolding is_hexadecimal
-decode-requires c =
-    let is = sym c.is_hexadecimal.ensures ∙ not-false _ c.if-not-is_hexadecimal.false-raw in
-    (omega arith, (both is).1)
+decode-requires c = let is = sym c.is_hexadecimal.ensures ∙ not-false _ c.if-not-is_hexadecimal.false-raw in record { digits_in_bounds = omega arith; text_value = (both is).1 }
 
 pub returns : goal.returns
 returns c =

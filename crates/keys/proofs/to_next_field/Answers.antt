@@ -11,7 +11,7 @@ place-requires c = (measured c.requires).on_page
 
 pub next_field-sought-requires : goal.next_field-sought-requires
 unfolding to_next_field
-next_field-sought-requires c = let here = found c.requires c.place.ensures in (here.counted, (here.inside, here.most))
+next_field-sought-requires c = let here = found c.requires c.place.ensures in record { counted = here.counted; cell_in_bounds = (here.inside, here.most) }
 
 pub returns : goal.returns
 unfolding to_next_field

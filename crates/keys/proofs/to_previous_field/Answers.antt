@@ -10,10 +10,8 @@ unfolding to_previous_field
 place-requires c = (measured c.requires).on_page
 
 pub previous_field-sought-requires : goal.previous_field-sought-requires
-previous_field-sought-requires c =
-    let known = measured c.requires in
-    let here = found c.requires c.place.ensures in
-    (here.counted, (here.inside, known.on_page.rows_most, known.on_page.columns_most, known.all_cells))
+previous_field-sought-requires c = let known = measured c.requires in
+    let here = found c.requires c.place.ensures in record { counted = here.counted; cell_in_bounds = (here.inside, known.on_page.rows_most, known.on_page.columns_most, known.all_cells) }
 
 pub returns : goal.returns
 unfolding to_previous_field

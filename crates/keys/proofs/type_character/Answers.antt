@@ -17,9 +17,7 @@ pub place-place-requires : goal.place-place-requires
 place-place-requires c = (measured c.requires).on_page
 
 pub next_unprotected-next-requires : goal.next_unprotected-next-requires
-next_unprotected-next-requires c =
-    let here = found c.requires c.place-place.ensures in
-    (here.counted, (here.inside, here.most))
+next_unprotected-next-requires c = let here = found c.requires c.place-place.ensures in record { counted = here.counted; cell_in_bounds = (here.inside, here.most) }
 
 pub store_typed-requires : goal.store_typed-requires
 store_typed-requires c =

@@ -10,13 +10,11 @@ use Rattle.sending.proofs.Laws.{told_of, told_of_lem}
 use Rattle.sending.proofs.send_block.Goals as goal
 
 pub write_block-answer-requires : goal.write_block-answer-requires
-write_block-answer-requires c =
-    let size = c.args.state.size in
+write_block-answer-requires c = let size = c.args.state.size in
     let page = page_of c.args.characters.now c.args.marks.now in
     let fits = sized size page c.requires.valid.size in
     let bounds = size_bounds size fits.listed in
-    let rows = mul-le-mul_right size.columns bounds.rows_most in
-    ((bounds.some_columns, bounds.columns_most, omega arith, omega arith), c.requires.at_in_bounds)
+    let rows = mul-le-mul_right size.columns bounds.rows_most in record { columns_nonzero = (bounds.some_columns, bounds.columns_most, omega arith, omega arith); at_in_bounds = c.requires.at_in_bounds }
 
 pub returns-in-Bytes : goal.returns-in-Bytes
 returns-in-Bytes c =

@@ -30,9 +30,7 @@ returns-then-bytes-gt65536 c =
     c.refuse_call-then-bytes-gt65536.ensures _ _ ∙ sym (host_refuses _ _ _ TooLong refl (past (ap not size) (past (ap not valid) (this (lt-ltb _ _ c.if-bytes-gt65536.true)))))
 
 pub run-requires : goal.run-requires
-run-requires c =
-    let size = sym c.fits.ensures ∙ not-false _ c.if-not-fits.false-raw in
-    (is_valid _ size (sym c.is_valid.ensures ∙ not-false _ c.if-not-is_valid.false-raw), c.if-bytes-gt65536.false)
+run-requires c = let size = sym c.fits.ensures ∙ not-false _ c.if-not-fits.false-raw in record { valid = is_valid _ size (sym c.is_valid.ensures ∙ not-false _ c.if-not-is_valid.false-raw); bytes_len_bound = c.if-bytes-gt65536.false }
 
 pub returns : goal.returns
 returns c = c.run.ensures

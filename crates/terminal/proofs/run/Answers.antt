@@ -22,9 +22,7 @@ loop-taken-init c = (sets_out _ _ _ c.requires.valid, refl, refl, refl)
 
 -- Text.
 pub text_run-run-requires : goal.text_run-run-requires
-text_run-run-requires c =
-    let valid = c.loop-taken.invariant.0.valid in
-    (record { size = valid.size; state = (half_keeps_valid c.loop-taken.here valid.state _ nothing_valid).valid; page = valid.page }, search rules)
+text_run-run-requires c = let valid = c.loop-taken.invariant.0.valid in record { valid = record { size = valid.size; state = (half_keeps_valid c.loop-taken.here valid.state _ nothing_valid).valid; page = valid.page }; from_in_bounds = search rules }
 
 pub overflow_sub-stored : goal.overflow_sub-stored
 overflow_sub-stored c =
@@ -66,10 +64,8 @@ pub read-read-requires : goal.read-read-requires
 read-read-requires c = record { half_value = (parts c.loop-taken.here c.loop-taken.invariant.0.valid.state).half; from_in_bounds = c.loop-taken-test.true }
 
 pub light_step-light-requires : goal.light_step-light-requires
-light_step-light-requires c =
-    let more = c.loop-taken-test.true in
-    let read = c.read-read.ensures in
-    ((measured (arrived_valid _ _ _ _ _ _ _ _ _ _ c.loop-taken.invariant.0 more _ read)).on_page, (arrived_final _ _ _ _ _ _ _ _ _ _ c.loop-taken.invariant.0 more _ read, arrived_count _ _ _ _ _ _ _ _ _ _ c.loop-taken.invariant.0 more _ read, sym c.is_light.ensures ∙ c.if-is_light.true))
+light_step-light-requires c = let more = c.loop-taken-test.true in
+    let read = c.read-read.ensures in record { on_page = (measured (arrived_valid _ _ _ _ _ _ _ _ _ _ c.loop-taken.invariant.0 more _ read)).on_page; final_in_table = (arrived_final _ _ _ _ _ _ _ _ _ _ c.loop-taken.invariant.0 more _ read, arrived_count _ _ _ _ _ _ _ _ _ _ c.loop-taken.invariant.0 more _ read, sym c.is_light.ensures ∙ c.if-is_light.true) }
 
 pub loop-taken-smaller-in-Cursor : goal.loop-taken-smaller-in-Cursor
 loop-taken-smaller-in-Cursor c =
@@ -128,12 +124,10 @@ loop-taken-preserved-in-Refused c =
 
 -- Any other event.
 pub heavy_step-step-requires : goal.heavy_step-step-requires
-heavy_step-step-requires c =
-    let more = c.loop-taken-test.true in
+heavy_step-step-requires c = let more = c.loop-taken-test.true in
     let read = c.read-read.ensures in
     let going = c.loop-taken.invariant.0 in
-    let next = c.with_half-next.ensures in
-    (rw next (arrived_valid _ _ _ _ _ _ _ _ _ _ c.loop-taken.invariant.0 more _ read), (omega (arith, going.room, going.as_long), arrived_final _ _ _ _ _ _ _ _ _ _ c.loop-taken.invariant.0 more _ read, arrived_count _ _ _ _ _ _ _ _ _ _ c.loop-taken.invariant.0 more _ read, rw next (sym c.is_light.ensures ∙ c.if-is_light.false)))
+    let next = c.with_half-next.ensures in record { valid = rw next (arrived_valid _ _ _ _ _ _ _ _ _ _ c.loop-taken.invariant.0 more _ read); at_in_bounds = (omega (arith, going.room, going.as_long), arrived_final _ _ _ _ _ _ _ _ _ _ c.loop-taken.invariant.0 more _ read, arrived_count _ _ _ _ _ _ _ _ _ _ c.loop-taken.invariant.0 more _ read, rw next (sym c.is_light.ensures ∙ c.if-is_light.false)) }
 
 pub overflow_sub-result : goal.overflow_sub-result
 overflow_sub-result c =

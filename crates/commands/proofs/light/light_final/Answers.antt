@@ -16,9 +16,7 @@ returns-then-most_arguments-count c =
     sym (too_many c.args.letter c.args.half t _ asked (λ none. light (sym asked ∙ none)) c.if-most_arguments-count.true)
 
 pub move_command-requires : goal.move_command-requires
-move_command-requires c =
-    let other = c.in_default.in_default-own.rest in
-    (c.requires.on_page, (c.requires.le_letter.0, c.requires.le_letter.1, plain_left c.args.letter c.requires.le_letter.3 other.0.0.0.1 other.0.0.1 other.0.1 other.1))
+move_command-requires c = let other = c.in_default.in_default-own.rest in record { on_page = c.requires.on_page; le_letter = (c.requires.le_letter.0, c.requires.le_letter.1, plain_left c.args.letter c.requires.le_letter.3 other.0.0.0.1 other.0.0.1 other.0.1 other.1) }
 
 pub returns-in-111 : goal.returns-in-111
 returns-in-111 c =

@@ -16,10 +16,8 @@ light_letter-requires c = ap (is_light _ _) (sym c.in-EscCommand.is) ∙ c.requi
 
 pub light_final-requires : goal.light_final-requires
 unfolding is_light
-light_final-requires c =
-    let is = c.in-BracketCommand.is in
-    let final = c.requires.final_in_table.0 _ is in
-    (c.requires.on_page, (final.0, final.1, c.requires.final_in_table.1, ap (is_light _ _) (sym is) ∙ c.requires.final_in_table.2))
+light_final-requires c = let is = c.in-BracketCommand.is in
+    let final = c.requires.final_in_table.0 _ is in record { on_page = c.requires.on_page; le_letter = (final.0, final.1, c.requires.final_in_table.1, ap (is_light _ _) (sym is) ∙ c.requires.final_in_table.2) }
 
 pub returns-in-Nothing : goal.returns-in-Nothing
 unfolding event_step light_step
