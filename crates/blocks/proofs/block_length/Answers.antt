@@ -42,13 +42,13 @@ loop-place-preserved c =
     let count = c.length_at-total.ensures in (
       c.next-place.ensures ∙ ap (place_of c.args.columns) (sym after),
       omega arith,
-      omega (arith, count.1),
+      omega (arith, count.upper_bound),
       λ characters same.
           let page = page_of characters c.args.marks.now in
           let rest : ℕ → List ℕ = λ cell. rest_from c.args.full c.args.columns page (cells page - cell) cell in
           let here : cell < cells page = omega (arith, same, c.loop-place-test.true) in
           let joined = ap (length {A = ℕ}) (rest_next c.args.full c.args.columns page cell here) ∙ length-append (bytes_at c.args.full c.args.columns page cell) (rest (cell + 1)) in
-          omega (arith, c.loop-place.invariant.3 characters same, count.0 characters same, joined, ap (λ (k : ℕ). length (rest k)) after),
+          omega (arith, c.loop-place.invariant.3 characters same, count.by_index characters same, joined, ap (λ (k : ℕ). length (rest k)) after),
     )
 
 pub returns : goal.returns

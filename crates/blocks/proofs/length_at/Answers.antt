@@ -32,7 +32,7 @@ overflow_add-result c =
     let place = c.args.place in
     let marks = c.args.marks.now in
     let bounds = end_bounds (unprotected marks) (length marks) place.cell c.requires.cell_in_bounds.0 in
-    omega (arith, c.place_length.ensures.1)
+    omega (arith, c.place_length.ensures.upper_bound)
 
 pub returns : goal.returns
 returns c = let place = c.args.place in
@@ -42,6 +42,6 @@ returns c = let place = c.args.place in
     let sent = sym c.is_in_block.ensures ∙ not-false _ c.if-not-is_in_block.false-raw in
     let head = c.place_length.ensures in record {
       by_index = λ characters same.
-          omega (arith, head.0, place_long place.row place.column 0, place_long place.row place.column 0x66, sent_length _ _ (page_of characters marks) _ c.requires.counted.right same _ c.field_end-end.ensures (rw same c.requires.cell_in_bounds.0) starts sent);
-      upper_bound = omega (arith, head.1);
+          omega (arith, head.value, place_long place.row place.column 0, place_long place.row place.column 0x66, sent_length _ _ (page_of characters marks) _ c.requires.counted.right same _ c.field_end-end.ensures (rw same c.requires.cell_in_bounds.0) starts sent);
+      upper_bound = omega (arith, head.upper_bound);
     }

@@ -27,17 +27,13 @@ loop-place-init c =
     )
 
 pub put_at-next-requires : goal.put_at-next-requires
-put_at-next-requires c =
-    let full = c.args.full in
+put_at-next-requires c = let full = c.args.full in
     let columns = c.args.columns in
     let page = page_of c.args.characters.now c.args.marks.now in
     let cell = c.loop-place.place.cell in
     let here = c.loop-place-test.true in
     let pieces = ap (length {A = ℕ}) (rest_next full columns page cell here) ∙ length-append (bytes_at full columns page cell) _ in
-    let whole = sym (length-append c.loop-place.invariant.3 _) ∙ ap (length {A = ℕ}) c.loop-place.invariant.5 in (
-      counted cell c.requires.columns_nonzero.0 c.loop-place.invariant.0 (omega arith),
-      ((c.requires.columns_nonzero.1, omega arith, c.requires.columns_nonzero.2, c.requires.columns_nonzero.3), omega (arith, pieces, whole, c.loop-place.invariant.4.next_is)),
-    )
+    let whole = sym (length-append c.loop-place.invariant.3 _) ∙ ap (length {A = ℕ}) c.loop-place.invariant.5 in record { counted = counted cell c.requires.columns_nonzero.0 c.loop-place.invariant.0 (omega arith); columns_bound = (c.requires.columns_nonzero.1, omega arith, c.requires.columns_nonzero.2, c.requires.columns_nonzero.3); cell_in_bounds = omega (arith, pieces, whole, c.loop-place.invariant.4.next_is) }
 
 pub next-place-requires : goal.next-place-requires
 next-place-requires c =

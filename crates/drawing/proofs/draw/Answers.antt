@@ -11,10 +11,10 @@ pub put_state-first_row-requires : goal.put_state-first_row-requires
 put_state-first_row-requires c = let parts = parts_length c.args.state c.args.characters.now c.args.marks.now in record { five_digits_each = c.requires.five_digits_each; at_in_bounds = omega (arith, parts, state_length c.args.state) }
 
 pub put_character_rows-first_marks-requires : goal.put_character_rows-first_marks-requires
-put_character_rows-first_marks-requires c = let parts = parts_length c.args.state c.args.characters.now c.args.marks.now in record { cells_len = c.requires.characters_len.0.0; cells_in_bounds = omega (arith, parts) }
+put_character_rows-first_marks-requires c = let parts = parts_length c.args.state c.args.characters.now c.args.marks.now in record { cells_len = c.requires.characters_len.0; cells_in_bounds = omega (arith, parts) }
 
 pub put_mark_rows-requires : goal.put_mark_rows-requires
-put_mark_rows-requires c = let parts = parts_length c.args.state c.args.characters.now c.args.marks.now in record { cells_len = c.requires.characters_len.0.1; cells_in_bounds = omega (arith, parts) }
+put_mark_rows-requires c = let parts = parts_length c.args.state c.args.characters.now c.args.marks.now in record { cells_len = c.requires.characters_len.1; cells_in_bounds = omega (arith, parts) }
 
 pub returns : goal.returns
 unfolding drawn

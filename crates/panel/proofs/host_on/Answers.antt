@@ -59,7 +59,7 @@ returns c =
     let own = c.read_numbers.ensures ∙ ap (read_each (number_at 2 marks) 2 0) c.requires in
     let told = c.hand_on.ensures in
     let state = c.state_in-state.ensures in
-    handed_on lent c.host-reply.result _ _ told.0 told.1.0 c.pack_marks.ensures told.1.1
+    handed_on lent c.host-reply.result _ _ told.value told.packed_after c.pack_marks.ensures told.res_after
     ∙ done_call lent _ c.wrong_length-wrong.ensures (λ (t : Terminal). host_call t c.args.bytes.now c.args.out.now) c.if-wrong-gt0.false _
     (c.wrong_content-bad.ensures ∙ ap (λ (l : List ℕ). wrong_content c.args.packed.now (page_of characters l)) own) c.if-bad-gt0.false _
     (c.host-reply.ensures ∙ (λ i. host_call (terminal_of (state i) characters (own i)) c.args.bytes.now c.args.out.now))

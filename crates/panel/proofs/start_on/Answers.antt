@@ -37,6 +37,6 @@ returns c =
     let lent = lent_of c.args.packed.now c.args.characters.now marks [] c.args.res.now in
     let own = c.read_numbers.ensures ∙ ap (read_each (number_at 2 marks) 2 0) c.requires in
     let told = c.hand_on.ensures in
-    handed_on lent c.start-reply.result _ _ told.0 told.1.0 c.pack_marks.ensures told.1.1
+    handed_on lent c.start-reply.result _ _ told.value told.packed_after c.pack_marks.ensures told.res_after
     ∙ start_done lent _ c.wrong_length-wrong.ensures c.args.rows c.args.columns c.if-wrong-gt0.false _
     (c.start-reply.ensures ∙ ap (λ (l : List ℕ). start_call size (page_of c.args.characters.now l)) own)

@@ -20,7 +20,7 @@ returns-then-out-at c =
     let cursor = c.args.state.cursor in
     let report = place_long cursor.row cursor.column 0x52 in
     let counted = place_long cursor.row cursor.column 0 in
-    let size : c.place_length-bytes.result ≡ length (place_bytes cursor.row cursor.column 0x52) = omega (arith, c.place_length-bytes.ensures.0) in
+    let size : c.place_length-bytes.result ≡ length (place_bytes cursor.row cursor.column 0x52) = omega (arith, c.place_length-bytes.ensures.value) in
     let little : length c.args.out.now - c.args.at < length (place_bytes cursor.row cursor.column 0x52) = omega arith in
     (λ i. record { told = c.no_room.ensures page i; output = c.args.out.now }) ∙ sym (no_room _ _ _ _ little)
 
@@ -29,7 +29,7 @@ put_place-requires c =
     let cursor = c.args.state.cursor in
     let report = place_long cursor.row cursor.column 0x52 in
     let counted = place_long cursor.row cursor.column 0 in
-    let size : c.place_length-bytes.result ≡ length (place_bytes cursor.row cursor.column 0x52) = omega (arith, c.place_length-bytes.ensures.0) in
+    let size : c.place_length-bytes.result ≡ length (place_bytes cursor.row cursor.column 0x52) = omega (arith, c.place_length-bytes.ensures.value) in
     omega arith
 
 pub returns : goal.returns
@@ -39,7 +39,7 @@ returns c =
     let cursor = c.args.state.cursor in
     let report = place_long cursor.row cursor.column 0x52 in
     let counted = place_long cursor.row cursor.column 0 in
-    let size : c.place_length-bytes.result ≡ length (place_bytes cursor.row cursor.column 0x52) = omega (arith, c.place_length-bytes.ensures.0) in
+    let size : c.place_length-bytes.result ≡ length (place_bytes cursor.row cursor.column 0x52) = omega (arith, c.place_length-bytes.ensures.value) in
     let enough : length (place_bytes cursor.row cursor.column 0x52) ≤ length c.args.out.now - c.args.at = omega arith in
     (λ i. record { told = told (c.did_send.ensures i) page; output = c.put_place.ensures.left i })
     ∙ (λ i. record { told = told (record { state = c.args.state; stored = 0; sent = size i; refused = false; protection = false; exceeds = false }) page; output = placed c.args.at (place_bytes cursor.row cursor.column 0x52) c.args.out.now })

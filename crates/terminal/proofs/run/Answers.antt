@@ -30,7 +30,7 @@ overflow_sub-stored c =
     let outside = eqb-true _ _ tests.0 in
     let more = c.loop-taken-test.true in
     let ran = c.text_run-run.ensures in
-    let past = text_past _ _ _ _ _ _ _ _ _ _ c.loop-taken.invariant.0 more outside tests.1 _ _ ran.0 ran.1 in
+    let past = text_past _ _ _ _ _ _ _ _ _ _ c.loop-taken.invariant.0 more outside tests.1 _ _ ran.marks_after ran.end_value in
     omega (arith, past)
 
 pub overflow_add-stored : goal.overflow_add-stored
@@ -39,7 +39,7 @@ overflow_add-stored c =
     let outside = eqb-true _ _ tests.0 in
     let more = c.loop-taken-test.true in
     let ran = c.text_run-run.ensures in
-    let on = goes_over_text _ _ _ _ _ _ _ _ _ _ c.loop-taken.invariant.0 more outside tests.1 _ _ ran.0 ran.1 in
+    let on = goes_over_text _ _ _ _ _ _ _ _ _ _ c.loop-taken.invariant.0 more outside tests.1 _ _ ran.marks_after ran.end_value in
     omega (arith, on.few, on.inside, c.requires.bytes_len_bound)
 
 pub loop-taken-smaller-then-takes_text : goal.loop-taken-smaller-then-takes_text
@@ -48,7 +48,7 @@ loop-taken-smaller-then-takes_text c =
     let outside = eqb-true _ _ tests.0 in
     let more = c.loop-taken-test.true in
     let ran = c.text_run-run.ensures in
-    let past = text_past _ _ _ _ _ _ _ _ _ _ c.loop-taken.invariant.0 more outside tests.1 _ _ ran.0 ran.1 in
+    let past = text_past _ _ _ _ _ _ _ _ _ _ c.loop-taken.invariant.0 more outside tests.1 _ _ ran.marks_after ran.end_value in
     omega (arith, past, more)
 
 pub loop-taken-preserved-then-takes_text : goal.loop-taken-preserved-then-takes_text
@@ -57,7 +57,7 @@ loop-taken-preserved-then-takes_text c =
     let outside = eqb-true _ _ tests.0 in
     let more = c.loop-taken-test.true in
     let ran = c.text_run-run.ensures in
-    (goes_over_text _ _ _ _ _ _ _ _ _ _ c.loop-taken.invariant.0 more outside tests.1 _ _ ran.0 ran.1, search rules, search rules, search rules)
+    (goes_over_text _ _ _ _ _ _ _ _ _ _ c.loop-taken.invariant.0 more outside tests.1 _ _ ran.marks_after ran.end_value, search rules, search rules, search rules)
 
 -- Bytes read on to an event.
 pub read-read-requires : goal.read-read-requires

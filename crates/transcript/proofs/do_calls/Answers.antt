@@ -20,10 +20,10 @@ pub call-printed-requires : goal.call-printed-requires
 call-printed-requires c = record { enough = c.loop-calls.invariant.2; line_len = (c.loop-calls.invariant.0, c.loop-calls.invariant.1) }
 
 pub slice_bounds-write_all-end : goal.slice_bounds-write_all-end
-slice_bounds-write_all-end c = wrote_inside c.call-printed.ensures.0.text
+slice_bounds-write_all-end c = wrote_inside c.call-printed.ensures.call_made.text
 
 pub slice_bounds-write_all-end-in-loop-calls : goal.slice_bounds-write_all-end-in-loop-calls
-slice_bounds-write_all-end-in-loop-calls c = sym (length-take-le _ _ (wrote_inside c.call-printed.ensures.0.text))
+slice_bounds-write_all-end-in-loop-calls c = sym (length-take-le _ _ (wrote_inside c.call-printed.ensures.call_made.text))
 
 pub shape_of-line-then-not-printed : goal.shape_of-line-then-not-printed
 shape_of-line-then-not-printed c = omega (arith, c.frame-kind.auto.0)
@@ -44,7 +44,7 @@ pub returns-then-not-printed : goal.returns-then-not-printed
 returns-then-not-printed c =
     let frame = c.frame-kind in
     let turn = c.loop-calls in
-    let last = ends frame.result frame.new.0 turn.calls _ c.loop-calls-test.true c.call-printed.ensures.0 (not-true _ c.if-not-printed.true) in
+    let last = ends frame.result frame.new.0 turn.calls _ c.loop-calls-test.true c.call-printed.ensures.call_made (not-true _ c.if-not-printed.true) in
     let all = all_to_come (line_in c.args.line.now c.args.digits) c.args.line.now frame.ensures.0 frame.ensures.1 _ in
     sym (after_same last) ∙ turn.invariant.7 ∙ after_same all
 
@@ -61,9 +61,9 @@ loop-calls-preserved c =
     let out = c.call-printed.auto.1.1.1.1.1.1.0 in
     let text = c.call-printed.auto.1.1.1.1.1.1.1.0 in
     let frame = c.frame-kind in
-    let more = carries_on frame.result frame.new.0 c.loop-calls.calls _ c.loop-calls-test.true c.call-printed.ensures.0 (not-false _ c.if-not-printed.false) in (
+    let more = carries_on frame.result frame.new.0 c.loop-calls.calls _ c.loop-calls-test.true c.call-printed.ensures.call_made (not-false _ c.if-not-printed.false) in (
       c.loop-calls.invariant.0,
-      c.call-printed.ensures.1,
+      c.call-printed.ensures.from_bound,
       still_enough c.loop-calls.invariant.2 characters marks out text,
       omega (arith, characters, c.loop-calls.invariant.3),
       omega (arith, marks, c.loop-calls.invariant.4),

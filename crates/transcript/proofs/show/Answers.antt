@@ -27,15 +27,13 @@ slice_bounds-draw-end-2 c =
     sym (page_length c.args.held.state listed is c.args.marks.now c.requires.1)
 
 pub draw-end-requires : goal.draw-end-requires
-draw-end-requires c =
-    let state = c.args.held.state in
+draw-end-requires c = let state = c.args.held.state in
     let listed = sym c.is_listed.ensures ∙ not-false _ c.if-not-is_listed.false-raw in
     let is = sym c.is_valid.ensures ∙ not-false _ c.if-not-is_valid.false-raw in
     let cells = state.size.rows * state.size.columns in
     let characters = page_length state listed is c.args.characters.now c.requires.0 in
     let marks = page_length state listed is c.args.marks.now c.requires.1 in
-    let text = text_fits state listed is (take cells c.args.characters.now) (take cells c.args.marks.now) characters marks in
-    (five_digits state listed is, ((characters, marks), omega (arith, text, c.requires.2)))
+    let text = text_fits state listed is (take cells c.args.characters.now) (take cells c.args.marks.now) characters marks in record { five_digits_each = five_digits state listed is; characters_len = (characters, marks); marks_in_bounds = omega (arith, text, c.requires.2) }
 
 pub slice_bounds-write_all-end : goal.slice_bounds-write_all-end
 slice_bounds-write_all-end c = wrote_inside c.draw-end.ensures
