@@ -10,7 +10,7 @@ use Rattle.frames.proofs.no_call.Goals as goal
 
 pub returns : goal.returns
 unfolding uncalled
-returns c =
+returns c characters marks out long as_long =
     record {
       held = c.settled.ensures characters marks long;
       characters = characters_stand _ characters marks;

@@ -19,7 +19,7 @@ put_line-requires c =
 
 pub returns : goal.returns
 unfolding printed high_first
-returns c =
+returns c page =
     let number = c.number_of.ensures ∙ one_byte _ in
     subst (λ (bytes : List ℕ). Wrote 0 bytes c.args.text.now c.put_line.result c.put_line.new.0)
     (λ i. line_of

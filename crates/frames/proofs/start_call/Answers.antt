@@ -27,14 +27,14 @@ print-end-requires c =
     (omega (arith, sent), omega (arith, sent), c.requires.text)
 
 pub returns-then-number_of-ne0 : goal.returns-then-number_of-ne0
-returns-then-number_of-ne0 c =
+returns-then-number_of-ne0 c before =
     started_badly c.args.rows c.args.columns c.least-cells.result c.args.from c.print-end.result
     (lent c.args.characters.now c.args.marks.now c.args.out.now c.args.text.now) c.requires c.least-cells.ensures
     c.start-reply.result _ _ _ c.start-reply.ensures c.print-end.ensures before
     (λ good. c.if-number_of-ne0.true (c.number_of.ensures ∙ good)) _ c.zero.ensures
 
 pub returns : goal.returns
-returns c =
+returns c before =
     started_well c.args.rows c.args.columns c.least-cells.result c.args.from c.print-end.result
     (lent c.args.characters.now c.args.marks.now c.args.out.now c.args.text.now) c.requires c.least-cells.ensures
     c.start-reply.result _ _ _ c.start-reply.ensures c.print-end.ensures before

@@ -3,4 +3,4 @@ use Rattle.steps.proofs.stored.Goals as goal
 
 pub returns : goal.returns
 unfolding bytes_of
-returns c = rw as_many
+returns c cells page as_many = rw as_many

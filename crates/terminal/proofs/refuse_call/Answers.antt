@@ -4,4 +4,4 @@ use Rattle.terminal.proofs.refuse_call.Goals as goal
 
 pub returns : goal.returns
 unfolding unchanged
-returns c = refl
+returns c page output = refl
