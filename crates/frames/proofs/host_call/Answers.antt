@@ -38,7 +38,7 @@ print-end-requires c =
     let before = lent c.args.characters.now c.args.marks.now c.args.out.now c.args.text.now in
     let within = host_within (terminal_in c.args.held c.least-cells.result before) c.args.out.now c.requires.enough.out (take (c.least-last.result - c.least-first.result) (drop c.least-first.result c.args.line.now)) in
     let sent = ap (λ (o : Outcome). o.sent) c.host-reply.ensures in
-    (omega (arith, sent, within.sent, c.host-reply.auto.1.1.1.1.0, c.requires.enough.out), omega (arith, sent, within.sent), c.requires.enough.text)
+    (omega (arith, sent, within.sent, c.host-reply.auto.out, c.requires.enough.out), omega (arith, sent, within.sent), c.requires.enough.text)
 
 pub overflow_add-result : goal.overflow_add-result
 overflow_add-result c =
@@ -68,5 +68,5 @@ returns c =
     let marks-room : cells ≤ length c.args.marks.now = omega (arith, c.least-cells.ensures, c.requires.enough.marks) in
     did_as (host_called session-is bytes)
     (answered (host_call t bytes output) c.host-reply.result _ _ _ _ cells c.args.from c.print-end.result before alike
-    (c.host-reply.auto.1.0 ∙ length-take-le cells c.args.characters.now room) (c.host-reply.auto.1.1.0 ∙ length-take-le cells c.args.marks.now marks-room) (c.print-end.ensures _)
+    (c.host-reply.auto.characters ∙ length-take-le cells c.args.characters.now room) (c.host-reply.auto.marks ∙ length-take-le cells c.args.marks.now marks-room) (c.print-end.ensures _)
     _ _ _ _ (ap (λ (n : ℕ). c.args.from + n) alike.taken) (ap (λ (n : ℕ). eqb n 3) number))

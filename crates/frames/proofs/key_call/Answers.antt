@@ -35,7 +35,7 @@ print-end-requires c =
     let before = lent c.args.characters.now c.args.marks.now c.args.out.now c.args.text.now in
     let within = key_within (terminal_in c.args.held c.least-cells.result before) c.args.out.now c.requires.out c.args.number in
     let sent = ap (λ (o : Outcome). o.sent) c.key-reply.ensures in
-    (omega (arith, sent, within.sent, c.key-reply.auto.1.1.1.1.0, c.requires.out), omega (arith, sent, within.sent), c.requires.text)
+    (omega (arith, sent, within.sent, c.key-reply.auto.out, c.requires.out), omega (arith, sent, within.sent), c.requires.text)
 
 pub returns : goal.returns
 unfolding keyed
@@ -50,5 +50,5 @@ returns c =
     let marks-room : cells ≤ length c.args.marks.now = omega (arith, c.least-cells.ensures, c.requires.marks) in
     did_as (key_called session-is number)
     (answered (key_call t number output) c.key-reply.result _ _ _ _ cells c.args.from c.print-end.result before alike
-    (c.key-reply.auto.1.0 ∙ length-take-le cells c.args.characters.now room) (c.key-reply.auto.1.1.0 ∙ length-take-le cells c.args.marks.now marks-room) (c.print-end.ensures _)
+    (c.key-reply.auto.characters ∙ length-take-le cells c.args.characters.now room) (c.key-reply.auto.marks ∙ length-take-le cells c.args.marks.now marks-room) (c.print-end.ensures _)
     _ _ _ _ (omega arith) refl)
