@@ -27,10 +27,12 @@ for edit in crates/*/must-fail/*.edit; do
     elif [[ $why != 'refused, as it must be: '* ]]; then
         # 'NOT REFUSED', 'BAD EDIT', 'NOT TRIED', or refused only for a name in a proof or by a limit
         complain "$edit" "$why"
+    elif grep -qE '^[^:]*: note: [^ ]+: it is not proved that ' <<<"$why"; then
+        : # of the code, with the place of the goal in src/
+    elif ! grep -qE '^[^:]*: (\./)?proofs/[^ ]*: error: `' <<<"$why"; then
+        complain "$edit" "no proof was refused: ${why#*: }"
     elif grep -qE 'can be named from here|is not in scope|has no |was not admitted|was rejected|exports no' <<<"$why"; then
         complain "$edit" "refused for its form: ${why#*: }"
-    elif ! grep -qE ': note: [^ ]+: it is not proved that |: (\./)?proofs/[^ ]*: error: `' <<<"$why"; then
-        complain "$edit" "no proof was refused: ${why#*: }"
     fi
 done
 exit $bad
