@@ -1,6 +1,6 @@
 // Document 02, M-100: start, host and key for a program in C, with numbers and byte slices only. They ask nothing of
-// what arrives. What each gives and leaves is defined in specs/Panel.antt; docs/PANEL.md is for who calls them. The crate
-// panel_c exports the three under the same names.
+// what arrives. What each gives and leaves is defined in specs/Panel.antt; docs/PANEL.md is for who calls them. The
+// crate panel_c exports the three under the same names.
 #![tactic(auto)]
 
 ghost use Rattle.std.specs.Prelude.{◌≡◌, [], ◌*◌, ◌≤◌, length};

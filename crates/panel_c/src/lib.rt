@@ -1,5 +1,5 @@
-// Document 02, M-100: the three functions of the crate panel, exported for a program in C. Each hands on what it is given
-// and promises what the library's promises. include/panel.h declares them; docs/PANEL.md is for who calls them.
+// Document 02, M-100: the three functions of the crate panel, exported for a program in C. Each hands on what it is
+// given and promises what the library's promises. include/panel.h declares them; docs/PANEL.md is for who calls them.
 #![tactic(auto)]
 
 ghost use Rattle.std.specs.Prelude.{[]};
