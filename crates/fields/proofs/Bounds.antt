@@ -70,22 +70,22 @@ module _ (is_unprotected : ℕ → Bool) where
 
   -- cells that are joined, each to the one before it, are unprotected if one of them is
   run_unprotected : (first end : ℕ) → ((k : ℕ) → first < k → k < end → joined is_unprotected k ≡ true) → (cell : ℕ) → first ≤ cell → cell < end → is_unprotected cell ≡ true → (k : ℕ) → first ≤ k → k < end → is_unprotected k ≡ true
-  run_unprotected first end inside cell from to is_unprotected k low high =
+  run_unprotected first end inside cell from to here_unprotected k low high =
       ⊎_elim
-      (λ back. ⊎_elim (λ same. rw same is_unprotected)
+      (λ back. ⊎_elim (λ same. rw same here_unprotected)
       (λ less. let again : k + 1 - 1 ≡ k = omega arith in rw (← again) (joined-unprotected is_unprotected (k + 1) (inside (k + 1) (omega arith) (omega arith))).0)
       (eq-or-lt_of_le back))
       (λ on. (joined-unprotected is_unprotected k (inside k (omega arith) high)).1)
       (le_or_lt k cell)
 
   pub all_unprotected_around : (cells cell : ℕ) → is_unprotected cell ≡ true → UnprotectedAround is_unprotected cells cell
-  all_unprotected_around cells cell is_unprotected =
+  all_unprotected_around cells cell here_unprotected =
       let low = (start_of cell).low in
       let high = (end_anywhere cells cell).high in
       record {
         low = low;
         high = high;
-        all_unprotected = run_unprotected (field_start is_unprotected cell) (field_end is_unprotected cells cell) (joined_around cells cell) cell low high is_unprotected;
+        all_unprotected = run_unprotected (field_start is_unprotected cell) (field_end is_unprotected cells cell) (joined_around cells cell) cell low high here_unprotected;
       }
 
 -- A longest run of joined cells.
@@ -130,9 +130,9 @@ module _ (is_unprotected : ℕ → Bool) (cells : ℕ) where
       λ i. record { start = starts i; length = lengths i }
 
   -- a run that has an unprotected cell is a field, and a field is a run
-  module _ {field : Field} (run : IsRun field) (cell : ℕ) (here : field has cell) (is_unprotected : is_unprotected cell ≡ true) where
+  module _ {field : Field} (run : IsRun field) (cell : ℕ) (here : field has cell) (here_unprotected : is_unprotected cell ≡ true) where
     all_unprotected : (k : ℕ) → field has k → is_unprotected k ≡ true
-    all_unprotected k within = run_unprotected is_unprotected field.start (end_of field) run.inside cell here.0 here.1 is_unprotected k within.0 within.1
+    all_unprotected k within = run_unprotected is_unprotected field.start (end_of field) run.inside cell here.0 here.1 here_unprotected k within.0 within.1
 
     field_of : IsField is_unprotected cells field
     field_of =
@@ -169,7 +169,7 @@ module _ (is_unprotected : ℕ → Bool) (cells : ℕ) where
   same_field is is' = one_run (run_of is) (run_of is')
 
   pub around : (cell : ℕ) → cell < cells → is_unprotected cell ≡ true → IsAround is_unprotected cells cell
-  around cell here is_unprotected =
+  around cell here here_unprotected =
       let start = field_start is_unprotected cell in
       let left = start_of is_unprotected cell in
       let right = end_of_lem is_unprotected cells cell here in
@@ -179,7 +179,7 @@ module _ (is_unprotected : ℕ → Bool) (cells : ℕ) where
       let same : field_around is_unprotected cells start ≡ field_around is_unprotected cells cell =
       one_run (run_around start (omega arith)) run start (omega arith) (omega arith) in
       record {
-        is_field = field_of run cell (omega arith) is_unprotected;
+        is_field = field_of run cell (omega arith) here_unprotected;
         has_cell = (left.low, right.high);
         one_end = omega (arith, ap (λ (f : Field). f.start) same, ap (λ (f : Field). f.length) same);
       }

@@ -69,9 +69,9 @@ module _ (is_unprotected : ℕ → Bool) (cells : ℕ) where
 
   every_cell : (cell : ℕ) → cell < cells → is_unprotected cell ≡ true → InOneField (fields_of is_unprotected cells) cell
   unfolding fields_of
-  every_cell cell here is_unprotected =
+  every_cell cell here here_unprotected =
       let start = field_start is_unprotected cell in
-      let whole = around is_unprotected cells cell here is_unprotected in
+      let whole = around is_unprotected cells cell here here_unprotected in
       let starts = is_start is_unprotected start (whole.is_field.all_unprotected start (omega arith)) (start_of is_unprotected cell).before in
       let field = field_from is_unprotected cells start in
       let listed = start_listed cells 0 cells (omega arith) start (omega arith, omega arith, starts) in

@@ -48,7 +48,9 @@ module _ {A : Type 0} (write : A → List ℕ) (read : List ℕ → ℕ → A) (
       let here : read (before ++ (write x ++ rest)) (length before) ≡ x = back x (fit x (Memᴰ.head refl)) before rest in
       let later : read_each (read (before ++ (write x ++ rest))) width (length before + width) (length list) ≡ list =
       rw (regrouped, longer) at (each_back list (λ y among. fit y (Memᴰ.tail among)) (before ++ write x) after) in
-      rw first (λ i. here i ∷ later i)
+      let from : List ℕ → List A = λ l. read_each (read (before ++ l)) width (length before) (length (x ∷ list)) in
+      let one_on : from (write x ++ rest) ≡ x ∷ list = (λ i. here i ∷ later i) in
+      ap from first ∙ one_on
 
 -- The other way, for every width.
 low_again : (low rest : ℕ) → low < 256 → (low + 256 * rest) % 256 ≡ low

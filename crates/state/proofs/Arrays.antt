@@ -4,7 +4,7 @@ use mathlib.Core.Bool.{Bool, true, false}
 use mathlib.Core.List.{List}
 use denote.Laws.{Is}
 use denote.Struct.Declared.{row}
-use lib.ListN.{length, length-map, length-set}
+use lib.ListN.{length, length-set}
 use mir.Val.{Val}
 use Prim.Native.Nat.{◌-◌}
 use Rattle.sequence.specs.declared.HalfRead.{HalfRead}
@@ -21,8 +21,8 @@ use Rattle.state.specs.contracts.State as state
 -- of a parameter (`c.good`), of a result (`c.callee.ok`).
 pub code_arrays : (s : State) (values : List Val) → Is (row state.the_type) s values → Arrays s
 code_arrays s values is = record {
-  stops = sym (length-map s.stops _) ∙ is.1.1.1.1.1.1.0.1.0.1;
-  arguments = sym (length-map s.half.arguments _) ∙ is.1.1.1.1.1.1.1.0.1.1.1.0.1.0.1;
+  stops = is.1.1.1.1.1.1.0.1.0.1;
+  arguments = is.1.1.1.1.1.1.1.0.1.1.1.0.1.0.1;
 }
 
 pub fresh_arrays : (size : Size) → Arrays (fresh_state size)

@@ -1,0 +1,22 @@
+use mathlib.Core.Path.{sym, ap}
+use Prim.Native.Nat.{ℕ, ◌*◌, ◌≤◌}
+use native.Mathlib.Omega.{arith}
+use borrow.Author.Rules.{rules}
+use borrow.Author.Tests.{le-leb}
+use lib.Dec.{leb}
+use lib.ListN.{length}
+use Rattle.page.specs.Page.{page_of}
+use Rattle.blocks.specs.Blocks.{block}
+use Rattle.blocks.proofs.Bound.{bounded_within}
+use Rattle.blocks.proofs.fits.Goals as goal
+
+pub returns-then-room-ge-LONGEST : goal.returns-then-room-ge-LONGEST
+returns-then-room-ge-LONGEST c = λ characters as_long.
+    let page = page_of characters c.args.marks.now in
+    let within : length characters ≤ 48 * c.args.columns = omega (arith, as_long, c.requires.2) in
+    let bound = bounded_within c.args.full c.args.columns page c.requires.1 within in
+    let enough : length (block c.args.full c.args.columns page) ≤ c.args.room = omega (arith, bound, c.if-room-ge-LONGEST.true) in
+    sym (le-leb _ _ enough)
+
+pub returns : goal.returns
+returns c = λ characters as_long. ap (λ (bytes : ℕ). leb bytes c.args.room) (c.block_length.ensures characters as_long)

@@ -1,0 +1,21 @@
+use mathlib.Core.Path.{◌≡◌, sym, ap, ◌∙◌}
+use Prim.Native.Nat.{◌-◌, ◌≤◌}
+use borrow.Author.Rules.{rules}
+use lib.ListN.{length}
+use Rattle.words.proofs.Ranges.{place_holds, later_places, no_more_places}
+use Rattle.page.specs.Marks.{is_modified}
+use Rattle.blocks.specs.Blocks.{some_modified}
+use Rattle.blocks.proofs.has_modified.Goals as goal
+
+pub returns-then-is_modified : goal.returns-then-is_modified
+returns-then-is_modified c =
+    let found = ap is_modified (sym c.mark_at.ensures) ∙ sym c.is_modified.ensures ∙ c.if-is_modified.true in
+    sym (c.loop-cell.invariant.2 ∙ place_holds _ _ _ c.loop-cell-test.true found)
+
+pub loop-cell-preserved : goal.loop-cell-preserved
+loop-cell-preserved c =
+    let not-here = ap is_modified (sym c.mark_at.ensures) ∙ sym c.is_modified.ensures ∙ c.if-is_modified.false in
+    (search rules, search rules, c.loop-cell.invariant.2 ∙ later_places _ _ _ c.loop-cell-test.true not-here)
+
+pub returns : goal.returns
+returns c = sym (c.loop-cell.invariant.2 ∙ no_more_places _ _ _ c.loop-cell-test.false)

@@ -1,0 +1,15 @@
+use mathlib.Core.Path.{◌≡◌, sym, ap, ◌∙◌}
+use Prim.Native.Nat.{◌-◌, ◌≤◌}
+use borrow.Author.Rules.{rules}
+use lib.ListN.{length}
+use Rattle.words.proofs.Ranges.{place_holds, later_places, no_more_places}
+use Rattle.page.specs.Marks.{is_modified}
+use Rattle.blocks.specs.Blocks.{some_modified}
+use Rattle.blocks.proofs.has_modified.Given as goal
+
+-- no cell before `cell` is modified
+abbrev pub invariant-loop-cell : goal.invariant-loop-cell
+invariant-loop-cell l = (l.cell ≤ l.to) × (l.to ≤ length l.marks) × (some_modified l.marks l.from (l.to - l.from) ≡ some_modified l.marks l.cell (l.to - l.cell))
+
+abbrev pub decreases-loop-cell : goal.decreases-loop-cell
+decreases-loop-cell l = l.to - l.cell

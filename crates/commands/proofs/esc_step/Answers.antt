@@ -1,0 +1,17 @@
+use borrow.Author.Rules.{rules}
+use borrow.Author.Tests.{ne_eqb}
+use Rattle.words.specs.Choice.{if◌then◌else◌}
+use Rattle.commands.specs.Commands.{esc_step}
+use Rattle.steps.proofs.Writing.{told_silent}
+use Rattle.commands.proofs.Silent.{esc_silent}
+use Rattle.commands.proofs.esc_step.Goals as goal
+
+pub returns-then-byte-eq83 : goal.returns-then-byte-eq83
+unfolding esc_step if◌then◌else◌
+returns-then-byte-eq83 c = rw c.if-byte-eq83.true (rw c.with_half-before.ensures at c.send_block.ensures)
+
+pub silent_esc_step-requires : goal.silent_esc_step-requires
+silent_esc_step-requires c = record { valid = c.requires.valid; byte_value = (c.requires.at_in_bounds.1, c.if-byte-eq83.false) }
+
+pub returns : goal.returns
+returns c = told_silent _ _ _ _ _ _ c.silent_esc_step.ensures (esc_silent _ _ (ne_eqb _ _ c.if-byte-eq83.false))

@@ -1,0 +1,84 @@
+use mathlib.Core.Path.{◌≡◌, refl, sym, ◌∙◌}
+use Prim.Native.Nat.{◌-◌, ◌≤◌}
+use native.Mathlib.Nat.{zero-mul}
+use native.Mathlib.Omega.{arith}
+use borrow.Author.Rules.{rules}
+use borrow.Author.Tests.{not-true, not-false}
+use lib.ListN.{length}
+use Rattle.places.specs.Places.{cell_at}
+use Rattle.places.proofs.Counting.{cell_is}
+use Rattle.page.specs.Page.{page_of}
+use Rattle.state.specs.State.{with_cursor, cursor_at}
+use Rattle.steps.proofs.Measuring.{measured}
+use Rattle.commands.proofs.Runs.{Going, sets_out, goes_on, stops_here, ends_here, next_in_row, cell_in_row, next_row, cell_in_next_row, round_the_page}
+use Rattle.commands.proofs.texts.text_run.Goals as goal
+
+pub place-place-requires : goal.place-place-requires
+place-place-requires c = (measured c.requires.valid).on_page
+
+pub loop-at-init : goal.loop-at-init
+loop-at-init c =
+    (c.requires.from_in_bounds, refl, refl, sets_out _ _ _ c.requires.valid, cell_is _ _ c.place-place.ensures)
+
+-- A byte that is no text.
+pub returns-then-not-is_text : goal.returns-then-not-is_text
+returns-then-not-is_text c =
+    let other = sym c.is_text.ensures ∙ not-true _ c.if-not-is_text.true-raw in
+    rw c.ended.ensures (stops_here c.loop-at.invariant.3 c.loop-at-test.true other)
+
+pub store_text-requires : goal.store_text-requires
+store_text-requires c =
+    let inv = c.loop-at.invariant in
+    let known = measured inv.3.valid in
+    (omega (arith, known.cursor_inside, inv.4), known.as_many)
+
+pub overflow_add-cell : goal.overflow_add-cell
+overflow_add-cell c =
+    let inv = c.loop-at.invariant in
+    let known = measured inv.3.valid in
+    omega (arith, known.cursor_inside, inv.4, c.well-formed)
+
+pub overflow_add-column : goal.overflow_add-column
+overflow_add-column c =
+    let on-page = (measured c.loop-at.invariant.3.valid).on_page in
+    omega (arith, c.if-column-state.true, on-page.columns_most)
+
+-- A turn is a step of text: in the row,
+pub loop-at-preserved-then-column-state : goal.loop-at-preserved-then-column-state
+loop-at-preserved-then-column-state c =
+    let on-page = (measured c.loop-at.invariant.3.valid).on_page in
+    let text = sym c.is_text.ensures ∙ not-false _ c.if-not-is_text.false-raw in
+    let more = c.loop-at-test.true in
+    let stored = c.store_text.ensures in
+    let on = goes_on c.loop-at.invariant.3 more text _ _ _ (next_in_row c.args.state c.loop-at.row c.loop-at.column c.if-column-state.true) stored c.loop-at.invariant.4 in
+    (search rules, on.characters, on.marks, on, omega (arith, c.loop-at.invariant.4, cell_in_row c.args.state c.loop-at.row c.loop-at.column c.if-column-state.true on-page.column_least))
+
+-- into the next one,
+pub overflow_add-row : goal.overflow_add-row
+overflow_add-row c =
+    let on-page = (measured c.loop-at.invariant.3.valid).on_page in
+    omega (arith, c.if-row-state.true, on-page.rows_most)
+
+pub loop-at-preserved-then-row-state : goal.loop-at-preserved-then-row-state
+loop-at-preserved-then-row-state c =
+    let on-page = (measured c.loop-at.invariant.3.valid).on_page in
+    let text = sym c.is_text.ensures ∙ not-false _ c.if-not-is_text.false-raw in
+    let more = c.loop-at-test.true in
+    let stored = c.store_text.ensures in
+    let on = goes_on c.loop-at.invariant.3 more text _ _ _ (next_row c.args.state c.loop-at.row c.loop-at.column c.if-column-state.false c.if-row-state.true) stored c.loop-at.invariant.4 in
+    (search rules, on.characters, on.marks, on, omega (arith, c.loop-at.invariant.4, cell_in_next_row c.args.state c.loop-at.row c.loop-at.column c.if-column-state.false on-page))
+
+-- and round the page.
+pub loop-at-preserved : goal.loop-at-preserved
+loop-at-preserved c =
+    let on-page = (measured c.loop-at.invariant.3.valid).on_page in
+    let text = sym c.is_text.ensures ∙ not-false _ c.if-not-is_text.false-raw in
+    let more = c.loop-at-test.true in
+    let stored = c.store_text.ensures in
+    let on = goes_on c.loop-at.invariant.3 more text _ _ _ (round_the_page c.args.state c.loop-at.row c.loop-at.column c.if-column-state.false c.if-row-state.false) stored c.loop-at.invariant.4 in
+    (search rules, on.characters, on.marks, on, omega (arith, zero-mul c.args.state.size.columns))
+
+-- No byte is left.
+pub returns : goal.returns
+returns c =
+    rw c.ended-2.ensures (ends_here c.loop-at.invariant.3 c.loop-at-test.false)

@@ -1,0 +1,26 @@
+use mathlib.Core.Path.{◌≡◌, refl, sym, ◌∙◌}
+use Prim.Native.Nat.{◌-◌, ◌≤◌}
+use native.Mathlib.Nat.{zero-mul}
+use native.Mathlib.Omega.{arith}
+use borrow.Author.Rules.{rules}
+use borrow.Author.Tests.{not-true, not-false}
+use lib.ListN.{length}
+use Rattle.places.specs.Places.{cell_at}
+use Rattle.places.proofs.Counting.{cell_is}
+use Rattle.page.specs.Page.{page_of}
+use Rattle.state.specs.State.{with_cursor, cursor_at}
+use Rattle.steps.proofs.Measuring.{measured}
+use Rattle.commands.proofs.Runs.{Going, sets_out, goes_on, stops_here, ends_here, next_in_row, cell_in_row, next_row, cell_in_next_row, round_the_page}
+use Rattle.commands.proofs.texts.text_run.Given as goal
+
+-- up to `at` all is text, and what is left of it does the rest; the cell is the cursor's; no length changes
+abbrev pub invariant-loop-at : goal.invariant-loop-at
+invariant-loop-at l = 
+    (l.at ≤ length l.bytes) ×
+    (length l.characters ≡ length l.initial.characters) ×
+    (length l.marks ≡ length l.initial.marks) ×
+    Going l.bytes l.from (record { l.state = l.state; page = page_of l.initial.characters l.initial.marks }) l.at (record { l.state = with_cursor l.state (cursor_at l.row l.column); page = page_of l.characters l.marks }) ×
+    (l.cell ≡ cell_at l.state.size.columns l.row l.column)
+
+abbrev pub decreases-loop-at : goal.decreases-loop-at
+decreases-loop-at l = length l.bytes - l.at

@@ -1,0 +1,14 @@
+use mathlib.Core.Path.{◌≡◌, refl}
+use Prim.Native.Nat.{◌+◌, ◌-◌, ◌≤◌}
+use borrow.Author.Rules.{rules}
+use lib.ListN.{length, drop}
+use Rattle.copy.specs.Copy.{plain_length, entry_end}
+use Rattle.copy.proofs.Finding.{ends_here, goes_on, ends_with_bytes}
+use Rattle.copy.proofs.entry_end.Given as goal
+
+-- the entry ends as many bytes from here as are plain
+abbrev pub invariant-loop-end : goal.invariant-loop-end
+invariant-loop-end l = (l.end ≤ length l.bytes) × (entry_end l.bytes l.at ≡ l.end + plain_length (drop l.end l.bytes))
+
+abbrev pub decreases-loop-end : goal.decreases-loop-end
+decreases-loop-end l = length l.bytes - l.end

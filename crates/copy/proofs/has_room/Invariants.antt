@@ -1,0 +1,17 @@
+use mathlib.Core.Path.{◌≡◌, sym}
+use Prim.Native.Nat.{◌+◌, ◌-◌}
+use native.Mathlib.Omega.{arith}
+use lib.ListN.{length, drop}
+use Rattle.blocks.specs.Lay.{lay}
+use Rattle.copy.specs.Copy.{IsBlock}
+use Rattle.copy.proofs.Laws.{inside, nearer}
+use Rattle.copy.proofs.Passes.{part_exceeds, part_counted, all_counted}
+use Rattle.copy.proofs.has_room.Given as goal
+
+-- what is laid before here is what has been taken from the room
+abbrev pub invariant-loop-at : goal.invariant-loop-at
+invariant-loop-at l =
+    IsBlock (drop l.at l.copy) × (length (lay l.block l.copy) + l.left ≡ l.room + length (lay l.block (drop l.at l.copy)))
+
+abbrev pub decreases-loop-at : goal.decreases-loop-at
+decreases-loop-at l = length l.copy - l.at

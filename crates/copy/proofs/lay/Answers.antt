@@ -1,0 +1,24 @@
+use mathlib.Core.Path.{sym, ◌∙◌}
+use borrow.Author.Rules.{rules}
+use borrow.Author.Tests.{not-true, not-false, leb-true}
+use Rattle.words.proofs.Choosing.{then_case, else_case}
+use Rattle.copy.specs.Copy.{laying}
+use Rattle.copy.specs.declared.Laid.TheVariants.{Bytes}
+use Rattle.copy.proofs.Passes.{from_start}
+use Rattle.copy.proofs.lay.Goals as goal
+
+pub returns-then-not-has_room : goal.returns-then-not-has_room
+unfolding laying
+returns-then-not-has_room c = sym (else_case _ _ _ (sym c.has_room.ensures ∙ not-true _ c.if-not-has_room.true-raw))
+
+pub put_laid-requires : goal.put_laid-requires
+put_laid-requires c =
+    let asked = c.requires in
+    (asked.0, asked.1, leb-true _ _ (sym c.has_room.ensures ∙ not-false _ c.if-not-has_room.false-raw))
+
+pub returns : goal.returns
+unfolding laying
+returns c =
+    let wrote = c.put_laid.ensures in
+    (λ i. record { answer = Bytes (from_start wrote i); output = wrote.left i })
+    ∙ sym (then_case _ _ _ (sym c.has_room.ensures ∙ not-false _ c.if-not-has_room.false-raw))

@@ -1,0 +1,36 @@
+use mathlib.Core.Path.{◌≡◌, sym, ap, ◌∙◌}
+use Prim.Native.Nat.{◌<◌}
+use native.Mathlib.Omega.{arith}
+use borrow.Author.Rules.{rules}
+use lib.ListN.{length}
+use Rattle.places.specs.Places.{place_of, Counted}
+use Rattle.page.specs.Marks.{unprotected}
+use Rattle.fields.specs.Fields.{field_start}
+use Rattle.places.proofs.Counting.{counted, cell_is}
+use Rattle.fields.proofs.Laws.{joined_has_before, start_here}
+use Rattle.fields.proofs.Walks.{start_on}
+use Rattle.fields.proofs.field_start.Goals as goal
+
+pub is_joined-requires : goal.is_joined-requires
+is_joined-requires c = c.loop-here.invariant.1
+
+pub back-here-requires : goal.back-here-requires
+back-here-requires c = let here = c.loop-here.invariant in record { counted = here.0; cell_nonzero = joined_has_before _ _ (sym c.is_joined.ensures ∙ c.loop-here-test.true) }
+
+pub loop-here-smaller : goal.loop-here-smaller
+loop-here-smaller c =
+    let here = c.loop-here.invariant in
+    let late = joined_has_before _ _ (sym c.is_joined.ensures ∙ c.loop-here-test.true) in
+    omega (arith, cell_is _ _ c.back-here.ensures)
+
+pub loop-here-preserved : goal.loop-here-preserved
+loop-here-preserved c =
+    let here = c.loop-here.invariant in
+    let back = cell_is _ _ c.back-here.ensures in
+    let j = sym c.is_joined.ensures ∙ c.loop-here-test.true in
+    (counted _ here.0.some_columns c.back-here.ensures (omega (arith, here.0.on_page)), omega arith, here.2 ∙ start_on _ _ j ∙ ap (field_start _) (sym back))
+
+pub returns : goal.returns
+returns c =
+    let here = c.loop-here.invariant in
+    here.0.right ∙ ap (place_of _) (sym (here.2 ∙ start_here _ _ (sym c.is_joined.ensures ∙ c.loop-here-test.false)))

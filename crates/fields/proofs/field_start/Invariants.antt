@@ -1,0 +1,20 @@
+use mathlib.Core.Path.{◌≡◌, sym, ap, ◌∙◌}
+use Prim.Native.Nat.{◌<◌}
+use native.Mathlib.Omega.{arith}
+use borrow.Author.Rules.{rules}
+use lib.ListN.{length}
+use Rattle.places.specs.Places.{place_of, Counted}
+use Rattle.page.specs.Marks.{unprotected}
+use Rattle.fields.specs.Fields.{field_start}
+use Rattle.places.proofs.Counting.{counted, cell_is}
+use Rattle.fields.proofs.Laws.{joined_has_before, start_here}
+use Rattle.fields.proofs.Walks.{start_on}
+use Rattle.fields.proofs.field_start.Given as goal
+
+-- the field's start, found from here, is the one found from the place
+abbrev pub invariant-loop-here : goal.invariant-loop-here
+invariant-loop-here l =
+    Counted l.columns l.here × (l.here.cell < length l.marks) × (field_start (unprotected l.marks) l.initial.here.cell ≡ field_start (unprotected l.marks) l.here.cell)
+
+abbrev pub decreases-loop-here : goal.decreases-loop-here
+decreases-loop-here l = l.here.cell

@@ -1,0 +1,17 @@
+use mathlib.Core.Path.{sym, ◌∙◌}
+use borrow.Author.Rules.{rules}
+use Rattle.words.proofs.Choosing.{first_decides, first_fails}
+use Rattle.fields.specs.Required.{is_left_blank}
+use Rattle.fields.proofs.is_left_blank.Goals as goal
+
+pub returns-then-has_required : goal.returns-then-has_required
+unfolding is_left_blank
+returns-then-has_required c =
+    let required = sym c.has_required.ensures ∙ c.if-has_required.true in
+    c.is_all_blank.ensures ∙ sym (first_decides _ _ required)
+
+pub returns : goal.returns
+unfolding is_left_blank
+returns c =
+    let not-required = sym c.has_required.ensures ∙ c.if-has_required.false in
+    sym (first_fails _ _ not-required)

@@ -1,0 +1,18 @@
+use mathlib.Core.Path.{◌≡◌, sym, ap, ◌∙◌}
+use Prim.Native.Nat.{◌-◌, ◌≤◌}
+use native.Mathlib.Omega.{arith}
+use borrow.Author.Rules.{rules}
+use lib.ListN.{length}
+use Rattle.page.specs.Page.{page_of}
+use Rattle.fields.specs.Fields.{fields_of}
+use Rattle.fields.proofs.Blank.{left_blank_from, blank_here, blank_later, blank_nowhere}
+use Rattle.fields.proofs.seek_left_blank.Given as goal
+
+-- no field that starts before `cell` is left blank
+abbrev pub invariant-loop-cell : goal.invariant-loop-cell
+invariant-loop-cell l =
+    (l.cell ≤ length l.marks)
+    × (left_blank_from (page_of l.characters l.marks) (length l.marks) 0 (length l.marks) ≡ left_blank_from (page_of l.characters l.marks) (length l.marks) l.cell (length l.marks - l.cell))
+
+abbrev pub decreases-loop-cell : goal.decreases-loop-cell
+decreases-loop-cell l = length l.marks - l.cell

@@ -1,0 +1,28 @@
+use mathlib.Core.Path.{◌≡◌, sym, ap, ◌∙◌}
+use mathlib.Core.List.{List}
+use Prim.Native.Nat.{ℕ}
+use native.Mathlib.Omega.{arith}
+use borrow.Author.Rules.{rules}
+use lib.ListN.{length, take}
+use lib.Seq.{length-take-le}
+use Rattle.words.proofs.Output.{placed_before}
+use Rattle.numerals.specs.Hexadecimal.{bytes_in}
+use Rattle.frames.specs.Frames.{frame_in, frame_of}
+use Rattle.frames.specs.Held.{line_in, kind_of}
+use Rattle.frames.proofs.Lending.{wrote_inside}
+use Rattle.frames.proofs.frame.Goals as goal
+
+pub slice_bounds-kind_of-end : goal.slice_bounds-kind_of-end
+slice_bounds-kind_of-end c = wrote_inside c.bytes-count.ensures.0
+
+pub slice_bounds-kind_of-end-2 : goal.slice_bounds-kind_of-end-2
+slice_bounds-kind_of-end-2 c = sym (length-take-le _ _ (wrote_inside c.bytes-count.ensures.0))
+
+pub returns : goal.returns
+unfolding frame_of
+returns c =
+    let said = bytes_in (line_in c.args.line.now c.args.digits) in
+    let wrote = c.bytes-count.ensures.0 in
+    let count : c.bytes-count.result ≡ length said = omega (arith, wrote.next_is) in
+    let first = (λ i. take (count i) (wrote.left i)) ∙ placed_before said _ in
+    (c.kind_of.ensures ∙ ap (λ (bytes : List ℕ). kind_of (frame_in bytes)) first, wrote.left)

@@ -1,0 +1,18 @@
+use mathlib.Core.Path.{◌≡◌, sym, ◌∙◌}
+use Prim.Native.Nat.{◌-◌, ◌≤◌}
+use native.Mathlib.Omega.{arith}
+use borrow.Author.Rules.{rules}
+use borrow.Author.Tests.{eq-eqb, ne_eqb, not-true, not-false}
+use lib.ListN.{length, drop}
+use Rattle.words.specs.Lists.{every}
+use Rattle.words.proofs.Choosing.{first_decides, first_fails}
+use Rattle.words.proofs.Passing.{next_passes, next_fails, all_pass}
+use Rattle.numerals.specs.Hexadecimal.{is_digit, is_hexadecimal}
+use Rattle.numerals.proofs.is_hexadecimal.Given as goal
+
+-- the test of the text is the test of its digits from i on
+abbrev pub invariant-loop-i : goal.invariant-loop-i
+invariant-loop-i l = (l.i ≤ length l.text) × (is_hexadecimal l.text ≡ every is_digit (drop l.i l.text))
+
+abbrev pub decreases-loop-i : goal.decreases-loop-i
+decreases-loop-i l = length l.text - l.i

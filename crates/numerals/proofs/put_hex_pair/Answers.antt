@@ -1,0 +1,11 @@
+use Prim.Native.Nat.{◌≤◌}
+use native.Mathlib.Omega.{arith}
+use borrow.Author.Rules.{rules}
+use lib.ListN.{length}
+use Rattle.words.proofs.Output.{wrote_then}
+use Rattle.numerals.proofs.put_hex_pair.Goals as goal
+
+pub returns : goal.returns
+returns c =
+    let room : c.args.at ≤ length c.args.text.now = omega arith in
+    wrote_then room c.put_hex_byte-next.ensures c.put_hex_byte.ensures

@@ -1,0 +1,6 @@
+use borrow.Author.Rules.{rules}
+use Rattle.words.proofs.Output.{wrote_one}
+use Rattle.output.proofs.put_byte.Goals as goal
+
+pub returns : goal.returns
+returns c = wrote_one _ _ _ c.requires

@@ -1,0 +1,12 @@
+use borrow.Author.Rules.{rules}
+use Rattle.words.specs.Choice.{◌or◌}
+use Rattle.page.specs.Page.{erasable}
+use Rattle.page.proofs.erasing.is_erasable.Goals as goal
+
+pub returns-then-mode : goal.returns-then-mode
+unfolding erasable ◌or◌
+returns-then-mode c = rw c.if-mode.true
+
+pub returns : goal.returns
+unfolding erasable ◌or◌
+returns c = rw c.if-mode.false c.is_unprotected.ensures

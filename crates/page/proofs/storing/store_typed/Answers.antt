@@ -1,0 +1,7 @@
+use borrow.Author.Rules.{rules}
+use Rattle.page.specs.Page.{typed}
+use Rattle.page.proofs.storing.store_typed.Goals as goal
+
+pub returns : goal.returns
+unfolding typed
+returns c = rw (c.set_mark.ensures, c.with_modified.ensures, c.mark_at-mark.ensures)

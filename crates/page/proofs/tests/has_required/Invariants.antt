@@ -1,0 +1,15 @@
+use mathlib.Core.Path.{◌≡◌, sym, ap, ◌∙◌}
+use Prim.Native.Nat.{◌-◌, ◌≤◌}
+use borrow.Author.Rules.{rules}
+use lib.ListN.{length}
+use Rattle.words.proofs.Ranges.{place_holds, later_places, no_more_places}
+use Rattle.page.specs.Marks.{is_required}
+use Rattle.page.specs.Page.{some_required}
+use Rattle.page.proofs.tests.has_required.Given as goal
+
+-- no cell before `cell` is required
+abbrev pub invariant-loop-cell : goal.invariant-loop-cell
+invariant-loop-cell l = (l.cell ≤ l.to) × (l.to ≤ length l.marks) × (some_required l.marks l.from (l.to - l.from) ≡ some_required l.marks l.cell (l.to - l.cell))
+
+abbrev pub decreases-loop-cell : goal.decreases-loop-cell
+decreases-loop-cell l = l.to - l.cell

@@ -1,0 +1,13 @@
+use mathlib.Core.Path.{sym, ◌∙◌}
+use borrow.Author.Rules.{rules}
+use Rattle.panel.proofs.Marks.{own_fit, own_length}
+use Rattle.panel.proofs.panel_key.Goals as goal
+
+pub slice_bounds-own-end : goal.slice_bounds-own-end
+slice_bounds-own-end c = own_fit _ _ _ c.marks_said-cells.ensures
+
+pub slice_bounds-key_on-end : goal.slice_bounds-key_on-end
+slice_bounds-key_on-end c = sym (own_length _ _ _ c.marks_said-cells.ensures)
+
+pub key_on-requires : goal.key_on-requires
+key_on-requires c = let said = c.marks_said-cells.ensures in own_length _ _ _ said ∙ said

@@ -1,0 +1,34 @@
+use mathlib.Core.Path.{sym, ap, ◌∙◌}
+use mathlib.Core.Bool.{not}
+use Prim.Native.Nat.{ℕ}
+use borrow.Author.Rules.{rules}
+use borrow.Author.Tests.{not-true, not-false}
+use Rattle.words.proofs.Choosing.{then_case, else_case}
+use Rattle.page.specs.Page.{page_of}
+use Rattle.state.specs.declared.State.{State}
+use Rattle.state.specs.Tests.{size_fits}
+use Rattle.panel.specs.Panel.{wrong_content}
+use Rattle.panel.proofs.wrong_content.Goals as goal
+
+pub returns-then-not-fits : goal.returns-then-not-fits
+unfolding wrong_content
+returns-then-not-fits c =
+    let page = page_of c.args.characters.now c.args.marks.now in
+    let same = ap (λ (s : State). size_fits s.size page) (sym c.state_in-state.ensures) in
+    sym (then_case {A = ℕ} _ _ _ (ap not (same ∙ sym c.fits.ensures ∙ not-true _ c.if-not-fits.true-raw)))
+
+pub returns-then-not-is_good : goal.returns-then-not-is_good
+unfolding wrong_content
+returns-then-not-is_good c =
+    let page = page_of c.args.characters.now c.args.marks.now in
+    let same = ap (λ (s : State). size_fits s.size page) (sym c.state_in-state.ensures) in
+    sym (else_case {A = ℕ} _ _ _ (ap not (same ∙ sym c.fits.ensures ∙ not-false _ c.if-not-fits.false-raw))
+    ∙ then_case {A = ℕ} _ _ _ (ap not (sym c.is_good.ensures ∙ not-true _ c.if-not-is_good.true-raw)))
+
+pub returns : goal.returns
+unfolding wrong_content
+returns c =
+    let page = page_of c.args.characters.now c.args.marks.now in
+    let same = ap (λ (s : State). size_fits s.size page) (sym c.state_in-state.ensures) in
+    sym (else_case {A = ℕ} _ _ _ (ap not (same ∙ sym c.fits.ensures ∙ not-false _ c.if-not-fits.false-raw))
+    ∙ else_case {A = ℕ} _ _ _ (ap not (sym c.is_good.ensures ∙ not-false _ c.if-not-is_good.false-raw)))

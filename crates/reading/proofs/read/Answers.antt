@@ -1,0 +1,7 @@
+use mathlib.Core.Path.{sym, ◌∙◌}
+use borrow.Author.Rules.{rules}
+use borrow.Author.Tests.{not-true}
+use Rattle.reading.proofs.read.Goals as goal
+
+pub returns-then-not-is_nothing : goal.returns-then-not-is_nothing
+returns-then-not-is_nothing c = c.read_command-whole.ensures _ c.if-half-eq-NONE.true (sym c.is_nothing.ensures ∙ not-true _ c.if-not-is_nothing.true-raw)

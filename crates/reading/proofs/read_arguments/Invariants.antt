@@ -1,0 +1,22 @@
+use mathlib.Core.Path.{◌≡◌, refl, sym, ◌∙◌}
+use mathlib.Core.List.{List, []}
+use Prim.Native.Nat.{ℕ, ◌+◌, ◌-◌, ◌<◌, ◌≤◌}
+use native.Mathlib.Omega.{arith}
+use borrow.Author.Rules.{rules}
+use lib.ListN.{length, drop}
+use lib.ListN.{length-set}
+use Rattle.words.proofs.Choosing.{true_is_not_false}
+use Rattle.sequence.specs.Record.{argument_read}
+use Rattle.reading.specs.Ahead.{is_nothing, read_from}
+use Rattle.reading.proofs.Laws.{open_sequence, over_digit, over_semicolon, to_final}
+use Rattle.reading.proofs.read_arguments.Given as goal
+
+abbrev pub invariant-loop-at : goal.invariant-loop-at
+invariant-loop-at l =
+    (l.from ≤ l.at) ×
+    (l.last ≤ 7) ×
+    (length l.arguments ≡ 8) ×
+    (l.at < length l.bytes → read_from argument_read (drop l.from l.bytes) l.from ≡ read_from (open_sequence l.arguments (l.last + 1)) (drop l.at l.bytes) l.at)
+
+abbrev pub decreases-loop-at : goal.decreases-loop-at
+decreases-loop-at l = length l.bytes - l.at

@@ -1,0 +1,16 @@
+use mathlib.Core.Path.{◌≡◌, refl, sym, ◌∙◌}
+use Prim.Native.Nat.{◌+◌, ◌*◌, ◌-◌, ◌≤◌, ◌<◌}
+use native.Mathlib.Omega.{arith}
+use borrow.Author.Rules.{rules}
+use lib.ListN.{length, replicate}
+use Rattle.words.proofs.Writing.{up_to, next_put, all_written}
+use Rattle.record.specs.Bytes.{number_at, read_each}
+use Rattle.record.proofs.Reading.{length-each, each_there}
+use Rattle.record.proofs.arguments_in.Given as goal
+
+abbrev pub invariant-loop-i : goal.invariant-loop-i
+invariant-loop-i l =
+    (l.i ≤ 8) × (length l.arguments ≡ 8) × (length l.initial.arguments ≡ 8) × (l.arguments ≡ up_to l.i (read_each (number_at 2 l.bytes) 2 19 8) l.initial.arguments)
+
+abbrev pub decreases-loop-i : goal.decreases-loop-i
+decreases-loop-i l = 8 - l.i

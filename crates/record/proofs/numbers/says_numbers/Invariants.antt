@@ -1,0 +1,21 @@
+use mathlib.Core.Path.{◌≡◌, refl, sym, ap, ◌∙◌}
+use mathlib.Core.Bool.{Bool}
+use Prim.Native.Nat.{ℕ, ◌+◌, ◌*◌, ◌-◌, ◌<◌, ◌≤◌}
+use native.Mathlib.Omega.{arith}
+use borrow.Author.Rules.{rules}
+use lib.Dec.{eqb}
+use lib.ListN.{length, drop, get_or}
+use Rattle.words.specs.Choice.{◌and◌}
+use Rattle.record.specs.Bytes.{number_at, read_each, same_bytes}
+use Rattle.record.proofs.Comparing.{next_compared, all_compared}
+use Rattle.record.proofs.Reading.{length-each, each_there}
+use Rattle.record.proofs.numbers.says_numbers.Given as goal
+
+-- the test of all numbers is what is known of those before `i` and the test of those from there on
+abbrev pub invariant-loop-i : goal.invariant-loop-i
+invariant-loop-i l =
+    (l.i ≤ length l.numbers)
+    × (same_bytes (read_each (number_at 2 l.bytes) 2 0 (length l.numbers)) l.numbers ≡ (l.all and same_bytes (drop l.i (read_each (number_at 2 l.bytes) 2 0 (length l.numbers))) (drop l.i l.numbers)))
+
+abbrev pub decreases-loop-i : goal.decreases-loop-i
+decreases-loop-i l = length l.numbers - l.i

@@ -1,0 +1,16 @@
+use mathlib.Core.Path.{◌≡◌, refl}
+use mathlib.Core.Bool.{false}
+use Prim.Native.Nat.{◌-◌}
+use native.Mathlib.Omega.{arith}
+use borrow.Author.Rules.{rules}
+use lib.ListN.{length}
+use Rattle.words.proofs.Elements.{exactly_these}
+use Rattle.words.proofs.Pieces.{Walked, walk_starts, walk_goes_on, walk_ends, walk_reached}
+use Rattle.record.specs.Bytes.{flag_bytes}
+use Rattle.record.proofs.put_stops.Given as goal
+
+abbrev pub invariant-loop-column : goal.invariant-loop-column
+invariant-loop-column l = (length l.stops ≡ 160) × Walked flag_bytes l.stops l.at l.initial.bytes l.column l.next l.bytes
+
+abbrev pub decreases-loop-column : goal.decreases-loop-column
+decreases-loop-column l = 160 - l.column

@@ -1,0 +1,28 @@
+use mathlib.Core.Bool.{false}
+use mathlib.Core.Path.{◌≡◌, refl}
+use Prim.Native.Nat.{◌-◌, ◌≤◌}
+use native.Mathlib.Omega.{arith}
+use borrow.Author.Rules.{rules}
+use lib.ListN.{length, replicate}
+use Rattle.words.proofs.Writing.{up_to}
+use Rattle.record.proofs.Reading.{stops_read, next_stop_read, stops_read_lem}
+use Rattle.record.proofs.stops_in.Goals as goal
+
+pub returns-then-bytes-ge-LENGTH : goal.returns-then-bytes-ge-LENGTH
+returns-then-bytes-ge-LENGTH c = c.stops_there.ensures
+
+pub loop-i-init : goal.loop-i-init
+loop-i-init c = (omega arith, refl, refl, refl)
+
+pub loop-i-preserved : goal.loop-i-preserved
+loop-i-preserved c =
+    let here = c.loop-i-test.true in (
+      omega (arith, here),
+      search rules,
+      c.loop-i.invariant.2,
+      next_stop_read c.args.bytes.now (replicate 160 false) _ _ c.loop-i.invariant.2 c.loop-i.invariant.3 here _ c.flag_at.ensures,
+    )
+
+pub returns : goal.returns
+returns c =
+    stops_read_lem c.args.bytes.now (replicate 160 false) _ _ c.loop-i.invariant.2 c.loop-i.invariant.3 c.loop-i-test.false

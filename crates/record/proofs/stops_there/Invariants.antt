@@ -1,0 +1,16 @@
+use mathlib.Core.Bool.{false}
+use mathlib.Core.Path.{◌≡◌, refl}
+use Prim.Native.Nat.{◌-◌, ◌≤◌}
+use native.Mathlib.Omega.{arith}
+use borrow.Author.Rules.{rules}
+use lib.ListN.{length, replicate}
+use Rattle.words.proofs.Writing.{up_to}
+use Rattle.record.proofs.Reading.{stops_read, next_stop_read, stops_read_lem}
+use Rattle.record.proofs.stops_there.Given as goal
+
+abbrev pub invariant-loop-i : goal.invariant-loop-i
+invariant-loop-i l =
+    (l.i ≤ 160) × (length l.stops ≡ 160) × (length l.initial.stops ≡ 160) × (l.stops ≡ up_to l.i (stops_read l.bytes) l.initial.stops)
+
+abbrev pub decreases-loop-i : goal.decreases-loop-i
+decreases-loop-i l = 160 - l.i

@@ -1,0 +1,23 @@
+use mathlib.Core.Path.{sym, ◌∙◌}
+use borrow.Author.Rules.{rules}
+use borrow.Author.Tests.{not-true, not-false}
+use Rattle.words.proofs.Choosing.{first_decides, first_fails}
+use Rattle.samples.specs.Samples.{all_answered}
+use Rattle.samples.proofs.all_done.Goals as goal
+
+pub returns-then-not-is_done : goal.returns-then-not-is_done
+unfolding all_answered
+returns-then-not-is_done c = sym (first_fails _ _ (sym c.is_done.ensures ∙ not-true _ c.if-not-is_done.true-raw))
+
+pub returns-then-not-is_done-2 : goal.returns-then-not-is_done-2
+unfolding all_answered
+returns-then-not-is_done-2 c =
+    let full = sym c.is_done.ensures ∙ not-false _ c.if-not-is_done.false-raw in
+    sym (first_decides _ _ full ∙ first_fails _ _ (sym c.is_done-2.ensures ∙ not-true _ c.if-not-is_done-2.true-raw))
+
+pub returns : goal.returns
+unfolding all_answered
+returns c =
+    let full = sym c.is_done.ensures ∙ not-false _ c.if-not-is_done.false-raw in
+    let typed = sym c.is_done-2.ensures ∙ not-false _ c.if-not-is_done-2.false-raw in
+    c.is_done-3.ensures ∙ sym (first_decides _ _ full ∙ first_decides _ _ typed)

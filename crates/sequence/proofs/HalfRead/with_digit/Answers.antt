@@ -1,0 +1,17 @@
+use native.Mathlib.Omega.{arith}
+use borrow.Author.Rules.{rules}
+use Rattle.words.proofs.Choosing.{tests}
+use Rattle.sequence.specs.Record.{with_digit}
+use Rattle.sequence.proofs.HalfRead.with_digit.Goals as goal
+
+pub returns-then-self : goal.returns-then-self
+unfolding with_digit
+returns-then-self c = search tests
+
+pub returns-then-value-gt9999 : goal.returns-then-value-gt9999
+unfolding with_digit
+returns-then-value-gt9999 c = search tests
+
+pub returns : goal.returns
+unfolding with_digit
+returns c = search tests

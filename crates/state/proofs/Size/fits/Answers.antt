@@ -1,0 +1,33 @@
+use mathlib.Core.Path.{sym, ◌∙◌}
+use native.Mathlib.Nat.{mul-le-mul}
+use native.Mathlib.Omega.{arith}
+use borrow.Author.Rules.{rules}
+use borrow.Author.Tests.{eq-eqb, ne_eqb, not-true, not-false}
+use Rattle.words.proofs.Choosing.{first_decides, first_fails}
+use Rattle.state.specs.Tests.{size_fits}
+use Rattle.state.proofs.Keeping.{size_bounds}
+use Rattle.state.proofs.Size.fits.Goals as goal
+
+pub returns-then-not-is_listed : goal.returns-then-not-is_listed
+unfolding size_fits
+returns-then-not-is_listed c = sym (first_fails _ _ (sym c.is_listed.ensures ∙ not-true _ c.if-not-is_listed.true-raw))
+
+-- a listed size has at most 48 x 160 cells
+pub overflow_mul-cells : goal.overflow_mul-cells
+overflow_mul-cells c =
+    let bounds = size_bounds _ (sym c.is_listed.ensures ∙ not-false _ c.if-not-is_listed.false-raw) in
+    omega (arith, mul-le-mul bounds.rows_most bounds.columns_most)
+
+pub returns-then-characters-cells : goal.returns-then-characters-cells
+unfolding size_fits
+returns-then-characters-cells c =
+    sym
+    (first_decides _ _ (sym c.is_listed.ensures ∙ not-false _ c.if-not-is_listed.false-raw)
+    ∙ first_fails _ _ (ne_eqb _ _ c.if-characters-cells.true))
+
+pub returns : goal.returns
+unfolding size_fits
+returns c =
+    sym
+    (first_decides _ _ (sym c.is_listed.ensures ∙ not-false _ c.if-not-is_listed.false-raw)
+    ∙ first_decides _ _ (eq-eqb _ _ c.if-characters-cells.false))

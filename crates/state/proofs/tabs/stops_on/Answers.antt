@@ -1,0 +1,20 @@
+use mathlib.Core.Path.{◌≡◌, sym, ◌∙◌}
+use Prim.Native.Nat.{◌≤◌, ◌-◌}
+use native.Mathlib.Omega.{arith}
+use borrow.Author.Rules.{rules}
+use Rattle.state.specs.Tabs.{stops_on}
+use Rattle.state.proofs.Laws.{stops_on_turn, stops_on_end, stops_on_over, right_within}
+use Rattle.state.proofs.tabs.stops_on.Goals as goal
+
+pub returns-then-last-at : goal.returns-then-last-at
+returns-then-last-at c = sym (c.loop-left.invariant.2 ∙ stops_on_over _ _ _ _ c.if-last-at.true)
+
+pub loop-left-preserved : goal.loop-left-preserved
+loop-left-preserved c =
+    let start = c.args in
+    let within = right_within start.stops.now start.last (start.last - c.loop-left.at) c.loop-left.at c.loop-left.invariant.0 (omega arith) in
+    let found = c.stop_right-at.ensures in
+    (omega arith, omega arith, rw found (c.loop-left.invariant.2 ∙ stops_on_turn _ _ _ _ c.loop-left-test.true))
+
+pub returns : goal.returns
+returns c = sym (c.loop-left.invariant.2 ∙ stops_on_end _ _ _ _ c.loop-left-test.false)

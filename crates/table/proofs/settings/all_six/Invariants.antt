@@ -1,0 +1,19 @@
+use mathlib.Core.Path.{◌≡◌, sym, ◌∙◌}
+use mathlib.Core.Bool.{Bool}
+use Prim.Native.Nat.{ℕ, ◌≤◌, ◌-◌}
+use native.Mathlib.Omega.{arith}
+use borrow.Author.Rules.{rules}
+use borrow.Author.Tests.{eq-eqb, ne_eqb}
+use lib.Dec.{eqb}
+use lib.ListN.{length, take, drop}
+use Rattle.words.specs.Lists.{every}
+use Rattle.table.proofs.Walking.{next_value_passes, value_fails, all_values_pass}
+use Rattle.table.proofs.settings.all_six.Given as goal
+
+-- the test of all values is the test of those from i on
+abbrev pub invariant-loop-i : goal.invariant-loop-i
+invariant-loop-i l =
+    (l.i ≤ l.count) × (length l.values ≡ 8) × (every isSix (take l.count l.values) ≡ every isSix (drop l.i (take l.count l.values)))
+
+abbrev pub decreases-loop-i : goal.decreases-loop-i
+decreases-loop-i l = l.count - l.i

@@ -1,0 +1,14 @@
+use mathlib.Core.Path.{◌∙◌}
+use borrow.Author.Rules.{rules}
+use Rattle.frames.proofs.Reading.{byte_held, line_held}
+use Rattle.transcript.proofs.take_byte.Goals as goal
+
+pub returns-then-byte-ne-NEW_LINE : goal.returns-then-byte-ne-NEW_LINE
+returns-then-byte-ne-NEW_LINE c = λ read holds.
+    let collect = c.collect in
+    rw (collect.ensures.0, collect.ensures.1) (byte_held holds _ c.if-byte-ne-NEW_LINE.true)
+
+pub returns : goal.returns
+returns c = λ read holds.
+    let line = c.do_line in
+    line_held holds c.if-byte-ne-NEW_LINE.false (line.auto.1.0 ∙ c.requires.0) line.ensures
