@@ -5,12 +5,11 @@
 ghost use Rattle.std.specs.Prelude.{◌≡◌, ◌+◌, ◌%◌, ◌<◌, ◌≤◌, min, length};
 ghost use Rattle.calls.specs.Frames.{two_at, four_at, Lendable};
 
-use libc::STDOUT_FILENO;
 use page::Mark;
 use state::State;
+use std::io;
+use std::io::{Read, Write};
 use terminal::Reply;
-
-const STDIN: i32 = 0;
 
 const NEW_LINE: u8 = b'\n';
 
@@ -80,60 +79,74 @@ fn four(frame: &[u8], at: usize) -> usize
     two(frame, at) * 65536 + two(frame, at + 2)
 }
 
-// At most 2,048 bytes, in hexadecimal.
-fn print_piece(bytes: &[u8])
-    requires { length bytes.now ≤ 2048 }
-{
-    let mut text = io::buffer();
-    let end = numerals::put_hex(&mut text, 0, bytes);
-    io::write_all(STDOUT_FILENO, &text[..end]);
+// Where the text goes, and whether all of it was written. After a write that failed nothing more is written, and the
+// calls go on: `read_all` ends with the error.
+#[derive(Drop)]
+struct Printing<W> {
+    to: W,
+    done: io::Result<()>,
 }
 
-fn print_hex(bytes: &[u8]) {
+fn print<W: Write>(printing: &mut Printing<W>, text: &[u8]) {
+    if printing.done.is_ok() {
+        printing.done = printing.to.write_all(text);
+    }
+}
+
+// At most 2,048 bytes, in hexadecimal.
+fn print_piece<W: Write>(printing: &mut Printing<W>, bytes: &[u8])
+    requires { length bytes.now ≤ 2048 }
+{
+    let mut text = [0u8; 4096];
+    let end = numerals::put_hex(&mut text, 0, bytes);
+    print(printing, &text[..end]);
+}
+
+fn print_hex<W: Write>(printing: &mut Printing<W>, bytes: &[u8]) {
     let mut from = 0;
     while from < bytes.len() {
         let to = from + least(bytes.len() - from, 2048);
-        print_piece(&bytes[from..to]);
+        print_piece(printing, &bytes[from..to]);
         from = to;
     }
 }
 
 // At most 1,024 marks, four digits each.
-fn print_marks_piece(marks: &[Mark])
+fn print_marks_piece<W: Write>(printing: &mut Printing<W>, marks: &[Mark])
     requires { length marks.now ≤ 1024 }
 {
-    let mut text = io::buffer();
+    let mut text = [0u8; 4096];
     let end = numerals::put_hex_pairs(&mut text, 0, marks);
-    io::write_all(STDOUT_FILENO, &text[..end]);
+    print(printing, &text[..end]);
 }
 
-fn print_marks(marks: &[Mark]) {
+fn print_marks<W: Write>(printing: &mut Printing<W>, marks: &[Mark]) {
     let mut from = 0;
     while from < marks.len() {
         let to = from + least(marks.len() - from, 1024);
-        print_marks_piece(&marks[from..to]);
+        print_marks_piece(printing, &marks[from..to]);
         from = to;
     }
 }
 
-fn print_marks_line(marks: &[Mark]) {
-    print_marks(marks);
-    io::write_all(STDOUT_FILENO, b"\n");
+fn print_marks_line<W: Write>(printing: &mut Printing<W>, marks: &[Mark]) {
+    print_marks(printing, marks);
+    print(printing, b"\n");
 }
 
-fn print_line(bytes: &[u8]) {
-    print_hex(bytes);
-    io::write_all(STDOUT_FILENO, b"\n");
+fn print_line<W: Write>(printing: &mut Printing<W>, bytes: &[u8]) {
+    print_hex(printing, bytes);
+    print(printing, b"\n");
 }
 
-fn print_number(number: usize) {
+fn print_number<W: Write>(printing: &mut Printing<W>, number: usize) {
     let bytes = [
         low_byte(number / 256 / 256 / 256),
         low_byte(number / 256 / 256),
         low_byte(number / 256),
         low_byte(number),
     ];
-    print_piece(&bytes);
+    print_piece(printing, &bytes);
 }
 
 // Room for the largest output, and for the longest host call.
@@ -158,16 +171,16 @@ fn count_changed(past: &[u8]) -> usize
     changed
 }
 
-fn print_changed(changed: usize)
+fn print_changed<W: Write>(printing: &mut Printing<W>, changed: usize)
     requires { changed < 100000 }
 {
     let mut text = [b' '; 6];
     numerals::put_five(&mut text, 0, changed);
-    io::write_all(STDOUT_FILENO, &text);
+    print(printing, &text);
 }
 
 // All parts of a state, two bytes each.
-fn print_state(state: State) {
+fn print_state<W: Write>(printing: &mut Printing<W>, state: State) {
     let mut bytes = [0u8; 364];
     let mut part = 0;
     while part < damage::PARTS {
@@ -176,37 +189,44 @@ fn print_state(state: State) {
         bytes[part * 2 + 1] = low_byte(value);
         part += 1;
     }
-    print_line(&bytes);
+    print_line(printing, &bytes);
 }
 
 // What a call gave and left. The bytes sent are cut to the output: what is tried here is not relied on.
-fn print_call(reply: Reply, out: &[u8], characters: &[u8], marks: &[Mark])
+fn print_call<W: Write>(
+    printing: &mut Printing<W>,
+    reply: Reply,
+    out: &[u8],
+    characters: &[u8],
+    marks: &[Mark],
+)
     requires { length out.now < 100000 }
 {
     let answer = reply.answer;
     let number = [terminal::number_of(answer)];
-    print_piece(&number);
-    print_number(reply.taken);
-    print_number(reply.sent);
-    print_number(reply.stored);
+    print_piece(printing, &number);
+    print_number(printing, reply.taken);
+    print_number(printing, reply.sent);
+    print_number(printing, reply.stored);
     let sent = least(reply.sent, out.len());
-    print_line(&out[..sent]);
-    print_changed(count_changed(&out[sent..]));
-    print_state(reply.state);
-    print_line(characters);
-    print_marks_line(marks);
+    print_line(printing, &out[..sent]);
+    print_changed(printing, count_changed(&out[sent..]));
+    print_state(printing, reply.state);
+    print_line(printing, characters);
+    print_marks_line(printing, marks);
 }
 
-fn refuse() {
-    io::write_all(STDOUT_FILENO, b"FF\n");
+fn refuse<W: Write>(printing: &mut Printing<W>) {
+    print(printing, b"FF\n");
 }
 
-fn confirm() {
-    io::write_all(STDOUT_FILENO, b"00\n");
+fn confirm<W: Write>(printing: &mut Printing<W>) {
+    print(printing, b"00\n");
 }
 
 // Each call is made with the parts that are lent to it, and its state becomes the state.
-fn start_call(
+fn start_call<W: Write>(
+    printing: &mut Printing<W>,
     state: State,
     frame: &[u8],
     characters: &mut [u8],
@@ -216,15 +236,16 @@ fn start_call(
     requires { length out.now < 100000 }
 {
     if frame.len() != 5 {
-        refuse();
+        refuse(printing);
         return state;
     }
     let reply = terminal::start(two(frame, 1), two(frame, 3), characters, marks);
-    print_call(reply, out, characters, marks);
+    print_call(printing, reply, out, characters, marks);
     reply.state
 }
 
-fn host_call(
+fn host_call<W: Write>(
+    printing: &mut Printing<W>,
     state: State,
     bytes: &[u8],
     characters: &mut [u8],
@@ -234,11 +255,12 @@ fn host_call(
     requires { length out.old < 100000 }
 {
     let reply = terminal::host(state, characters, marks, bytes, out);
-    print_call(reply, out, characters, marks);
+    print_call(printing, reply, out, characters, marks);
     reply.state
 }
 
-fn key_call(
+fn key_call<W: Write>(
+    printing: &mut Printing<W>,
     state: State,
     frame: &[u8],
     characters: &mut [u8],
@@ -248,11 +270,11 @@ fn key_call(
     requires { length out.old < 100000 }
 {
     if frame.len() != 5 {
-        refuse();
+        refuse(printing);
         return state;
     }
     let reply = terminal::key(state, characters, marks, four(frame, 1), out);
-    print_call(reply, out, characters, marks);
+    print_call(printing, reply, out, characters, marks);
     reply.state
 }
 
@@ -280,7 +302,8 @@ fn fill(bytes: &mut [u8], pattern: &[u8])
     }
 }
 
-fn repeated_call(
+fn repeated_call<W: Write>(
+    printing: &mut Printing<W>,
     state: State,
     frame: &[u8],
     characters: &mut [u8],
@@ -291,25 +314,26 @@ fn repeated_call(
 {
     let end = frame.len();
     if end < 6 {
-        refuse();
+        refuse(printing);
         return state;
     }
     if 255 < end {
-        refuse();
+        refuse(printing);
         return state;
     }
     let count = four(frame, 1);
     if MOST_BYTES < count {
-        refuse();
+        refuse(printing);
         return state;
     }
     let mut bytes = filled();
     fill(&mut bytes, &frame[5..]);
-    host_call(state, &bytes[..count], characters, marks, out)
+    host_call(printing, state, &bytes[..count], characters, marks, out)
 }
 
 // Frames 20 to 23, by their first byte.
-fn do_call(
+fn do_call<W: Write>(
+    printing: &mut Printing<W>,
     state: State,
     frame: &[u8],
     characters: &mut [u8],
@@ -320,15 +344,21 @@ fn do_call(
 {
     let kind = frame[0];
     match kind {
-        0x20 => start_call(state, frame, characters, marks, out),
-        0x21 => host_call(state, &frame[1..], characters, marks, out),
-        0x22 => repeated_call(state, frame, characters, marks, out),
-        _ => key_call(state, frame, characters, marks, out),
+        0x20 => start_call(printing, state, frame, characters, marks, out),
+        0x21 => host_call(printing, state, &frame[1..], characters, marks, out),
+        0x22 => repeated_call(printing, state, frame, characters, marks, out),
+        _ => key_call(printing, state, frame, characters, marks, out),
     }
 }
 
 // A call with as much of the characters, the marks and the output as is lent.
-fn lend_and_call(held: Held, frame: &[u8], characters: &mut [u8], marks: &mut [Mark]) -> Held
+fn lend_and_call<W: Write>(
+    printing: &mut Printing<W>,
+    held: Held,
+    frame: &[u8],
+    characters: &mut [u8],
+    marks: &mut [Mark],
+) -> Held
     requires lendable { Lendable held × (0 < length frame.now) }
     requires characters_len { (length characters.old ≡ 8192) × (length marks.old ≡ 8192) }
     ensures { Lendable result }
@@ -339,6 +369,7 @@ fn lend_and_call(held: Held, frame: &[u8], characters: &mut [u8], marks: &mut [M
     let room = held.room;
     let mut out = filled();
     let state = do_call(
+        printing,
         before,
         frame,
         &mut characters[..lent],
@@ -353,25 +384,25 @@ fn lend_and_call(held: Held, frame: &[u8], characters: &mut [u8], marks: &mut [M
     }
 }
 
-fn set_lengths(held: Held, frame: &[u8]) -> Held
+fn set_lengths<W: Write>(printing: &mut Printing<W>, held: Held, frame: &[u8]) -> Held
     requires { Lendable held }
     ensures { Lendable result }
 {
     if frame.len() != 5 {
-        refuse();
+        refuse(printing);
         return held;
     }
     let characters = two(frame, 1);
     let marks = two(frame, 3);
     if KEPT < characters {
-        refuse();
+        refuse(printing);
         return held;
     }
     if KEPT < marks {
-        refuse();
+        refuse(printing);
         return held;
     }
-    confirm();
+    confirm(printing);
     let state = held.state;
     Held {
         state,
@@ -381,20 +412,20 @@ fn set_lengths(held: Held, frame: &[u8]) -> Held
     }
 }
 
-fn set_room(held: Held, frame: &[u8]) -> Held
+fn set_room<W: Write>(printing: &mut Printing<W>, held: Held, frame: &[u8]) -> Held
     requires { Lendable held }
     ensures { Lendable result }
 {
     if frame.len() != 5 {
-        refuse();
+        refuse(printing);
         return held;
     }
     let room = four(frame, 1);
     if MOST_ROOM < room {
-        refuse();
+        refuse(printing);
         return held;
     }
-    confirm();
+    confirm(printing);
     let state = held.state;
     Held {
         state,
@@ -404,37 +435,37 @@ fn set_room(held: Held, frame: &[u8]) -> Held
     }
 }
 
-fn set_character(characters: &mut [u8], frame: &[u8])
+fn set_character<W: Write>(printing: &mut Printing<W>, characters: &mut [u8], frame: &[u8])
     requires { length characters.old ≡ 8192 }
 {
     if frame.len() != 4 {
-        refuse();
+        refuse(printing);
         return;
     }
     let place = two(frame, 1);
     if KEPT <= place {
-        refuse();
+        refuse(printing);
         return;
     }
     characters[place] = frame[3];
-    confirm();
+    confirm(printing);
 }
 
 // A mark has two bytes.
-fn set_mark(marks: &mut [Mark], frame: &[u8])
+fn set_mark<W: Write>(printing: &mut Printing<W>, marks: &mut [Mark], frame: &[u8])
     requires { length marks.old ≡ 8192 }
 {
     if frame.len() != 5 {
-        refuse();
+        refuse(printing);
         return;
     }
     let place = two(frame, 1);
     if KEPT <= place {
-        refuse();
+        refuse(printing);
         return;
     }
     page::set_mark(marks, place, two(frame, 3) as u16);
-    confirm();
+    confirm(printing);
 }
 
 // Message, kind, count and the byte beside the message are bytes.
@@ -448,25 +479,25 @@ fn largest(part: usize) -> usize {
     }
 }
 
-fn set_part(held: Held, frame: &[u8]) -> Held
+fn set_part<W: Write>(printing: &mut Printing<W>, held: Held, frame: &[u8]) -> Held
     requires { Lendable held }
     ensures { Lendable result }
 {
     if frame.len() != 5 {
-        refuse();
+        refuse(printing);
         return held;
     }
     let part = two(frame, 1);
     let value = two(frame, 3);
     if damage::PARTS <= part {
-        refuse();
+        refuse(printing);
         return held;
     }
     if largest(part) < value {
-        refuse();
+        refuse(printing);
         return held;
     }
-    confirm();
+    confirm(printing);
     Held {
         state: damage::with_part(held.state, part, value as u16),
         characters: held.characters,
@@ -476,43 +507,50 @@ fn set_part(held: Held, frame: &[u8]) -> Held
 }
 
 // A frame by its first byte.
-fn do_frame(held: Held, frame: &[u8], characters: &mut [u8], marks: &mut [Mark]) -> Held
+fn do_frame<W: Write>(
+    printing: &mut Printing<W>,
+    held: Held,
+    frame: &[u8],
+    characters: &mut [u8],
+    marks: &mut [Mark],
+) -> Held
     requires lendable { Lendable held }
     requires characters_len { (length characters.old ≡ 8192) × (length marks.old ≡ 8192) }
     ensures { Lendable result }
 {
     if frame.len() == 0 {
-        refuse();
+        refuse(printing);
         return held;
     }
     let kind = frame[0];
     if kind < 0x20 {
-        refuse();
+        refuse(printing);
         return held;
     }
     if kind < 0x24 {
-        return lend_and_call(held, frame, characters, marks);
+        return lend_and_call(printing, held, frame, characters, marks);
     }
     match kind {
-        0x24 => set_lengths(held, frame),
-        0x25 => set_room(held, frame),
+        0x24 => set_lengths(printing, held, frame),
+        0x25 => set_room(printing, held, frame),
         0x26 => {
-            set_character(characters, frame);
+            set_character(printing, characters, frame);
             held
         }
         0x27 => {
-            set_mark(marks, frame);
+            set_mark(printing, marks, frame);
             held
         }
-        0x28 => set_part(held, frame),
+        0x28 => set_part(printing, held, frame),
         _ => {
-            refuse();
+            refuse(printing);
             held
         }
     }
 }
 
-fn do_line(
+fn do_line<W: Write>(
+    printing: &mut Printing<W>,
     held: Held,
     line: &mut [u8],
     digits: usize,
@@ -524,10 +562,11 @@ fn do_line(
     ensures { Lendable result }
 {
     let count = frames::bytes(line, digits);
-    do_frame(held, &line[..count], characters, marks)
+    do_frame(printing, held, &line[..count], characters, marks)
 }
 
-fn take_byte(
+fn take_byte<W: Write>(
+    printing: &mut Printing<W>,
     reading: Reading,
     byte: u8,
     line: &mut [u8],
@@ -547,12 +586,13 @@ fn take_byte(
         };
     }
     Reading {
-        held: do_line(held, line, digits, characters, marks),
+        held: do_line(printing, held, line, digits, characters, marks),
         digits: 0,
     }
 }
 
-fn take_bytes(
+fn take_bytes<W: Write>(
+    printing: &mut Printing<W>,
     reading: Reading,
     bytes: &[u8],
     line: &mut [u8],
@@ -566,14 +606,20 @@ fn take_bytes(
     let mut here = reading;
     let mut i = 0;
     while i < bytes.len() {
-        here = take_byte(here, bytes[i], line, characters, marks);
+        here = take_byte(printing, here, bytes[i], line, characters, marks);
         i += 1;
     }
     here
 }
 
 // A last line that lacks its 0A counts.
-fn end_input(reading: Reading, line: &mut [u8], characters: &mut [u8], marks: &mut [Mark])
+fn end_input<W: Write>(
+    printing: &mut Printing<W>,
+    reading: Reading,
+    line: &mut [u8],
+    characters: &mut [u8],
+    marks: &mut [Mark],
+)
     requires lendable { Lendable reading.held }
     requires line_len { (length line.old ≡ 512) × (length characters.old ≡ 8192) × (length marks.old ≡ 8192) }
 {
@@ -581,10 +627,17 @@ fn end_input(reading: Reading, line: &mut [u8], characters: &mut [u8], marks: &m
     if digits == 0 {
         return;
     }
-    do_line(reading.held, line, digits, characters, marks);
+    do_line(printing, reading.held, line, digits, characters, marks);
 }
 
-fn read_all(input: &mut [u8], line: &mut [u8], characters: &mut [u8], marks: &mut [Mark])
+fn read_all<R: Read, W: Write>(
+    from: &mut R,
+    printing: &mut Printing<W>,
+    input: &mut [u8],
+    line: &mut [u8],
+    characters: &mut [u8],
+    marks: &mut [Mark],
+) -> io::Result<()>
     requires { (length line.old ≡ 512) × (length characters.old ≡ 8192) × (length marks.old ≡ 8192) }
 {
     let held = Held {
@@ -596,21 +649,33 @@ fn read_all(input: &mut [u8], line: &mut [u8], characters: &mut [u8], marks: &mu
     let mut here = Reading { held, digits: 0 };
     let mut reads = MOST_READS;
     while reads > 0 {
-        let got = libc::read(STDIN, input);
-        let count = io::count(got, input);
+        let count = from.read(input)?;
         if count == 0 {
-            end_input(here, line, characters, marks);
-            return;
+            end_input(printing, here, line, characters, marks);
+            return printing.done;
         }
-        here = take_bytes(here, &input[..count], line, characters, marks);
+        here = take_bytes(printing, here, &input[..count], line, characters, marks);
+        printing.done?;
         reads -= 1;
     }
+    Ok(())
 }
 
-fn main() {
+fn main(rt: HostRuntime) -> io::Result<()> {
     let mut input = [0u8; 4096];
     let mut line = [0u8; 512];
     let mut characters = [0u8; 8192];
     let mut marks: [Mark; 8192] = [0; 8192];
-    read_all(&mut input, &mut line, &mut characters, &mut marks);
+    let mut printing = Printing {
+        to: rt.stdout(),
+        done: Ok(()),
+    };
+    read_all(
+        &mut rt.stdin(),
+        &mut printing,
+        &mut input,
+        &mut line,
+        &mut characters,
+        &mut marks,
+    )
 }

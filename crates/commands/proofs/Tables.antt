@@ -61,7 +61,7 @@ module _ (Asked : Type 0) (byte : ℕ) (t : Terminal) (valid : Valid t) where
   silently {step} e stored sound = record {
     sound = sound;
     stored = stored;
-    full_block = λ bytes f. absurd (silent_is_no_full bytes (cc));
+    by_full_block = λ bytes f. absurd (silent_is_no_full bytes (cc));
     no_changed_block = λ bytes f. silent_is_no_changed bytes (cc);
     is_report = λ bytes f. absurd (silent_is_no_report bytes (cc));
   }
@@ -86,7 +86,7 @@ module _ (Asked : Type 0) (byte : ℕ) (t : Terminal) (valid : Valid t) where
   reports said is = done (record {
     sound = reports_soundly t valid said;
     stored = no_cell;
-    full_block = λ bytes e. absurd (report_is_no_full said bytes e);
+    by_full_block = λ bytes e. absurd (report_is_no_full said bytes e);
     no_changed_block = λ bytes e. report_is_no_changed said bytes e;
     is_report = λ bytes e. rw (same_report said bytes e) is;
   }) refl
@@ -96,7 +96,7 @@ module _ (Asked : Type 0) (byte : ℕ) (t : Terminal) (valid : Valid t) where
   full_block_holds asked = let said = block true t.state.size.columns t.page in done (record {
     sound = clears_soundly t valid (full_block said) (λ mark. refl);
     stored = no_cell;
-    full_block = λ bytes e. record { asked = asked; of_page = same_full said bytes e; no_cell = refl };
+    by_full_block = λ bytes e. record { asked = asked; of_page = same_full said bytes e; no_cell = refl };
     no_changed_block = λ bytes e. full_is_no_changed said bytes e;
     is_report = λ bytes e. absurd (block_is_no_report said bytes true e);
   }) refl
@@ -316,7 +316,7 @@ whatever_half_read Asked t half step holds = let sound = holds.sound in record {
     protection = sound.protection;
   };
   stored = whatever_half_stores t half holds.stored;
-  full_block = λ bytes e. let full = holds.by_full_block bytes e in record { asked = full.asked; of_page = full.of_page; no_cell = full.no_cell };
+  by_full_block = λ bytes e. let full = holds.by_full_block bytes e in record { asked = full.asked; of_page = full.of_page; no_cell = full.no_cell };
   no_changed_block = holds.no_changed_block;
   is_report = holds.is_report;
 }

@@ -4,32 +4,33 @@
 #![tactic(auto)]
 
 use page::Mark;
+use std::io;
 use terminal::Reply;
 
-fn print(number: usize, after: u8) {
-    io::print_decimal(1, number as u64);
-    io::write_all(1, &[after]);
+fn print(rt: &impl Print, number: usize, after: u8) -> io::Result<()> {
+    rt.print(number)?;
+    rt.write_all(&[after])
 }
 
-fn tell(bytes: usize, reply: Reply) {
+fn tell(rt: &impl Print, bytes: usize, reply: Reply) -> io::Result<()> {
     let state = reply.state;
     let answer = reply.answer;
-    print(bytes, b' ');
-    print(terminal::number_of(answer) as usize, b' ');
-    print(reply.taken, b' ');
-    print(reply.sent, b' ');
-    print(reply.stored, b' ');
-    print(state.cursor.row, b' ');
-    print(state.cursor.column, b'\n');
+    print(rt, bytes, b' ')?;
+    print(rt, terminal::number_of(answer) as usize, b' ')?;
+    print(rt, reply.taken, b' ')?;
+    print(rt, reply.sent, b' ')?;
+    print(rt, reply.stored, b' ')?;
+    print(rt, state.cursor.row, b' ')?;
+    print(rt, state.cursor.column, b'\n')
 }
 
-fn main() {
+fn main(rt: HostRuntime) -> io::Result<()> {
     let mut characters = [0u8; 1920];
     let mut marks: [Mark; 1920] = [0; 1920];
     let mut out = [0u8; 1];
     let bytes = [b'A'; 65537];
     let started = terminal::start(24, 80, &mut characters, &mut marks);
-    tell(0, started);
+    tell(&rt, 0, started)?;
     let state = started.state;
     let long = terminal::host(
         state,
@@ -38,8 +39,8 @@ fn main() {
         &bytes[..65536],
         &mut out,
     );
-    tell(65536, long);
+    tell(&rt, 65536, long)?;
     let after = long.state;
     let longer = terminal::host(after, &mut characters, &mut marks, &bytes, &mut out);
-    tell(65537, longer);
+    tell(&rt, 65537, longer)
 }

@@ -59,8 +59,8 @@ module _ (key : ℕ) (t : Terminal) where
   puts : {cells : List ℕ} (s : State) (page : Page) → KeyStores key t cells → ((key ≡ 268 → ⊥) → s.locks ≡ t.state.locks) → s.modes ≡ t.state.modes → ((cell : ℕ) → unprotected_at t cell ≡ false → ProtectedKept t.page page cell) → ((k : ℕ) → (k ≡ 1 → ⊥) → (cell : ℕ) → has_bit k (get_or page.marks cell 0) ≡ has_bit k (get_or t.page.marks cell 0)) → Always (stores cells false s page)
   puts s page names locks modes protected bits = record {
     stored = names;
-    full_block = λ bytes e. absurd (silent_is_no_full bytes e);
-    changed_block = λ bytes e. absurd (silent_is_no_changed bytes e);
+    by_full_block = λ bytes e. absurd (silent_is_no_full bytes e);
+    by_changed_block = λ bytes e. absurd (silent_is_no_changed bytes e);
     no_report = λ bytes e. silent_is_no_report bytes e;
     not_refused = refl;
     locks = locks;
@@ -91,10 +91,10 @@ module _ (key : ℕ) (t : Terminal) where
       let filled = sends_filled asked free in
       record {
         stored = no_cell;
-        full_block = λ bytes e.
+        by_full_block = λ bytes e.
             let told = told_full said bytes full e in
             record { asked = record { key_266 = asked; by_mode = told.0; none_blank = filled }; of_page = told.1 ∙ ap (λ (f : Bool). block f columns t.page) told.0; no_cell = refl };
-        changed_block = λ bytes e.
+        by_changed_block = λ bytes e.
             let told = told_changed said bytes full e in
             record { asked = record { key_266 = asked; by_mode = told.0; none_blank = filled }; of_page = told.1 ∙ ap (λ (f : Bool). block f columns t.page) told.0; no_cell = refl };
         no_report = λ bytes e. block_is_no_report said bytes full e;

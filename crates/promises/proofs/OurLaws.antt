@@ -34,8 +34,8 @@ our_every_step (byte b) t valid = record {
   size = step_keeps_size b t valid;
   touches = step_touches_only b t valid;
   reports = step_reports b t valid;
-  full_block = λ bytes sends. is_block (step_sends_full b t valid bytes sends);
-  changed_block = λ bytes sends. absurd (step_sends_no_changed b t valid bytes sends);
+  by_full_block = λ bytes sends. is_block (step_sends_full b t valid bytes sends);
+  by_changed_block = λ bytes sends. absurd (step_sends_no_changed b t valid bytes sends);
   short = step_short b t valid.size;
 }
 our_every_step (press key) t valid = record {
@@ -43,8 +43,8 @@ our_every_step (press key) t valid = record {
   size = key_keeps_size key t valid;
   touches = key_touches_only key t valid;
   reports = λ bytes sends. absurd (key_sends_no_report key t bytes sends);
-  full_block = λ bytes sends. is_block (key_sends_full key t bytes sends);
-  changed_block = λ bytes sends. is_block (key_sends_changed key t bytes sends);
+  by_full_block = λ bytes sends. is_block (key_sends_full key t bytes sends);
+  by_changed_block = λ bytes sends. is_block (key_sends_changed key t bytes sends);
   short = key_short key t valid (key_step key t).transmission refl;
 }
 

@@ -1,12 +1,13 @@
 -- Every call keeps the arrays' lengths, whatever came in, and a start gives them.
 use mathlib.Core.List.{List, [], ◌∷◌}
-use Prim.Native.Nat.{ℕ}
+use Prim.Native.Nat.{ℕ, ◌-◌}
+use lib.ListN.{length}
 use Rattle.words.proofs.Choosing.{either_line}
 use Rattle.page.specs.Page.{Page}
 use Rattle.state.specs.declared.Size.{Size}
 use Rattle.state.specs.State.{Arrays}
 use Rattle.state.proofs.Arrays.{fresh_arrays, zero_arrays}
-use Rattle.steps.specs.Steps.{Terminal, Stepped}
+use Rattle.steps.specs.Steps.{Terminal, Stepped, bytes_of}
 use Rattle.commands.specs.Commands.{fresh_step}
 use Rattle.commands.specs.Host.{host_step}
 use Rattle.commands.proofs.Arrays.{host_keeps_arrays}
@@ -27,7 +28,7 @@ unfolding steps_of fitting after
 steps_keep_arrays room t [] has = has
 steps_keep_arrays room t (byte ∷ later) has =
     either_line (λ (steps : List Stepped). Arrays (after t steps).state) _ _ _
-    (λ _. steps_keep_arrays _ (host_step byte t).terminal later (host_keeps_arrays byte t has))
+    (λ _. steps_keep_arrays (room - length (bytes_of (host_step byte t).transmission)) (host_step byte t).terminal later (host_keeps_arrays byte t has))
     (λ _. has)
 
 pub start_has_arrays : (size : Size) (page : Page) → Arrays (start_call size page).terminal.state

@@ -3,7 +3,7 @@
 use mathlib.Core.Path.{◌≡◌, refl, sym, ap, subst}
 use mathlib.Core.Bool.{true, false}
 use mathlib.Core.List.{List, [], ◌∷◌}
-use Prim.Native.Nat.{ℕ, suc, ◌*◌, ◌≤◌}
+use Prim.Native.Nat.{ℕ, suc, ◌-◌, ◌*◌, ◌≤◌}
 use native.Mathlib.Nat.{mul-le-mul}
 use native.Mathlib.Omega.{arith}
 use lib.ListN.{length, length-append}
@@ -72,7 +72,7 @@ run_few room t [] valid = few_none 0
 run_few room t (byte ∷ later) valid =
     either_line (Few (suc (length later))) _ _ _
     (λ _. few_more (length later) (host_step byte t) _ (step_short byte t valid.size) (step_count byte t valid)
-    (run_few _ (host_step byte t).terminal later (step_keeps_valid byte t valid)))
+    (run_few (room - length (bytes_of (host_step byte t).transmission)) (host_step byte t).terminal later (step_keeps_valid byte t valid)))
     (λ _. few_none _)
 
 unchanged_fits : (answer : Answer) (t : Terminal) (lent : List ℕ) → CountsFit (unchanged answer t lent)

@@ -9,11 +9,11 @@ ghost use Rattle.frames.specs.Transcript.{SoFar, after_byte, after_bytes};
 ghost use Rattle.frames.specs.Held.{line_in, session_in, lent, Enough, Holds};
 
 use frames::Held;
-use libc::STDOUT_FILENO;
 use page::Mark;
 use state::State;
-
-const STDIN: i32 = 0;
+use std::io;
+use std::io::{Read, Write};
+use std::rt::Env;
 
 const NEW_LINE: u8 = b'\n';
 
@@ -30,9 +30,29 @@ struct Reading {
     digits: usize,
 }
 
+// Where the text goes, and whether all of it was written. After a write that failed nothing more is written, and the
+// session goes on: `read_all` ends with the error.
+#[derive(Drop)]
+struct Printing<W> {
+    to: W,
+    done: io::Result<()>,
+}
+
+fn print<W: Write>(printing: &mut Printing<W>, text: &[u8]) {
+    if printing.done.is_ok() {
+        printing.done = printing.to.write_all(text);
+    }
+}
+
 // The session's terminal, drawn as text; nothing without a session. The two tests give what `draw` asks for, and the
 // state of every session passes them.
-fn show(held: Held, characters: &[u8], marks: &[Mark], text: &mut [u8])
+fn show<W: Write>(
+    printing: &mut Printing<W>,
+    held: Held,
+    characters: &[u8],
+    marks: &[Mark],
+    text: &mut [u8],
+)
     requires { (length characters.now ≡ 7680) × (length marks.now ≡ 7680) × (131087 ≤ length text.old) }
 {
     let state = held.state;
@@ -47,11 +67,12 @@ fn show(held: Held, characters: &[u8], marks: &[Mark], text: &mut [u8])
     }
     let cells = state.size.rows * state.size.columns;
     let end = drawing::draw(state, &characters[..cells], &marks[..cells], text, 0);
-    io::write_all(STDOUT_FILENO, &text[..end]);
+    print(printing, &text[..end]);
 }
 
 // A finished line: its frame's calls, and what each prints. The session is then the definition's.
-fn do_calls(
+fn do_calls<W: Write>(
+    printing: &mut Printing<W>,
     held: Held,
     line: &mut [u8],
     digits: usize,
@@ -72,7 +93,7 @@ fn do_calls(
     while calls < MOST_CALLS {
         let printed = frames::call(here, kind, line, from, characters, marks, out, text);
         let end = printed.end;
-        io::write_all(STDOUT_FILENO, &text[..end]);
+        print(printing, &text[..end]);
         here = printed.held;
         if !printed.more {
             return here;
@@ -84,7 +105,8 @@ fn do_calls(
 }
 
 // In dump mode the terminal is drawn after each line.
-fn do_line(
+fn do_line<W: Write>(
+    printing: &mut Printing<W>,
     held: Held,
     line: &mut [u8],
     digits: usize,
@@ -99,15 +121,16 @@ fn do_line(
         ≡ (line_done (line_in line.old digits)
         (session_in held characters.old marks.old)).after }
 {
-    let after = do_calls(held, line, digits, characters, marks, out, text);
+    let after = do_calls(printing, held, line, digits, characters, marks, out, text);
     if dumping {
-        show(after, characters, marks, text);
+        show(printing, after, characters, marks, text);
     }
     after
 }
 
 // Where the line so far and the session are held, they are held after the byte too.
-fn take_byte(
+fn take_byte<W: Write>(
+    printing: &mut Printing<W>,
     reading: Reading,
     byte: u8,
     line: &mut [u8],
@@ -133,12 +156,15 @@ fn take_byte(
         };
     }
     Reading {
-        held: do_line(held, line, digits, characters, marks, out, text, dumping),
+        held: do_line(
+            printing, held, line, digits, characters, marks, out, text, dumping,
+        ),
         digits: 0,
     }
 }
 
-fn take_bytes(
+fn take_bytes<W: Write>(
+    printing: &mut Printing<W>,
     reading: Reading,
     bytes: &[u8],
     line: &mut [u8],
@@ -158,14 +184,17 @@ fn take_bytes(
     let mut here = reading;
     let mut i = 0;
     while i < bytes.len() {
-        here = take_byte(here, bytes[i], line, characters, marks, out, text, dumping);
+        here = take_byte(
+            printing, here, bytes[i], line, characters, marks, out, text, dumping,
+        );
         i += 1;
     }
     here
 }
 
 // A last line that lacks its 0A counts.
-fn end_input(
+fn end_input<W: Write>(
+    printing: &mut Printing<W>,
     reading: Reading,
     line: &mut [u8],
     characters: &mut [u8],
@@ -181,10 +210,14 @@ fn end_input(
         return;
     }
     let held = reading.held;
-    do_line(held, line, digits, characters, marks, out, text, dumping);
+    do_line(
+        printing, held, line, digits, characters, marks, out, text, dumping,
+    );
 }
 
-fn read_all(
+fn read_all<R: Read, W: Write>(
+    from: &mut R,
+    printing: &mut Printing<W>,
     input: &mut [u8],
     line: &mut [u8],
     characters: &mut [u8],
@@ -192,7 +225,7 @@ fn read_all(
     out: &mut [u8],
     text: &mut [u8],
     dumping: bool,
-)
+) -> io::Result<()>
     requires { (length line.old ≡ 512) × Enough (lent characters.old marks.old out.old text.old) }
 {
     let held = Held {
@@ -203,13 +236,13 @@ fn read_all(
     let mut here = Reading { held, digits: 0 };
     let mut reads = MOST_READS;
     while reads > 0 {
-        let got = libc::read(STDIN, input);
-        let count = io::count(got, input);
+        let count = from.read(input)?;
         if count == 0 {
-            end_input(here, line, characters, marks, out, text, dumping);
-            return;
+            end_input(printing, here, line, characters, marks, out, text, dumping);
+            return printing.done;
         }
         here = take_bytes(
+            printing,
             here,
             &input[..count],
             line,
@@ -219,22 +252,28 @@ fn read_all(
             text,
             dumping,
         );
+        printing.done?;
         reads -= 1;
     }
+    Ok(())
 }
 
-fn main() {
+fn main(rt: HostRuntime) -> io::Result<()> {
     let mut input = [0u8; 4096];
     let mut line = [0u8; 512];
     let mut characters = [0u8; 7680];
     let mut marks: [Mark; 7680] = [0; 7680];
     let mut out = [0u8; 65536];
     let mut text = [0u8; 131087];
-    let mut word = io::buffer();
-    // errno is 0 where there is a first argument
-    os::arg(1, &mut word);
-    let dumping = os::errno() == 0;
+    let mut word = [0u8; 4096];
+    let dumping = rt.arg(1, &mut word).is_ok();
+    let mut printing = Printing {
+        to: rt.stdout(),
+        done: Ok(()),
+    };
     read_all(
+        &mut rt.stdin(),
+        &mut printing,
         &mut input,
         &mut line,
         &mut characters,
@@ -242,5 +281,5 @@ fn main() {
         &mut out,
         &mut text,
         dumping,
-    );
+    )
 }

@@ -13,7 +13,7 @@ use Rattle.blocks.proofs.put_at.Goals as goal
 
 pub returns-then-not-starts_field : goal.returns-then-not-starts_field
 returns-then-not-starts_field c =
-    let none = sym c.starts_field.ensures ∙ not-true _ c.if-not-starts_field.true-raw in
+    let none = sym c.starts_field.ensures ∙ c.if-not-starts_field.true in
     rw (unstarted _ _ (page_of c.args.characters.now c.args.marks.now) _ c.requires.counted.right none) (wrote_none _ _)
 
 pub is_in_block-requires : goal.is_in_block-requires
@@ -22,15 +22,15 @@ is_in_block-requires c =
 
 pub returns-then-not-is_in_block : goal.returns-then-not-is_in_block
 returns-then-not-is_in_block c =
-    let none = sym c.is_in_block.ensures ∙ not-true _ c.if-not-is_in_block.true-raw in
+    let none = sym c.is_in_block.ensures ∙ c.if-not-is_in_block.true in
     rw (unsent _ _ (page_of c.args.characters.now c.args.marks.now) _ c.requires.counted.right c.requires.columns_bound.3 _ c.field_end-end.ensures none) (wrote_none _ _)
 
 pub put_place-next-requires : goal.put_place-next-requires
 put_place-next-requires c =
     let place = c.args.place in
     let marks = c.args.marks.now in
-    let starts = sym c.starts_field.ensures ∙ not-false _ c.if-not-starts_field.false-raw in
-    let sent = sym c.is_in_block.ensures ∙ not-false _ c.if-not-is_in_block.false-raw in
+    let starts = sym c.starts_field.ensures ∙ c.if-not-starts_field.false in
+    let sent = sym c.is_in_block.ensures ∙ c.if-not-is_in_block.false in
     let size = sent_length c.args.full _ (page_of c.args.characters.now marks) _ c.requires.counted.right c.requires.columns_bound.3 _ c.field_end-end.ensures (omega arith) starts sent in
     omega (arith, on_rows 48 c.requires.counted (omega arith))
 
@@ -38,8 +38,8 @@ pub put_characters-requires : goal.put_characters-requires
 put_characters-requires c =
     let place = c.args.place in
     let marks = c.args.marks.now in
-    let starts = sym c.starts_field.ensures ∙ not-false _ c.if-not-starts_field.false-raw in
-    let sent = sym c.is_in_block.ensures ∙ not-false _ c.if-not-is_in_block.false-raw in
+    let starts = sym c.starts_field.ensures ∙ c.if-not-starts_field.false in
+    let sent = sym c.is_in_block.ensures ∙ c.if-not-is_in_block.false in
     let size = sent_length c.args.full _ (page_of c.args.characters.now marks) _ c.requires.counted.right c.requires.columns_bound.3 _ c.field_end-end.ensures (omega arith) starts sent in
     let bounds = end_bounds (unprotected marks) (length marks) place.cell c.requires.columns_bound.1 in
     omega arith
@@ -48,8 +48,8 @@ pub returns : goal.returns
 returns c =
     let place = c.args.place in
     let marks = c.args.marks.now in
-    let starts = sym c.starts_field.ensures ∙ not-false _ c.if-not-starts_field.false-raw in
-    let sent = sym c.is_in_block.ensures ∙ not-false _ c.if-not-is_in_block.false-raw in
+    let starts = sym c.starts_field.ensures ∙ c.if-not-starts_field.false in
+    let sent = sym c.is_in_block.ensures ∙ c.if-not-is_in_block.false in
     let room : c.args.at ≤ length c.args.out.now = omega arith in
     rw (sent_is c.args.full _ (page_of c.args.characters.now marks) _ c.requires.counted.right c.requires.columns_bound.3 _ c.field_end-end.ensures starts sent)
     (wrote_then room c.put_place-next.ensures c.put_characters.ensures)

@@ -9,16 +9,16 @@ use Rattle.copy.proofs.lay.Goals as goal
 
 pub returns-then-not-has_room : goal.returns-then-not-has_room
 unfolding laying
-returns-then-not-has_room c = sym (else_case _ _ _ (sym c.has_room.ensures ∙ not-true _ c.if-not-has_room.true-raw))
+returns-then-not-has_room c = sym (else_case _ _ _ (sym c.has_room.ensures ∙ c.if-not-has_room.true))
 
 pub put_laid-requires : goal.put_laid-requires
 put_laid-requires c =
     let asked = c.requires in
-    (asked.0, asked.1, leb-true _ _ (sym c.has_room.ensures ∙ not-false _ c.if-not-has_room.false-raw))
+    (asked.0, asked.1, leb-true _ _ (sym c.has_room.ensures ∙ c.if-not-has_room.false))
 
 pub returns : goal.returns
 unfolding laying
 returns c =
     let wrote = c.put_laid.ensures in
     (λ i. record { answer = Bytes (from_start wrote i); output = wrote.left i })
-    ∙ sym (then_case _ _ _ (sym c.has_room.ensures ∙ not-false _ c.if-not-has_room.false-raw))
+    ∙ sym (then_case _ _ _ (sym c.has_room.ensures ∙ c.if-not-has_room.false))

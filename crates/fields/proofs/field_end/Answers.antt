@@ -12,19 +12,19 @@ use Rattle.fields.proofs.Walks.{end_on, end_stops, end_at_last, end_of_protected
 use Rattle.fields.proofs.field_end.Goals as goal
 
 pub returns-then-not-is_unprotected : goal.returns-then-not-is_unprotected
-returns-then-not-is_unprotected c = sym (end_of_protected _ _ _ (sym c.is_unprotected.ensures ∙ not-true _ c.if-not-is_unprotected.true-raw))
+returns-then-not-is_unprotected c = sym (end_of_protected _ _ _ (sym c.is_unprotected.ensures ∙ c.if-not-is_unprotected.true))
 
 pub loop-end-init : goal.loop-end-init
 loop-end-init c =
     let here : c.args.cell ≡ c.args.cell + 1 - 1 = omega arith in
-    let is-unprotected = sym c.is_unprotected.ensures ∙ not-false _ c.if-not-is_unprotected.false-raw in
+    let is-unprotected = sym c.is_unprotected.ensures ∙ c.if-not-is_unprotected.false in
     (omega arith, omega arith, ap (unprotected _) (sym here) ∙ is-unprotected, ap (field_end _ _) here)
 
 pub returns-then-not-is_unprotected-2 : goal.returns-then-not-is_unprotected-2
 returns-then-not-is_unprotected-2 c =
     let loop = c.loop-end in
     let here : loop.end - 1 + 1 ≡ loop.end = omega (arith, loop.invariant.0) in
-    let apart = ap (joined _) here ∙ joined_if_unprotected _ _ loop.invariant.0 loop.invariant.2 ∙ sym c.is_unprotected-in-loop-end.ensures ∙ not-true _ c.if-not-is_unprotected-2.true-raw in
+    let apart = ap (joined _) here ∙ joined_if_unprotected _ _ loop.invariant.0 loop.invariant.2 ∙ sym c.is_unprotected-in-loop-end.ensures ∙ c.if-not-is_unprotected-2.true in
     sym (loop.invariant.3 ∙ end_stops _ _ _ (omega (arith, c.loop-end-test.true)) apart ∙ here)
 
 pub loop-end-preserved : goal.loop-end-preserved
@@ -32,7 +32,7 @@ loop-end-preserved c =
     let loop = c.loop-end in
     let here : loop.end - 1 + 1 ≡ loop.end = omega (arith, loop.invariant.0) in
     let next : loop.end ≡ loop.end + 1 - 1 = omega arith in
-    let is-unprotected = sym c.is_unprotected-in-loop-end.ensures ∙ not-false _ c.if-not-is_unprotected-2.false-raw in
+    let is-unprotected = sym c.is_unprotected-in-loop-end.ensures ∙ c.if-not-is_unprotected-2.false in
     let is-joined = ap (joined _) here ∙ joined_if_unprotected _ _ loop.invariant.0 loop.invariant.2 ∙ is-unprotected in (
       omega arith,
       omega arith,

@@ -26,18 +26,18 @@ slice_bounds-is_hexadecimal-end-2 c = sym (length-take-le _ _ (omega arith))
 pub returns-then-not-is_hexadecimal : goal.returns-then-not-is_hexadecimal
 returns-then-not-is_hexadecimal c =
     let line = c.args.line.now in
-    let none = not_hexadecimal _ _ c.if-digits-gt512.false (sym c.is_hexadecimal.ensures ∙ not-true _ c.if-not-is_hexadecimal.true-raw) in
+    let none = not_hexadecimal _ _ c.if-digits-gt512.false (sym c.is_hexadecimal.ensures ∙ c.if-not-is_hexadecimal.true) in
     (subst (λ (said : List ℕ). Wrote 0 said line 0 line) (sym none) (wrote_none 0 line), omega arith)
 
 pub decode-requires : goal.decode-requires
 unfolding is_hexadecimal
-decode-requires c = let is = sym c.is_hexadecimal.ensures ∙ not-false _ c.if-not-is_hexadecimal.false-raw in record { digits_in_bounds = omega arith; text_value = (both is).1 }
+decode-requires c = let is = sym c.is_hexadecimal.ensures ∙ c.if-not-is_hexadecimal.false in record { digits_in_bounds = omega arith; text_value = (both is).1 }
 
 pub returns : goal.returns
 returns c =
     let line = c.args.line.now in
     let fits = c.if-digits-gt512.false in
-    let all = is_hexadecimal_lem line _ fits (sym c.is_hexadecimal.ensures ∙ not-false _ c.if-not-is_hexadecimal.false-raw) in
+    let all = is_hexadecimal_lem line _ fits (sym c.is_hexadecimal.ensures ∙ c.if-not-is_hexadecimal.false) in
     let wrote = c.decode.ensures in
     let digits = take c.args.digits line in
     (rw (← all) at wrote, omega (arith, wrote.next_is, pairs_most digits, length-take-le c.args.digits line (omega (arith, fits, c.requires)), fits))

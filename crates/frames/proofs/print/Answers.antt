@@ -21,7 +21,7 @@ pub returns : goal.returns
 unfolding printed high_first
 returns c page =
     let number = c.number_of.ensures ∙ one_byte _ in
-    subst (λ (bytes : List ℕ). Wrote 0 bytes c.args.text.now c.put_line.result c.put_line.new.0)
+    subst (λ (bytes : List ℕ). Wrote 0 bytes c.args.text.now c.put_line.result c.put_line.new.text)
     (λ i. line_of
     (number i
     ∷ c.low_byte.ensures i

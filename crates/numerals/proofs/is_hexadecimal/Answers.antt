@@ -20,11 +20,11 @@ loop-i-init c = (omega arith, first_decides _ _ (eq-eqb _ _ c.if-text-ne0.false)
 
 pub returns-then-not-is_digit : goal.returns-then-not-is_digit
 returns-then-not-is_digit c =
-    sym (c.loop-i.invariant.1 ∙ next_fails is_digit 0 _ _ c.loop-i-test.true (sym c.is_digit.ensures ∙ not-true _ c.if-not-is_digit.true-raw))
+    sym (c.loop-i.invariant.1 ∙ next_fails is_digit 0 _ _ c.loop-i-test.true (sym c.is_digit.ensures ∙ c.if-not-is_digit.true))
 
 pub loop-i-preserved : goal.loop-i-preserved
 loop-i-preserved c =
-    (search rules, c.loop-i.invariant.1 ∙ next_passes is_digit 0 _ _ c.loop-i-test.true (sym c.is_digit.ensures ∙ not-false _ c.if-not-is_digit.false-raw))
+    (search rules, c.loop-i.invariant.1 ∙ next_passes is_digit 0 _ _ c.loop-i-test.true (sym c.is_digit.ensures ∙ c.if-not-is_digit.false))
 
 pub returns : goal.returns
 returns c = sym (c.loop-i.invariant.1 ∙ all_pass is_digit 0 _ _ c.loop-i-test.false)

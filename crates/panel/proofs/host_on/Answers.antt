@@ -44,7 +44,8 @@ pack_marks-requires c =
 
 pub hand_on-requires : goal.hand_on-requires
 hand_on-requires c =
-    right_lengths _ _ (rw c.wrong_length-wrong.ensures at c.if-wrong-gt0.false)
+    let right = right_lengths _ _ (rw c.wrong_length-wrong.ensures at c.if-wrong-gt0.false) in
+    record { packed_len = right.0; res_len = right.1 }
 
 pub shape_of-own : goal.shape_of-own
 shape_of-own c =

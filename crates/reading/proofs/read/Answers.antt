@@ -4,4 +4,4 @@ use borrow.Author.Tests.{not-true}
 use Rattle.reading.proofs.read.Goals as goal
 
 pub returns-then-not-is_nothing : goal.returns-then-not-is_nothing
-returns-then-not-is_nothing c = c.read_command-whole.ensures _ c.if-half-eq-NONE.true (sym c.is_nothing.ensures ∙ not-true _ c.if-not-is_nothing.true-raw)
+returns-then-not-is_nothing c = c.read_command-whole.ensures _ c.if-half-eq-NONE.true (sym c.is_nothing.ensures ∙ c.if-not-is_nothing.true)

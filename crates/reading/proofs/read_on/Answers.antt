@@ -18,7 +18,7 @@ returns-then-not-is_nothing c =
     let bytes : List ℕ = c.args.bytes.now in
     let advanced = c.advance-advanced.ensures in
     let here : c.loop-at.at < length bytes = omega arith in
-    let something = sym (ap (λ (a : Advanced). is_nothing a.event) advanced) ∙ sym c.is_nothing.ensures ∙ not-true _ c.if-not-is_nothing.true-raw in
+    let something = sym (ap (λ (a : Advanced). is_nothing a.event) advanced) ∙ sym c.is_nothing.ensures ∙ c.if-not-is_nothing.true in
     sym (c.loop-at.invariant.2 ∙ reads_to _ bytes _ here something ∙ sym (ap (λ (a : Advanced). record { before = c.loop-at.here; after = a.half; event = a.event; end = c.loop-at.at + 1 }) advanced))
 
 pub loop-at-preserved : goal.loop-at-preserved
@@ -26,7 +26,7 @@ loop-at-preserved c =
     let bytes : List ℕ = c.args.bytes.now in
     let advanced = c.advance-advanced.ensures in
     let more : c.loop-at.at + 1 < length bytes = omega (arith, c.loop-at-test.true) in
-    let nothing = sym (ap (λ (a : Advanced). is_nothing a.event) advanced) ∙ sym c.is_nothing.ensures ∙ not-false _ c.if-not-is_nothing.false-raw in
+    let nothing = sym (ap (λ (a : Advanced). is_nothing a.event) advanced) ∙ sym c.is_nothing.ensures ∙ c.if-not-is_nothing.false in
     (rw advanced (advance_keeps _ _ c.loop-at.invariant.0), more, c.loop-at.invariant.2 ∙ reads_on_lem _ bytes _ more nothing ∙ rw advanced)
 
 pub returns : goal.returns

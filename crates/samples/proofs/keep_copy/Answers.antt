@@ -6,7 +6,7 @@ use Rattle.samples.proofs.Copying.{full_fits, later_fits, full_is_block, later_i
 use Rattle.samples.proofs.keep_copy.Goals as goal
 
 pub returns-then-not-all_done : goal.returns-then-not-all_done
-returns-then-not-all_done c = copy_not_made c.call_three-replies.ensures _ (sym c.all_done.ensures ∙ not-true _ c.if-not-all_done.true-raw)
+returns-then-not-all_done c = copy_not_made c.call_three-replies.ensures _ (sym c.all_done.ensures ∙ c.if-not-all_done.true)
 
 pub slice_bounds-lay-end : goal.slice_bounds-lay-end
 slice_bounds-lay-end c = later_fits c.call_three-replies.ensures
@@ -22,11 +22,11 @@ slice_bounds-lay-end-4 c = sym (length-take-le _ _ (full_fits c.call_three-repli
 
 pub lay-laid-requires : goal.lay-laid-requires
 lay-laid-requires c =
-    let answered = sym c.all_done.ensures ∙ not-false _ c.if-not-all_done.false-raw in
+    let answered = sym c.all_done.ensures ∙ c.if-not-all_done.false in
     let calls = c.call_three-replies.ensures in
     (later_is_block calls answered, full_is_block calls answered)
 
 pub returns : goal.returns
 returns c =
-    let answered = sym c.all_done.ensures ∙ not-false _ c.if-not-all_done.false-raw in
+    let answered = sym c.all_done.ensures ∙ c.if-not-all_done.false in
     copy_made c.call_three-replies.ensures answered _ c.lay-laid.ensures

@@ -20,8 +20,8 @@ pub returns-in-Bytes : goal.returns-in-Bytes
 returns-in-Bytes c =
     let page = page_of c.args.characters.now c.args.marks.now in
     let block = c.write_block-answer in
-    let marks = block.new.1.1.1.0 in
-    let out = block.new.0 in
+    let marks = block.new.marks in
+    let out = block.new.out in
     let answer = sym c.in-Bytes.is in
     (λ i. record { told = told (c.did_send.ensures i) (page_of page.characters marks); output = out })
     ∙ (λ i. record { told = told_of c.args.state c.args.before page.characters (answer i) marks; output = out })
@@ -31,8 +31,8 @@ pub returns-in-NoRoom : goal.returns-in-NoRoom
 returns-in-NoRoom c =
     let page = page_of c.args.characters.now c.args.marks.now in
     let block = c.write_block-answer in
-    let marks = block.new.1.1.1.0 in
-    let out = block.new.0 in
+    let marks = block.new.marks in
+    let out = block.new.out in
     let answer = sym c.in-NoRoom.is in
     (λ i. record { told = c.no_room.ensures (page_of page.characters marks) i; output = out })
     ∙ (λ i. record { told = told_of c.args.state c.args.before page.characters (answer i) marks; output = out })

@@ -158,7 +158,7 @@ overflow_add-sent c =
     let read = c.read-read.ensures in
     let told = rw c.with_half-next.ensures at c.heavy_step-step.ensures in
     let on = goes_heavily _ _ _ _ _ _ _ _ _ _ c.loop-taken.invariant.0 more _ read c.heavy_step-step.result _ _ told c.if-step.false in
-    omega (arith, on.room, c.well-formed)
+    omega (arith, on.room, c.well_formed)
 
 pub overflow_add-stored-else-is_light : goal.overflow_add-stored-else-is_light
 overflow_add-stored-else-is_light c =

@@ -14,21 +14,21 @@ use Rattle.terminal.proofs.start.Goals as goal
 pub returns-then-not-fits : goal.returns-then-not-fits
 returns-then-not-fits c =
     let page = page_of c.args.characters.now c.args.marks.now in
-    let wrong = sym c.fits.ensures ∙ not-true _ c.if-not-fits.true-raw in
+    let wrong = sym c.fits.ensures ∙ c.if-not-fits.true in
     c.refuse_call.ensures page []
     ∙ (λ i. unchanged WrongSize (record { state = c.zero.ensures i; page = page }) [])
     ∙ sym (start_wrong_size _ page wrong)
 
 pub erase-requires : goal.erase-requires
 erase-requires c =
-    let fits = sym c.fits.ensures ∙ not-false _ c.if-not-fits.false-raw in
+    let fits = sym c.fits.ensures ∙ c.if-not-fits.false in
     let lengths = sized _ (page_of c.args.characters.now c.args.marks.now) fits in
     (omega arith, omega (arith, lengths.marks, lengths.characters), lengths.marks ∙ sym lengths.characters)
 
 pub returns : goal.returns
 returns c =
     let page = page_of c.args.characters.now c.args.marks.now in
-    let fits = sym c.fits.ensures ∙ not-false _ c.if-not-fits.false-raw in
+    let fits = sym c.fits.ensures ∙ c.if-not-fits.false in
     (λ i. record {
       number = number_of Done;
       taken = 0;

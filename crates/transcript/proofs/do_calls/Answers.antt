@@ -44,7 +44,7 @@ pub returns-then-not-printed : goal.returns-then-not-printed
 returns-then-not-printed c =
     let frame = c.frame-kind in
     let turn = c.loop-calls in
-    let last = ends frame.result frame.new.0 turn.calls _ c.loop-calls-test.true c.call-printed.ensures.call_made (not-true _ c.if-not-printed.true) in
+    let last = ends frame.result frame.new.line turn.calls _ c.loop-calls-test.true c.call-printed.ensures.call_made (not-true _ c.if-not-printed.true) in
     let all = all_to_come (line_in c.args.line.now c.args.digits) c.args.line.now frame.ensures.0 frame.ensures.1 _ in
     sym (after_same last) ∙ turn.invariant.7 ∙ after_same all
 
@@ -61,7 +61,7 @@ loop-calls-preserved c =
     let out = c.call-printed.auto.1.1.1.1.1.1.0 in
     let text = c.call-printed.auto.1.1.1.1.1.1.1.0 in
     let frame = c.frame-kind in
-    let more = carries_on frame.result frame.new.0 c.loop-calls.calls _ c.loop-calls-test.true c.call-printed.ensures.call_made (not-false _ c.if-not-printed.false) in (
+    let more = carries_on frame.result frame.new.line c.loop-calls.calls _ c.loop-calls-test.true c.call-printed.ensures.call_made (not-false _ c.if-not-printed.false) in (
       c.loop-calls.invariant.0,
       c.call-printed.ensures.from_bound,
       still_enough c.loop-calls.invariant.2 characters marks out text,
@@ -79,6 +79,6 @@ pub returns : goal.returns
 returns c =
     let frame = c.frame-kind in
     let turn = c.loop-calls in
-    let none = none_to_come frame.result frame.new.0 turn.calls turn.from _ c.loop-calls-test.false in
+    let none = none_to_come frame.result frame.new.line turn.calls turn.from _ c.loop-calls-test.false in
     let all = all_to_come (line_in c.args.line.now c.args.digits) c.args.line.now frame.ensures.0 frame.ensures.1 _ in
     sym (after_same none) ∙ turn.invariant.7 ∙ after_same all

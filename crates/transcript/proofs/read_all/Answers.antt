@@ -50,7 +50,7 @@ loop-reads-smaller c = omega (arith, c.loop-reads-test.true)
 
 pub loop-reads-preserved : goal.loop-reads-preserved
 loop-reads-preserved c =
-    let part = take c.count-count.result c.read-got.new.1.0 in
+    let part = take c.count-count.result c.read-got.new.buf in
     let same = c.loop-reads.invariant in (
       omega (arith, c.read-got.auto.1.0, same.0),
       omega (arith, c.take_bytes-here.auto.1.1.0, same.1),

@@ -11,25 +11,25 @@ use Rattle.transcript.proofs.show.Goals as goal
 
 pub overflow_mul-cells : goal.overflow_mul-cells
 overflow_mul-cells c =
-    let most = cells_fit _ (sym c.is_listed.ensures ∙ not-false _ c.if-not-is_listed.false-raw) (sym c.is_valid.ensures ∙ not-false _ c.if-not-is_valid.false-raw) in
+    let most = cells_fit _ (sym c.is_listed.ensures ∙ c.if-not-is_listed.false) (sym c.is_valid.ensures ∙ c.if-not-is_valid.false) in
     omega arith
 
 pub slice_bounds-draw-end : goal.slice_bounds-draw-end
 slice_bounds-draw-end c =
-    let listed = sym c.is_listed.ensures ∙ not-false _ c.if-not-is_listed.false-raw in
-    let is = sym c.is_valid.ensures ∙ not-false _ c.if-not-is_valid.false-raw in
+    let listed = sym c.is_listed.ensures ∙ c.if-not-is_listed.false in
+    let is = sym c.is_valid.ensures ∙ c.if-not-is_valid.false in
     sym (page_length c.args.held.state listed is c.args.characters.now c.requires.0)
 
 pub slice_bounds-draw-end-2 : goal.slice_bounds-draw-end-2
 slice_bounds-draw-end-2 c =
-    let listed = sym c.is_listed.ensures ∙ not-false _ c.if-not-is_listed.false-raw in
-    let is = sym c.is_valid.ensures ∙ not-false _ c.if-not-is_valid.false-raw in
+    let listed = sym c.is_listed.ensures ∙ c.if-not-is_listed.false in
+    let is = sym c.is_valid.ensures ∙ c.if-not-is_valid.false in
     sym (page_length c.args.held.state listed is c.args.marks.now c.requires.1)
 
 pub draw-end-requires : goal.draw-end-requires
 draw-end-requires c = let state = c.args.held.state in
-    let listed = sym c.is_listed.ensures ∙ not-false _ c.if-not-is_listed.false-raw in
-    let is = sym c.is_valid.ensures ∙ not-false _ c.if-not-is_valid.false-raw in
+    let listed = sym c.is_listed.ensures ∙ c.if-not-is_listed.false in
+    let is = sym c.is_valid.ensures ∙ c.if-not-is_valid.false in
     let cells = state.size.rows * state.size.columns in
     let characters = page_length state listed is c.args.characters.now c.requires.0 in
     let marks = page_length state listed is c.args.marks.now c.requires.1 in

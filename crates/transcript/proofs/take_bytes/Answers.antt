@@ -17,7 +17,7 @@ take_byte-here-requires c =
 
 pub overflow_add-i : goal.overflow_add-i
 unfolding after_bytes
-overflow_add-i c = omega (arith, c.loop-i-test.true, c.well-formed)
+overflow_add-i c = omega (arith, c.loop-i-test.true, c.well_formed)
 
 pub loop-i-smaller : goal.loop-i-smaller
 unfolding after_bytes

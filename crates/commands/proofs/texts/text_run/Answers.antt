@@ -23,8 +23,9 @@ loop-at-init c =
 -- A byte that is no text.
 pub returns-then-not-is_text : goal.returns-then-not-is_text
 returns-then-not-is_text c =
-    let other = sym c.is_text.ensures ∙ not-true _ c.if-not-is_text.true-raw in
-    rw c.ended.ensures (stops_here c.loop-at.invariant.3 c.loop-at-test.true other)
+    let other = sym c.is_text.ensures ∙ c.if-not-is_text.true in
+    let all = stops_here c.loop-at.invariant.3 c.loop-at-test.true other in
+    record { marks_after = rw c.ended.ensures all.0; end_value = rw c.ended.ensures all.1 }
 
 pub store_text-requires : goal.store_text-requires
 store_text-requires c =
@@ -36,7 +37,7 @@ pub overflow_add-cell : goal.overflow_add-cell
 overflow_add-cell c =
     let inv = c.loop-at.invariant in
     let known = measured inv.3.valid in
-    omega (arith, known.cursor_inside, inv.4, c.well-formed)
+    omega (arith, known.cursor_inside, inv.4, c.well_formed)
 
 pub overflow_add-column : goal.overflow_add-column
 overflow_add-column c =
@@ -47,7 +48,7 @@ overflow_add-column c =
 pub loop-at-preserved-then-column-state : goal.loop-at-preserved-then-column-state
 loop-at-preserved-then-column-state c =
     let on-page = (measured c.loop-at.invariant.3.valid).on_page in
-    let text = sym c.is_text.ensures ∙ not-false _ c.if-not-is_text.false-raw in
+    let text = sym c.is_text.ensures ∙ c.if-not-is_text.false in
     let more = c.loop-at-test.true in
     let stored = c.store_text.ensures in
     let on = goes_on c.loop-at.invariant.3 more text _ _ _ (next_in_row c.args.state c.loop-at.row c.loop-at.column c.if-column-state.true) stored c.loop-at.invariant.4 in
@@ -62,7 +63,7 @@ overflow_add-row c =
 pub loop-at-preserved-then-row-state : goal.loop-at-preserved-then-row-state
 loop-at-preserved-then-row-state c =
     let on-page = (measured c.loop-at.invariant.3.valid).on_page in
-    let text = sym c.is_text.ensures ∙ not-false _ c.if-not-is_text.false-raw in
+    let text = sym c.is_text.ensures ∙ c.if-not-is_text.false in
     let more = c.loop-at-test.true in
     let stored = c.store_text.ensures in
     let on = goes_on c.loop-at.invariant.3 more text _ _ _ (next_row c.args.state c.loop-at.row c.loop-at.column c.if-column-state.false c.if-row-state.true) stored c.loop-at.invariant.4 in
@@ -72,7 +73,7 @@ loop-at-preserved-then-row-state c =
 pub loop-at-preserved : goal.loop-at-preserved
 loop-at-preserved c =
     let on-page = (measured c.loop-at.invariant.3.valid).on_page in
-    let text = sym c.is_text.ensures ∙ not-false _ c.if-not-is_text.false-raw in
+    let text = sym c.is_text.ensures ∙ c.if-not-is_text.false in
     let more = c.loop-at-test.true in
     let stored = c.store_text.ensures in
     let on = goes_on c.loop-at.invariant.3 more text _ _ _ (round_the_page c.args.state c.loop-at.row c.loop-at.column c.if-column-state.false c.if-row-state.false) stored c.loop-at.invariant.4 in
@@ -81,4 +82,5 @@ loop-at-preserved c =
 -- No byte is left.
 pub returns : goal.returns
 returns c =
-    rw c.ended-2.ensures (ends_here c.loop-at.invariant.3 c.loop-at-test.false)
+    let all = ends_here c.loop-at.invariant.3 c.loop-at-test.false in
+    record { marks_after = rw c.ended-2.ensures all.0; end_value = rw c.ended-2.ensures all.1 }

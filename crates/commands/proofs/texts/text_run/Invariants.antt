@@ -15,11 +15,11 @@ use Rattle.commands.proofs.texts.text_run.Given as goal
 
 -- up to `at` all is text, and what is left of it does the rest; the cell is the cursor's; no length changes
 abbrev pub invariant-loop-at : goal.invariant-loop-at
-invariant-loop-at l = 
+invariant-loop-at l =
     (l.at ≤ length l.bytes) ×
     (length l.characters ≡ length l.initial.characters) ×
     (length l.marks ≡ length l.initial.marks) ×
-    Going l.bytes l.from (record { l.state = l.state; page = page_of l.initial.characters l.initial.marks }) l.at (record { l.state = with_cursor l.state (cursor_at l.row l.column); page = page_of l.characters l.marks }) ×
+    Going l.bytes l.from (record { state = l.state; page = page_of l.initial.characters l.initial.marks }) l.at (record { state = with_cursor l.state (cursor_at l.row l.column); page = page_of l.characters l.marks }) ×
     (l.cell ≡ cell_at l.state.size.columns l.row l.column)
 
 abbrev pub decreases-loop-at : goal.decreases-loop-at

@@ -16,7 +16,7 @@ pub returns-then-not-takes : goal.returns-then-not-takes
 unfolding takes_from_left
 returns-then-not-takes c =
     let cell = c.loop-cell.cell in
-    let failed = rw c.mark_at.ensures at (sym c.takes.ensures ∙ not-true _ c.if-not-takes.true-raw) in
+    let failed = rw c.mark_at.ensures at (sym c.takes.ensures ∙ c.if-not-takes.true) in
     sym (c.loop-cell.invariant.2 ∙ place_fails _ cell _ failed (omega arith))
 
 pub loop-cell-preserved : goal.loop-cell-preserved
@@ -24,7 +24,7 @@ unfolding takes_from_left
 loop-cell-preserved c =
     let to = c.args.to in
     let cell = c.loop-cell.cell in
-    let passed = rw c.mark_at.ensures at (sym c.takes.ensures ∙ not-false _ c.if-not-takes.false-raw) in
+    let passed = rw c.mark_at.ensures at (sym c.takes.ensures ∙ c.if-not-takes.false) in
     let fewer : to - cell - 1 - 1 ≡ to - (cell + 1) - 1 = omega arith in
     (search rules, search rules, c.loop-cell.invariant.2 ∙ next_place _ cell _ passed (omega arith) ∙ ap (all_from _ (cell + 1)) fewer)
 
