@@ -1,19 +1,28 @@
 #!/usr/bin/env bash
 # Writes docs/FIGURES.md: sizes, and what each crate's check takes from nothing. GATE is the gate's time, as .ci/run told it.
-# Run it on a machine that does nothing else; it removes target/ first.
+# Run it on a machine that does nothing else, with everything committed.
 set -eu
 cd "$(dirname "$0")/.."
 . tests/tools/debian.sh
 need time
 lines() { find "$@" -type f -exec cat {} + 2>/dev/null | wc -l; }
 told() { sed -n "s/.* $2=\([0-9]*\).*/\1/p" <<<"$1"; }
-rm -rf target
+. tests/tools/archive.sh
 rows=$(mktemp)
-trap 'rm -f "$rows"' EXIT
-for crate in $(grep -v '^#' crates.txt | cut -d: -f1); do
+room=$(mktemp -d)
+trap 'rm -rf "$rows" "$room"' EXIT
+# a kit that keeps nothing from before, and a copy of the crates in which nothing was made: each check is then from nothing
+own_kit "$room"
+mkdir "$room/repo"
+git archive HEAD crates crates.txt | tar -xC "$room/repo"
+for crate in $(grep -v '^#' crates.txt | sed 's/[: ].*//'); do
     here=crates/$crate
-    measured=$(/usr/bin/time -f '%e %M' rt check "$crate" 2>&1 >/dev/null | tail -n 1)
-    last=$(grep '^logic=proved' "target/log/$crate.out")
+    cd "$room/repo/$here"
+    measured=$(/usr/bin/time -f '%e %M' "$room/kit/bin/rt" check 2>&1 >"$room/said" </dev/null | tail -n 1)
+    last=$(grep '^logic=proved' "$room/said" | tail -n 1) || { tail "$room/said" >&2; printf 'figures: %s is not proved\n' "$crate" >&2; exit 1; }
+    # the library for those above
+    [ -f src/main.rt ] || "$room/kit/bin/rt" lib >"$room/said" 2>&1 </dev/null
+    cd "$OLDPWD"
     functions=$(told "$last" functions)
     axioms=$(told "$last" axioms)
     printf '%s %s %s %s %s %s %s %s %s\n' "$crate" \

@@ -86,14 +86,15 @@ refused() {
 # The loop as it was before M-105, in a repository of its own: a crate in this one would have to be listed.
 crate=$room/repo/crates/as_it_was
 mkdir -p "$crate/src" "$crate/proofs/tens_of"
-echo 'as_it_was:' >"$room/repo/crates.txt"
+echo 'as_it_was staticlib:' >"$room/repo/crates.txt"
 cat >"$crate/src/lib.rt" <<'CODE'
-ghost use mathlib.Core.Path.{_≡_};
-ghost use Prim.Native.Nat.{_/_};
+#![tactic(auto)]
 
-#[no_mangle]
+ghost use Rattle.std.specs.Prelude.{◌≡◌, ◌/◌};
+
+#[unsafe(no_mangle)]
 pub extern "C" fn tens_of(number: usize) -> usize
-    ensures { λ r. ⌜ r ≡ number / 10 ⌝ }
+    ensures { result ≡ number / 10 }
 {
     let mut times = 0;
     let mut left = number;
@@ -104,27 +105,19 @@ pub extern "C" fn tens_of(number: usize) -> usize
     times
 }
 CODE
-cat >"$crate/proofs/tens_of/Proof.antt" <<'PROOF'
-use mathlib.Core.Path.{_≡_}
-use Prim.Native.Nat.{_+_, _*_}
-use native.Mathlib.Omega.{arith}
-use borrow.Author.Needs.{needs}
-use Rattle·as_it_was·proofs.proofs.tens_of.Statement.{statement}
-use Rattle·as_it_was·proofs.proofs.tens_of.Tie as tie
+cat >"$crate/proofs/tens_of/Invariants.antt" <<'PROOF'
+use Rattle.std.proofs.Common.{◌+◌, ◌≡◌, ◌*◌}
+use Rattle.as_it_was.proofs.tens_of.Given as goal
 
-abbrev Inv-loop : tie.InvT-loop
-Inv-loop number times₀ left₀ times left = number ≡ times * 10 + left
+abbrev pub invariant-loop-left : goal.invariant-loop-left
+invariant-loop-left l = l.fn.number ≡ l.times * 10 + l.left
 
-abbrev μ-loop : tie.MeasureT-loop
-μ-loop number times₀ left₀ times left = left
-
-pub tens-of-spec : {M : Type 1} → statement M
-tens-of-spec =
-    tie.close (tie.spec Inv-loop μ-loop (λ c. search needs) (λ c. search needs) (λ c. search needs) (λ c. search needs) (λ c. omega arith))
+abbrev pub decreases-loop-left : goal.decreases-loop-left
+decreases-loop-left l = l.left
 PROOF
 was=$room/repo/given
-(cd "$room/repo" && staticlib as_it_was "$was")
-loop=$room/repo/target/staticlib/libas_it_was.a
+loop=$room/repo/libas_it_was.a
+(cd "$room/repo" && staticlib as_it_was "$loop" "$was")
 refused "$was" "$loop" 'a division, as the kit optimises the code' 'is called on thumbv6m at -O3' \
     'is called on thumbv6m at -Os' 'is called on riscv32 at -O3' 'is called on riscv32 at -Os'
 refused "$was" $archive 'the bitcode has other functions than the archive'

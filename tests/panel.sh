@@ -3,21 +3,23 @@
 # the second program's transcripts and calls through a driver in C, the characters that cells take, what the Send key
 # sends, the required fields that hold it back, and whatever C can get wrong (tests/panel/). In the last five every
 # slice lies between pages that may not be touched, and what may not be written can only be read.
-# The archive is for x86-64; elsewhere programs run under the kit's emulator.
+# The archive is for x86-64; elsewhere programs run under Debian's emulator.
 set -eu -o pipefail
 . tests/tools/debian.sh
 . tests/tools/archive.sh
+emulator=()
 case $(dpkg --print-architecture) in
 amd64) need gcc g++ libc6-dev python3 ;;
-*) need gcc-x86-64-linux-gnu g++-x86-64-linux-gnu libc6-dev-amd64-cross python3 ;;
+*)
+    need gcc-x86-64-linux-gnu g++-x86-64-linux-gnu libc6-dev-amd64-cross qemu-user python3
+    # a plain processor: on newer ones the C library copies by instructions that are slow to emulate
+    emulator=(/usr/bin/qemu-x86_64 -cpu qemu64)
+    ;;
 esac
 second_cargo build
 build_archive
 tool=/usr/bin/x86_64-linux-gnu
 second=target/second/release/second
-# a plain processor: on newer ones the C library copies by instructions that are slow to emulate
-emulator=("$kit/$tools/bin/qemu-x86_64" -cpu qemu64)
-[ -x "${emulator[0]}" ] || emulator=()
 
 # step COMMAND..: says what is run, and runs it
 step() {

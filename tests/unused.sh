@@ -10,19 +10,24 @@ found=$(find crates -name '*.antt' -o -name '*.rt' | sort | xargs awk -v named="
     # a name stands in a text if it does as a whole, or all the words of an operator do
     function stands(name, text,    parts, n, i) {
         if ((text, name) in token || name == "[]") return 1
-        n = split(name, parts, "_")
+        n = split(name, parts, "◌")
         if (n < 2) return 0
         for (i = 1; i <= n; i++) if (parts[i] != "" && !((text, parts[i]) in token)) return 0
         return 1
     }
-    FNR == 1 { inside = 0; code = FILENAME ~ /\.rt$/ }
+    FNR == 1 { inside = 0; joined = ""; code = FILENAME ~ /\.rt$/ }
     { line = $0 }
     code { sub(/\/\/.*/, "", line) }
     !code { sub(/(^| )--( .*)?$/, "", line) }
+    # rt fmt sets a long list over several lines
+    joined != "" { line = joined " " line; joined = "" }
+    line ~ /^ *(ghost )?use [^}]*\{[^}]*$/ { joined = line; next }
     line ~ /^ *(ghost )?use / {
         sub(/;$/, "", line)
+        sub(/, *\}/, "}", line)
         if (match(line, /\{.*\}/)) list = substr(line, RSTART + 1, RLENGTH - 2)
         else { list = line; sub(/.*( as |::|\.)/, "", list) }
+        gsub(/^ +| +$/, "", list)
         n = split(list, names, /, */)
         for (i = 1; i <= n; i++) { sub(/.* as /, "", names[i]); imports[FILENAME] = imports[FILENAME] " " names[i] }
         next
@@ -37,7 +42,9 @@ found=$(find crates -name '*.antt' -o -name '*.rt' | sort | xargs awk -v named="
             split(text, words, " ")
             if (line ~ /^ *(pub )?(record|data) /) { own = words[1]; type = 1 }
             else if (words[2] == ":" || text ~ /(^| )=( |$)/) { own = words[1]; type = 0 }
-            if (own != "" && !inside && line ~ /^(  )?[^ ]/ && (type || words[2] == ":") && !(own in place)) place[own] = FILENAME
+            # an answer or an invariant is what the prover asks for by its name
+            if (FILENAME ~ /\/(Answers|Invariants)\.antt$/ && words[3] == "goal." own) own_goal = 1; else own_goal = 0
+            if (own != "" && !own_goal && !inside && line ~ /^(  )?[^ ]/ && (type || words[2] == ":") && !(own in place)) place[own] = FILENAME
             if (line ~ /^ *(pub )?(record|data) /) inside = 1
         }
         gsub(/⌜|⌝/, " ", line)
@@ -55,7 +62,7 @@ found=$(find crates -name '*.antt' -o -name '*.rt' | sort | xargs awk -v named="
             for (i = 1; i <= n; i++) if (!stands(names[i], file)) printf "%s: %s is imported and not used\n", file, names[i]
         }
         for (name in place)
-            if (!stands(name, "") && !(name in told) && name !~ /-spec$/ && place[name] !~ /(Examples|Worked|Wrong[A-Za-z]*)\.antt$/)
+            if (!stands(name, "") && !(name in told) && name !~ /_spec$/ && place[name] !~ /(Examples|Worked|Wrong[A-Za-z]*)\.antt$/)
                 printf "%s: %s is used nowhere\n", place[name], name
     }' | sort)
 [ -z "$found" ] || { printf '%s\n' "$found"; exit 1; }

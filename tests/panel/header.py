@@ -58,13 +58,13 @@ for name in ours:
     if re.match(r"RECORD_|MESSAGE_|KIND_", name) and name != "MESSAGE_NONE" and name not in wanted:
         differs(f"PANEL_{name} is not in the source")
 
-# a slice is a pointer and a length, right after one another; two have another name in the source
-NAMES = {"packed": "record", "out": "output"}
+# a slice is a pointer and a length, right after one another; three have another name in the source
+NAMES = {"packed": "record", "out": "output", "res": "result"}
 FORMS = {"&mut [u8]": "uint8_t *{0}, size_t {0}_length", "&[u8]": "const uint8_t *{0}, size_t {0}_length",
          "usize": "size_t {0}", "u8": "uint8_t {0}"}
 prototypes = dict(re.findall(r"uint8_t (\w+)\(([^)]*)\);", header))
 aliases = dict(re.findall(r"type (\w+) = (\w+);", source("crates/page/src/*.rt")))
-exported = re.findall(r'#\[no_mangle\]\s*pub extern "C" fn (\w+)\(([^)]*)\) -> (\S+)', panel)
+exported = re.findall(r'#\[unsafe\(no_mangle\)\]\s*pub extern "C" fn (\w+)\(([^)]*)\) -> (\S+)', source("crates/panel_c/src/lib.rt"))
 for name, parameters, answer in exported:
     parts = []
     for given, form in re.findall(r"(\w+): ([^,]*[^,\s])", parameters):

@@ -50,8 +50,8 @@ erase_part final what first end t =
     else if eqb what 2 then erasing first end t
     else refusing WrongArguments final t
 
--- After ESC [, by final byte. Only one that is listed, with no more arguments than allowed, comes here (`bracket_step`),
--- so the last line is n.
+-- After ESC [, by final byte. Only one that is listed, with no more arguments than allowed, comes here
+-- (`bracket_step`), so the last line is n.
 unfoldable pub listed_step : ℕ → List ℕ → ℕ → Terminal → Stepped
 listed_step final arguments count t =
     let first = value_of final arguments 0 in

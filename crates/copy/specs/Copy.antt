@@ -1,6 +1,7 @@
 -- A block laid over a copy, byte by byte: what the code finds in the bytes, and what it gives and leaves.
 -- What is laid is `lay` (crates/blocks/specs/Lay.antt).
-use Rattle.std.specs.Prelude.{◌≡◌, Bool, true, false, List, [], ◌∷◌, ◌++◌, ℕ, ◌+◌, ◌-◌, ◌<◌, ◌≤◌, leb, eqb, length, take, drop}
+use Rattle.std.specs.Prelude.{◌≡◌, Bool, true, false, List, [], ◌∷◌, ◌++◌, length, take, drop}
+use Rattle.std.specs.Prelude.{ℕ, ◌+◌, ◌-◌, ◌<◌, ◌≤◌, leb, eqb}
 use Prim.Native.Char.{code}
 use Rattle.words.specs.Choice.{if◌then◌else◌, ◌and◌, ◌or◌}
 use Rattle.words.specs.Lists.{every}

@@ -1,5 +1,6 @@
 -- What the commands and keys of document 01 do to the lent characters and marks.
-use Rattle.std.specs.Prelude.{Bool, List, [], ◌∷◌, ◌++◌, ◌≡◌, ℕ, ◌+◌, ◌-◌, eqb, length, take, drop, get_or, set, replicate}
+use Rattle.std.specs.Prelude.{Bool, List, [], ◌∷◌, ◌++◌, length, take, drop, get_or, set, replicate}
+use Rattle.std.specs.Prelude.{◌≡◌, ℕ, ◌+◌, ◌-◌, eqb}
 use Rattle.words.specs.Choice.{if◌then◌else◌, ◌and◌, ◌or◌}
 use Rattle.words.specs.Lists.{within, every, all_from, some_from, each, numbers_from, on_part}
 use Rattle.page.specs.Marks.{is_protected, with_modified, without_modified, valid_character, valid_mark}

@@ -1,5 +1,6 @@
 // Document 02, M-100: start, host and key for a program in C, with numbers and byte slices only. They ask nothing of
-// what arrives. What each gives and leaves is defined in specs/Panel.antt; docs/PANEL.md is for who calls them.
+// what arrives. What each gives and leaves is defined in specs/Panel.antt; docs/PANEL.md is for who calls them. The
+// crate panel_c exports the three under the same names.
 #![tactic(auto)]
 
 ghost use Rattle.std.specs.Prelude.{◌≡◌, [], ◌*◌, ◌≤◌, length};
@@ -223,8 +224,7 @@ fn key_on(
 }
 
 // A fresh page of so many rows and columns.
-#[unsafe(no_mangle)]
-pub extern "C" fn panel_start(
+pub fn panel_start(
     rows: usize,
     columns: usize,
     packed: &mut [u8],
@@ -250,8 +250,7 @@ pub extern "C" fn panel_start(
 }
 
 // Host bytes, at most 65,536. What is sent is written from the output's start on.
-#[unsafe(no_mangle)]
-pub extern "C" fn panel_host(
+pub fn panel_host(
     packed: &mut [u8],
     characters: &mut [u8],
     marks: &mut [u8],
@@ -280,8 +279,7 @@ pub extern "C" fn panel_host(
 }
 
 // A key, by its number. What is sent is written from the output's start on.
-#[unsafe(no_mangle)]
-pub extern "C" fn panel_key(
+pub fn panel_key(
     packed: &mut [u8],
     characters: &mut [u8],
     marks: &mut [u8],

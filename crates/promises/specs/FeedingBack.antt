@@ -29,4 +29,5 @@ pub record FedBack (rules : Rules) (entries : Entries) (sender receiver : Termin
       character_at (read_all entries receiver cut).terminal cell ≡ character_at sender cell
   pub protected_cells : (cell : ℕ) → unprotected_at sender cell ≡ false →
       CellKept receiver.page (read_all entries receiver cut).terminal.page cell
-  pub protection : (cell : ℕ) → unprotected_at (read_all entries receiver cut).terminal cell ≡ unprotected_at sender cell
+  pub protection : (cell : ℕ) →
+      unprotected_at (read_all entries receiver cut).terminal cell ≡ unprotected_at sender cell

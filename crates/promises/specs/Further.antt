@@ -187,7 +187,8 @@ Bounded rules =
 -- Demand 3 over steps: after a full block, whatever asked for it, keys and host bytes that store in no cell.
 abbrev pub CopyingSteps : Rules → Type 0
 CopyingSteps rules =
-    (t : Terminal) → Valid t → (asks : Input) (block : List ℕ) → (step_of rules asks t).transmission ≡ full_block block →
+    (t : Terminal) → Valid t → (asks : Input) (block : List ℕ) →
+    (step_of rules asks t).transmission ≡ full_block block →
     let there = (step_of rules asks t).terminal in
     (later : List Input) → HostStoresNothing rules there later →
     let run = steps rules there later in
@@ -195,6 +196,7 @@ CopyingSteps rules =
 
 abbrev pub OmissionSteps : Rules → Type 0
 OmissionSteps rules =
-    (t : Terminal) → Valid t → (asks : Input) (block : List ℕ) → (step_of rules asks t).transmission ≡ full_block block →
+    (t : Terminal) → Valid t → (asks : Input) (block : List ℕ) →
+    (step_of rules asks t).transmission ≡ full_block block →
     let there = (step_of rules asks t).terminal in
     (later : List Input) → HostStoresNothing rules there later → OmissionHolds there [] (steps rules there later)

@@ -66,7 +66,8 @@ typed_call t key lent_full lent_typed = key_call (full_call t lent_full).termina
 
 -- By the mode, 266 sends a full block or a changed one.
 abbrev pub later_call : Terminal → ℕ → List ℕ → List ℕ → List ℕ → Outcome
-later_call t key lent_full lent_typed lent_later = key_call (typed_call t key lent_full lent_typed).terminal 266 lent_later
+later_call t key lent_full lent_typed lent_later =
+    key_call (typed_call t key lent_full lent_typed).terminal 266 lent_later
 
 pub record ThreeCalls
     (t : Terminal) (key : ℕ) (lent_full lent_typed lent_later : List ℕ)

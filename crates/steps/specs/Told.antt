@@ -41,7 +41,8 @@ tells stepped =
 
 -- And of one whose transmission did not fit: nothing happened.
 abbrev pub tells_exceeding : Terminal → Told
-tells_exceeding t = record { terminal = t; stored = 0; sent = 0; was_refused = false; protection = false; exceeds = true }
+tells_exceeding t =
+    record { terminal = t; stored = 0; sent = 0; was_refused = false; protection = false; exceeds = true }
 
 -- A step with an output: its transmission is written from a place on, or nothing happens.
 pub record Written : Type 0 where

@@ -144,7 +144,8 @@ fn pen_of_area(value: usize, pen: Mark) -> Mark
 // ESC V and ESC W, and DAQ with a value that the pen takes.
 pub fn set_area(state: State, value: usize) -> Light
     ensures { (page : Page) →
-        light_step result (record { state = state; page = page }) ≡ area_set value (record { state = state; page = page }) }
+        light_step result (record { state = state; page = page })
+        ≡ area_set value (record { state = state; page = page }) }
 {
     steps::sets(state.with_pen(pen_of_area(value, state.modes.pen)))
 }

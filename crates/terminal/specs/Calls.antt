@@ -29,7 +29,8 @@ host_call t bytes output =
 
 -- A key call is one step, or none.
 unfoldable pub key_call : Terminal → ℕ → List ℕ → Outcome
-key_call t key output = gives (first_of (key_lines t key output)) 0 t output (fitting (length output) (key_step key t ∷ []))
+key_call t key output =
+    gives (first_of (key_lines t key output)) 0 t output (fitting (length output) (key_step key t ∷ []))
 
 -- What the contract of an entry allows, from all that came in: what is handed back, with the page and the output that
 -- are left. (A start is lent no output: what it leaves there is [].)

@@ -1,5 +1,6 @@
 -- Wrong entries: each is ours with a fault, under the promise that it breaks (proofs/).
-use Rattle.std.specs.Prelude.{Bool, true, false, List, [], ◌∷◌, reverse, ℕ, ◌+◌, ltb, eqb, length, take, get_or, set, replicate}
+use Rattle.std.specs.Prelude.{Bool, true, false, List, [], ◌∷◌, reverse, length, take, get_or, set, replicate}
+use Rattle.std.specs.Prelude.{ℕ, ◌+◌, ltb, eqb}
 use Prim.Native.Char.{code}
 use Rattle.words.specs.Choice.{if◌then◌else◌, ◌and◌, ◌or◌}
 use Rattle.words.specs.Output.{placed}

@@ -1,6 +1,7 @@
 -- Wrong rules, each ours with a fault, and entries that follow them. What they do, they tell, and follow: so
 -- demand 1 and Follows can't tell them from ours, but what is promised of rules, and demand 3, can.
-use Rattle.std.specs.Prelude.{Bool, true, false, not, ℕ, ◌+◌, ◌-◌, ◌%◌, eqb, leb, length, take, drop, get_or, set, replicate}
+use Rattle.std.specs.Prelude.{Bool, true, false, not, length, take, drop, get_or, set, replicate}
+use Rattle.std.specs.Prelude.{ℕ, ◌+◌, ◌-◌, ◌%◌, eqb, leb}
 use mathlib.Core.List.{List, [], ◌∷◌, ◌++◌, map, flat_map}
 use Prim.Native.Char.{code}
 use Rattle.words.specs.Choice.{if◌then◌else◌, ◌and◌, ◌or◌, ◌is◌to◌}
@@ -163,7 +164,8 @@ abbrev pub looks_at_required_cells : Rules
 looks_at_required_cells = holding_back_where (λ t. some (required_blank t) (fields_here t))
 
 abbrev pub looks_at_required_cells_calls : Entries
-looks_at_required_cells_calls = with_key (held_back_call (λ t. some (required_blank t) (fields_here t)) looks_at_required_cells)
+looks_at_required_cells_calls =
+    with_key (held_back_call (λ t. some (required_blank t) (fields_here t)) looks_at_required_cells)
 
 -- What a field is. One that runs over its first row's end is sent as two,
 unfoldable pub cut_at_row_end : ℕ → Field → List Field
@@ -295,7 +297,8 @@ sends_all_once = with_on_key (λ key t. if eqb key 266 then leaving_mode false (
 
 -- The copy. A changed block has those fields whose first cell is modified.
 unfoldable pub first_cell_block : Terminal → List ℕ
-first_cell_block t = encode (map (entry_here t) (selected (λ (field : Field). modified_at t field.start) (fields_here t)))
+first_cell_block t =
+    encode (map (entry_here t) (selected (λ (field : Field). modified_at t field.start) (fields_here t)))
 
 abbrev pub looks_at_first_cells : Rules
 looks_at_first_cells = sending_where sends_changed (λ t. changed_block (first_cell_block t))
