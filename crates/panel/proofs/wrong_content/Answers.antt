@@ -15,20 +15,20 @@ unfolding wrong_content
 returns-then-not-fits c =
     let page = page_of c.args.characters.now c.args.marks.now in
     let same = ap (λ (s : State). size_fits s.size page) (sym c.state_in-state.ensures) in
-    sym (then_case {A = ℕ} _ _ _ (ap not (same ∙ sym c.fits.ensures ∙ c.if-not-fits.true))
+    sym (then_case {A = ℕ} _ _ _ (ap not (same ∙ sym c.fits.ensures ∙ c.if-not-fits.true)))
 
 pub returns-then-not-is_good : goal.returns-then-not-is_good
 unfolding wrong_content
 returns-then-not-is_good c =
     let page = page_of c.args.characters.now c.args.marks.now in
     let same = ap (λ (s : State). size_fits s.size page) (sym c.state_in-state.ensures) in
-    sym (else_case {A = ℕ} _ _ _ (ap not (same ∙ sym c.fits.ensures ∙ c.if-not-fits.false)
-    ∙ then_case {A = ℕ} _ _ _ (ap not (sym c.is_good.ensures ∙ c.if-not-is_good.true))
+    sym (else_case {A = ℕ} _ _ _ (ap not (same ∙ sym c.fits.ensures ∙ c.if-not-fits.false))
+    ∙ then_case {A = ℕ} _ _ _ (ap not (sym c.is_good.ensures ∙ c.if-not-is_good.true)))
 
 pub returns : goal.returns
 unfolding wrong_content
 returns c =
     let page = page_of c.args.characters.now c.args.marks.now in
     let same = ap (λ (s : State). size_fits s.size page) (sym c.state_in-state.ensures) in
-    sym (else_case {A = ℕ} _ _ _ (ap not (same ∙ sym c.fits.ensures ∙ c.if-not-fits.false)
-    ∙ else_case {A = ℕ} _ _ _ (ap not (sym c.is_good.ensures ∙ c.if-not-is_good.false))
+    sym (else_case {A = ℕ} _ _ _ (ap not (same ∙ sym c.fits.ensures ∙ c.if-not-fits.false))
+    ∙ else_case {A = ℕ} _ _ _ (ap not (sym c.is_good.ensures ∙ c.if-not-is_good.false)))

@@ -16,14 +16,14 @@ pub returns-then-not-printed : goal.returns-then-not-printed
 returns-then-not-printed g c =
     let frame = c.frame-kind in
     let turn = c.loop-calls in
-    let last = ends frame.result frame.new.line turn.calls _ c.loop-calls-test.true c.call-printed.ensures.call_made c.if-not-printed.true in
+    let last = ends frame.result frame.new.line turn.calls _ c.loop-calls-test.true c.call-printed.ensures.call_made (not-true _ c.if-not-printed.true) in
     let all = all_to_come (line_in c.args.line.now c.args.digits) c.args.line.now frame.ensures.0 frame.ensures.1 _ in
     sym (after_same last) ∙ turn.invariant.1 ∙ after_same all
 
 pub loop-calls-preserved : goal.loop-calls-preserved
 loop-calls-preserved g c =
     let frame = c.frame-kind in
-    let more = carries_on frame.result frame.new.line c.loop-calls.calls _ c.loop-calls-test.true c.call-printed.ensures.call_made c.if-not-printed.false in
+    let more = carries_on frame.result frame.new.line c.loop-calls.calls _ c.loop-calls-test.true c.call-printed.ensures.call_made (not-false _ c.if-not-printed.false) in
     (c.call-printed.ensures.from_bound, sym (after_same more) ∙ c.loop-calls.invariant.1)
 
 pub returns : goal.returns

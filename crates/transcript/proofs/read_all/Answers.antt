@@ -16,6 +16,6 @@ loop-reads-init g c = ([], nothing_held _ _ _ _ refl c.requires.0)
 
 pub loop-reads-preserved : goal.loop-reads-preserved
 loop-reads-preserved g c =
-    let part = take c.read-count.result c.read-count.new.buf in
+    let part = take c.in_ok-count.count c.read.new.buf in
     let same = c.loop-reads.invariant in
     (same.0 ++ part, rw (read_in_parts same.0 part none_so_far) (c.take_bytes-here.ensures _ same.1))

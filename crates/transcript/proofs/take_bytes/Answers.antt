@@ -10,6 +10,10 @@ use Rattle.frames.proofs.Lending.{still_enough}
 use Rattle.frames.proofs.Reading.{next_byte}
 use Rattle.transcript.proofs.take_bytes.Goals as goal
 
+pub loop-i-init : goal.loop-i-init
+unfolding after_bytes
+loop-i-init g c = (omega arith, λ read holds. holds)
+
 pub loop-i-preserved : goal.loop-i-preserved
 loop-i-preserved g c =
     let turn = c.loop-i in
