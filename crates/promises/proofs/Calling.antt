@@ -121,7 +121,7 @@ module _ (rules : Rules) (entries : Entries) (kept : Keeps rules entries) where
   all_done_carry : (t : Terminal) (list : List Read) → AllDone (outcomes entries t (reads list)) → Carries entries t (joined_bytes list) list
   unfolding outcomes outcome_of joined_bytes
   all_done_carry t [] all_done = ended
-  all_done_carry t (r ∷ later) all_done = taken r (first_done all_done) (all_done_carry _ later (later_done all_done))
+  all_done_carry t (r ∷ later) all_done = taken r (first_done all_done) (all_done_carry (entries.host t r.bytes r.output).terminal later (later_done all_done))
 
   pub cutting_of : Cutting rules entries
   cutting_of t cut all_done = continuing_of t (joined_bytes cut) cut (all_done_carry t cut all_done)

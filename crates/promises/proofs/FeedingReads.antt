@@ -50,11 +50,11 @@ pub record ReadThrough (t : Terminal) (cut : List Read) (end : Terminal) : Type 
 pub read_through : {t end : Terminal} (cut : List Read) → Leads t (joined_bytes cut) end → Valid t → length (joined_bytes cut) ≤ 65536 → ReadThrough t cut end
 unfolding outcomes total joined_bytes outcome_of
 read_through [] (arrived here) valid short = record { answered = no_more; nothing_sent = refl; terminal = here }
-read_through {end} (first ∷ later) way valid short =
+read_through {t} {end} (first ∷ later) way valid short =
     let lengths = length-append first.bytes (joined_bytes later) in
     let parts = leads_cut first.bytes (joined_bytes later) way in
     let one = read_answered parts.1 valid (omega arith) first.output in
-    let others = subst (λ (t : Terminal). ReadThrough t later end) (sym one.terminal) (read_through later parts.2 (leads_validly parts.1 valid) (omega arith)) in
+    let others = subst (λ (start : Terminal). ReadThrough start later end) (sym one.terminal) (read_through {t = parts.0} later parts.2 (leads_validly parts.1 valid) (omega arith)) in
     record {
       answered = done _ _ one.number others.answered;
       nothing_sent = λ i. one.nothing_sent i ++ others.nothing_sent i;

@@ -50,7 +50,7 @@ leads_then (onward first quiet way) on = onward first quiet (leads_then way on)
 
 pub leads_cut : {t end : Terminal} (one other : List ℕ) → Leads t (one ++ other) end → (between : Terminal) × Leads t one between × Leads between other end
 leads_cut {t} [] other way = (t, arrived refl, way)
-leads_cut (first ∷ later) other (onward _ quiet way) = let rest = leads_cut later other way in (rest.0, onward first quiet rest.1, rest.2)
+leads_cut {t} (first ∷ later) other (onward _ quiet way) = let rest = leads_cut {t = (host_step first t).terminal} later other way in (rest.0, onward first quiet rest.1, rest.2)
 
 -- Where they lead, the terminal is valid and has its size.
 pub leads_validly : {t end : Terminal} {bytes : List ℕ} → Leads t bytes end → Valid t → Valid end
