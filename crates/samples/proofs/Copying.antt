@@ -49,9 +49,9 @@ use Rattle.samples.proofs.Asking.{after_esc, on_s, valid_after_esc, full_sent, F
 use Rattle.samples.proofs.Laws.{host_fits, key_fits}
 
 -- Every answer but the first has another number than 0.
-pub not_done : (answer : Answer) → Run.OneOf (1 ∷ 2 ∷ 3 ∷ 4 ∷ 5 ∷ 6 ∷ 7 ∷ 8 ∷ 9 ∷ []) (Declared.tag_of the_type answer) → false ≡ eqb (number_of answer) 0
+pub not_done : (answer : Answer) → (answer ≡ Done → ⊥) → false ≡ eqb (number_of answer) 0
 unfolding number_of
-not_done Done others = absurd (Run.miss (1 ∷ 2 ∷ 3 ∷ 4 ∷ 5 ∷ 6 ∷ 7 ∷ 8 ∷ 9 ∷ []) 0 tt others)
+not_done Done others = absurd (others refl)
 not_done WrongSize others = refl
 not_done WrongState others = refl
 not_done NoRoom others = refl

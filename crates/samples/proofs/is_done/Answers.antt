@@ -8,4 +8,4 @@ unfolding number_of
 returns-in-Done c = rw c.in-Done.is
 
 pub returns-in_default : goal.returns-in_default
-returns-in_default c = not_done _ c.in_default.in_default-own.keys2
+returns-in_default c = not_done _ c.in_default.not-Done
