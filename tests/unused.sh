@@ -5,7 +5,7 @@ set -u
 named=$(mktemp) || exit 2
 trap 'rm -f "$named"' EXIT
 grep -ohE '`[^` ]+`' docs/*.md README.md | tr -d '`' | sort -u >"$named"
-found=$(find crates -name '*.antt' -o -name '*.rt' | sort | xargs awk -v named="$named" '
+found=$(find crates -path '*/out' -prune -o \( -name '*.antt' -o -name '*.rt' \) -print | sort | xargs awk -v named="$named" '
     BEGIN { while ((getline name < named) > 0) told[name] = 1 }
     # a name stands in a text if it does as a whole, or all the words of an operator do
     function stands(name, text,    parts, n, i) {

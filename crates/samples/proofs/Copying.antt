@@ -5,10 +5,8 @@ use mathlib.Core.List.{List, [], ◌∷◌, ◌++◌, map, append-nil}
 use Prim.Native.Nat.{ℕ, zero, suc, ◌≤◌}
 use Prim.Native.Char.{code}
 use borrow.Author.Tests.{eqb-true}
-use denote.Enum.Declared
 use lib.Dec.{eqb}
 use lib.ListN.{length, take}
-use types.Run
 use Rattle.words.proofs.Choosing.{not_both, both}
 use Rattle.page.specs.Page.{Page}
 use Rattle.blocks.specs.Blocks.{entries_sent, block}
@@ -27,7 +25,6 @@ use Rattle.terminal.specs.Answers.{Outcome, number_of, given, unchanged, bytes_s
 use Rattle.terminal.specs.Tests.{Passes}
 use Rattle.terminal.specs.Lines.{required_blank}
 use Rattle.terminal.specs.Calls.{host_call, key_call}
-use Rattle.terminal.specs.contracts.Answer.{the_type}
 use Rattle.terminal.proofs.Cases
 use Rattle.terminal.proofs.Cases.{KeyCase, key_case}
 use Rattle.terminal.proofs.Lines.{line_9}

@@ -1,5 +1,5 @@
 -- The arrays' lengths, 160 and 8: every state of the code has them, and what changes a state keeps them.
-use mathlib.Core.Path.{◌≡◌, refl, sym, ◌∙◌}
+use mathlib.Core.Path.{◌≡◌, refl, ◌∙◌}
 use mathlib.Core.Bool.{Bool, true, false}
 use mathlib.Core.List.{List}
 use denote.Laws.{Is}

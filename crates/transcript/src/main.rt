@@ -13,7 +13,7 @@ use page::Mark;
 use state::State;
 use std::io;
 use std::io::{Read, Write};
-use std::rt::Env;
+use std::rt::Env as _;
 
 const NEW_LINE: u8 = b'\n';
 

@@ -1,13 +1,13 @@
-use mathlib.Core.Path.{◌≡◌, sym, ap, ◌∙◌}
+use mathlib.Core.Path.{sym, ap, ◌∙◌}
 use mathlib.Core.List.{List}
-use Prim.Native.Nat.{ℕ, ◌+◌, ◌-◌, ◌*◌, ◌<◌, ◌≤◌}
+use Prim.Native.Nat.{ℕ, ◌+◌, ◌-◌, ◌<◌, ◌≤◌}
 use native.Mathlib.Omega.{arith}
 use borrow.Author.Rules.{rules}
 use lib.ListN.{length, length-append}
 use Rattle.page.specs.Page.{page_of, cells}
 use Rattle.places.specs.Places.{place_of}
 use Rattle.places.proofs.Counting.{counted, cell_is}
-use Rattle.blocks.specs.Blocks.{block, bytes_at}
+use Rattle.blocks.specs.Blocks.{bytes_at}
 use Rattle.blocks.proofs.Laws.{rest_from, rest_next, rest_ends, whole_block}
 use Rattle.blocks.proofs.block_length.Goals as goal
 

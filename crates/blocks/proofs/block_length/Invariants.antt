@@ -1,14 +1,11 @@
-use mathlib.Core.Path.{◌≡◌, sym, ap, ◌∙◌}
+use mathlib.Core.Path.{◌≡◌}
 use mathlib.Core.List.{List}
-use Prim.Native.Nat.{ℕ, ◌+◌, ◌-◌, ◌*◌, ◌<◌, ◌≤◌}
-use native.Mathlib.Omega.{arith}
-use borrow.Author.Rules.{rules}
-use lib.ListN.{length, length-append}
-use Rattle.page.specs.Page.{page_of, cells}
+use Prim.Native.Nat.{ℕ, ◌+◌, ◌-◌, ◌*◌, ◌≤◌}
+use lib.ListN.{length}
+use Rattle.page.specs.Page.{page_of}
 use Rattle.places.specs.Places.{place_of}
-use Rattle.places.proofs.Counting.{counted, cell_is}
-use Rattle.blocks.specs.Blocks.{block, bytes_at}
-use Rattle.blocks.proofs.Laws.{rest_from, rest_next, rest_ends, whole_block}
+use Rattle.blocks.specs.Blocks.{block}
+use Rattle.blocks.proofs.Laws.{rest_from}
 use Rattle.blocks.proofs.block_length.Given as goal
 
 -- what is counted so far, with what is still to be counted, is the block's length and the 03 that was counted first

@@ -1,10 +1,7 @@
-use mathlib.Core.Path.{◌≡◌, sym, ap, ◌∙◌}
-use Prim.Native.Nat.{◌-◌, ◌≤◌}
+use mathlib.Core.Path.{sym, ap, ◌∙◌}
 use borrow.Author.Rules.{rules}
-use lib.ListN.{length}
 use Rattle.words.proofs.Ranges.{place_holds, later_places, no_more_places}
 use Rattle.page.specs.Marks.{is_modified}
-use Rattle.blocks.specs.Blocks.{some_modified}
 use Rattle.blocks.proofs.has_modified.Goals as goal
 
 pub returns-then-is_modified : goal.returns-then-is_modified

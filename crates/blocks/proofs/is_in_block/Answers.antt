@@ -1,4 +1,3 @@
-use borrow.Author.Rules.{rules}
 use Rattle.words.proofs.Choosing.{tests}
 use Rattle.blocks.specs.Blocks.{is_in_block}
 use Rattle.blocks.proofs.is_in_block.Goals as goal

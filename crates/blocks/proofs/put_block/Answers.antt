@@ -4,7 +4,6 @@ use Prim.Native.Nat.{ℕ, ◌+◌, ◌-◌, ◌≤◌}
 use native.Mathlib.Omega.{arith}
 use borrow.Author.Rules.{rules}
 use lib.ListN.{length, length-append}
-use Rattle.words.specs.Output.{Wrote}
 use Rattle.words.proofs.Output.{wrote_none, wrote_then}
 use Rattle.page.specs.Page.{page_of, cells}
 use Rattle.places.specs.Places.{place_of}

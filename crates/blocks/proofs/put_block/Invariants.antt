@@ -1,16 +1,12 @@
-use mathlib.Core.Path.{◌≡◌, refl, sym, ap, ◌∙◌}
-use mathlib.Core.List.{List, [], ◌∷◌, ◌++◌, append_assoc}
-use Prim.Native.Nat.{ℕ, ◌+◌, ◌-◌, ◌≤◌}
-use native.Mathlib.Omega.{arith}
-use borrow.Author.Rules.{rules}
-use lib.ListN.{length, length-append}
+use mathlib.Core.Path.{◌≡◌}
+use mathlib.Core.List.{List, [], ◌++◌}
+use Prim.Native.Nat.{ℕ, ◌-◌, ◌≤◌}
+use lib.ListN.{length}
 use Rattle.words.specs.Output.{Wrote}
-use Rattle.words.proofs.Output.{wrote_none, wrote_then}
-use Rattle.page.specs.Page.{page_of, cells}
+use Rattle.page.specs.Page.{page_of}
 use Rattle.places.specs.Places.{place_of}
-use Rattle.places.proofs.Counting.{counted, cell_is}
-use Rattle.blocks.specs.Blocks.{block, bytes_at}
-use Rattle.blocks.proofs.Laws.{rest_from, rest_next, rest_ends, whole_block}
+use Rattle.blocks.specs.Blocks.{block}
+use Rattle.blocks.proofs.Laws.{rest_from}
 use Rattle.blocks.proofs.put_block.Given as goal
 
 -- what is written so far, with what the block has from here on, is the block

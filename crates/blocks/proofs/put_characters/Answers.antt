@@ -1,9 +1,8 @@
 use mathlib.Core.Path.{◌≡◌, refl}
-use Prim.Native.Nat.{◌-◌, ◌<◌, ◌≤◌}
+use Prim.Native.Nat.{◌-◌, ◌<◌}
 use native.Mathlib.Omega.{arith}
 use borrow.Author.Rules.{rules}
-use lib.ListN.{length, take, drop}
-use Rattle.words.specs.Output.{Wrote}
+use lib.ListN.{length}
 use Rattle.words.proofs.Output.{wrote_none, wrote_then, length_part, part_more}
 use Rattle.blocks.proofs.put_characters.Goals as goal
 

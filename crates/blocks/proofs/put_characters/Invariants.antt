@@ -1,10 +1,7 @@
-use mathlib.Core.Path.{◌≡◌, refl}
-use Prim.Native.Nat.{◌-◌, ◌<◌, ◌≤◌}
-use native.Mathlib.Omega.{arith}
-use borrow.Author.Rules.{rules}
+use mathlib.Core.Path.{◌≡◌}
+use Prim.Native.Nat.{◌-◌, ◌≤◌}
 use lib.ListN.{length, take, drop}
 use Rattle.words.specs.Output.{Wrote}
-use Rattle.words.proofs.Output.{wrote_none, wrote_then, length_part, part_more}
 use Rattle.blocks.proofs.put_characters.Given as goal
 
 -- the characters up to `cell` are written

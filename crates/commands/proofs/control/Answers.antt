@@ -1,5 +1,4 @@
 use mathlib.Core.Path.{◌≡◌}
-use borrow.Author.Rules.{rules}
 use Rattle.words.specs.Choice.{if◌then◌else◌}
 use Rattle.commands.specs.Text.{control_step}
 use Rattle.commands.specs.Light.{is_light}

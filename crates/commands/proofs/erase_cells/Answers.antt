@@ -1,5 +1,4 @@
 use mathlib.Core.Path.{sym}
-use borrow.Author.Rules.{rules}
 use Rattle.page.specs.Page.{page_of, cells_erased}
 use Rattle.commands.specs.Commands.{erasing}
 use Rattle.commands.proofs.erase_cells.Goals as goal

@@ -1,5 +1,4 @@
 use native.Mathlib.Omega.{arith}
-use borrow.Author.Rules.{rules}
 use borrow.Author.Tests.{ne_eqb}
 use Rattle.words.specs.Choice.{if◌then◌else◌}
 use Rattle.places.proofs.Counting.{cell_is}

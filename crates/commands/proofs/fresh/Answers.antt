@@ -1,5 +1,4 @@
 use native.Mathlib.Omega.{arith}
-use borrow.Author.Rules.{rules}
 use Rattle.page.specs.Page.{page_of}
 use Rattle.steps.specs.Steps.{all_cells}
 use Rattle.commands.specs.Commands.{fresh_step}

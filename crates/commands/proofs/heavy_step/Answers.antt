@@ -1,5 +1,4 @@
 use mathlib.Core.Path.{refl, sym, ap, ◌∙◌}
-use borrow.Author.Rules.{rules}
 use Rattle.page.specs.Page.{page_of}
 use Rattle.words.proofs.Choosing.{true_is_not_false}
 use Rattle.steps.specs.Steps.{bytes_of}

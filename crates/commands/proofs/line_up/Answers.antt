@@ -1,4 +1,3 @@
-use borrow.Author.Rules.{rules}
 use borrow.Author.Tests.{le-ltb}
 use Rattle.words.specs.Choice.{if◌then◌else◌}
 use Rattle.words.proofs.Choosing.{tests}

@@ -1,7 +1,6 @@
 use mathlib.Core.Path.{refl}
 use mathlib.Core.List.{[], ◌∷◌}
 use native.Mathlib.Omega.{arith}
-use borrow.Author.Rules.{rules}
 use Rattle.places.proofs.Counting.{cell_is}
 use Rattle.steps.specs.Steps.{cursor_cell}
 use Rattle.commands.specs.Text.{text_step}

@@ -1,8 +1,6 @@
-use mathlib.Core.Path.{◌≡◌, refl}
-use Prim.Native.Nat.{◌+◌, ◌-◌, ◌≤◌}
+use mathlib.Core.Path.{refl}
 use borrow.Author.Rules.{rules}
-use lib.ListN.{length, drop}
-use Rattle.copy.specs.Copy.{plain_length, entry_end}
+use Rattle.copy.specs.Copy.{entry_end}
 use Rattle.copy.proofs.Finding.{ends_here, goes_on, ends_with_bytes}
 use Rattle.copy.proofs.entry_end.Goals as goal
 

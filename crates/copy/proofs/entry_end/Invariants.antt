@@ -1,9 +1,7 @@
-use mathlib.Core.Path.{◌≡◌, refl}
+use mathlib.Core.Path.{◌≡◌}
 use Prim.Native.Nat.{◌+◌, ◌-◌, ◌≤◌}
-use borrow.Author.Rules.{rules}
 use lib.ListN.{length, drop}
 use Rattle.copy.specs.Copy.{plain_length, entry_end}
-use Rattle.copy.proofs.Finding.{ends_here, goes_on, ends_with_bytes}
 use Rattle.copy.proofs.entry_end.Given as goal
 
 -- the entry ends as many bytes from here as are plain

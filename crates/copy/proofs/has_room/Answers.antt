@@ -1,9 +1,5 @@
-use mathlib.Core.Path.{◌≡◌, sym}
-use Prim.Native.Nat.{◌+◌, ◌-◌}
+use mathlib.Core.Path.{sym}
 use native.Mathlib.Omega.{arith}
-use lib.ListN.{length, drop}
-use Rattle.blocks.specs.Lay.{lay}
-use Rattle.copy.specs.Copy.{IsBlock}
 use Rattle.copy.proofs.Laws.{inside, nearer}
 use Rattle.copy.proofs.Passes.{part_exceeds, part_counted, all_counted}
 use Rattle.copy.proofs.has_room.Goals as goal

@@ -1,11 +1,8 @@
-use mathlib.Core.Path.{◌≡◌, sym}
+use mathlib.Core.Path.{◌≡◌}
 use Prim.Native.Nat.{◌+◌, ◌-◌}
-use native.Mathlib.Omega.{arith}
 use lib.ListN.{length, drop}
 use Rattle.blocks.specs.Lay.{lay}
 use Rattle.copy.specs.Copy.{IsBlock}
-use Rattle.copy.proofs.Laws.{inside, nearer}
-use Rattle.copy.proofs.Passes.{part_exceeds, part_counted, all_counted}
 use Rattle.copy.proofs.has_room.Given as goal
 
 -- what is laid before here is what has been taken from the room

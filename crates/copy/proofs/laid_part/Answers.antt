@@ -1,8 +1,5 @@
 use mathlib.Core.Path.{sym, ◌∙◌}
-use Prim.Native.Nat.{◌-◌}
-use borrow.Author.Rules.{rules}
-use lib.ListN.{length}
-use Rattle.copy.proofs.Laws.{inside, nearer, entry_past, Searching, search_starts, laid_from_block, search_goes_on, laid_from_copy}
+use Rattle.copy.proofs.Laws.{inside, nearer, entry_past, search_starts, laid_from_block, search_goes_on, laid_from_copy}
 use Rattle.copy.proofs.laid_part.Goals as goal
 
 pub entry_end-next-requires : goal.entry_end-next-requires

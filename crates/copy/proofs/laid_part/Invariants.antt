@@ -1,8 +1,6 @@
-use mathlib.Core.Path.{sym, ◌∙◌}
 use Prim.Native.Nat.{◌-◌}
-use borrow.Author.Rules.{rules}
 use lib.ListN.{length}
-use Rattle.copy.proofs.Laws.{inside, nearer, entry_past, Searching, search_starts, laid_from_block, search_goes_on, laid_from_copy}
+use Rattle.copy.proofs.Laws.{Searching}
 use Rattle.copy.proofs.laid_part.Given as goal
 
 abbrev pub invariant-loop-here : goal.invariant-loop-here

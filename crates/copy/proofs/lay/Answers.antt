@@ -1,6 +1,5 @@
 use mathlib.Core.Path.{sym, ◌∙◌}
-use borrow.Author.Rules.{rules}
-use borrow.Author.Tests.{not-true, not-false, leb-true}
+use borrow.Author.Tests.{leb-true}
 use Rattle.words.proofs.Choosing.{then_case, else_case}
 use Rattle.copy.specs.Copy.{laying}
 use Rattle.copy.specs.declared.Laid.TheVariants.{Bytes}

@@ -1,9 +1,7 @@
-use mathlib.Core.Path.{◌≡◌, refl}
-use Prim.Native.Nat.{◌-◌}
+use mathlib.Core.Path.{refl}
 use borrow.Author.Rules.{rules}
-use lib.ListN.{length}
 use Rattle.copy.proofs.Laws.{inside, nearer}
-use Rattle.copy.proofs.Passes.{Writing, writing_starts, part_fits, part_written, end_fits, all_written}
+use Rattle.copy.proofs.Passes.{writing_starts, part_fits, part_written, end_fits, all_written}
 use Rattle.copy.proofs.put_laid.Goals as goal
 
 pub loop-at-init : goal.loop-at-init

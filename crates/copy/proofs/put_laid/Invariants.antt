@@ -1,9 +1,7 @@
-use mathlib.Core.Path.{◌≡◌, refl}
+use mathlib.Core.Path.{◌≡◌}
 use Prim.Native.Nat.{◌-◌}
-use borrow.Author.Rules.{rules}
 use lib.ListN.{length}
-use Rattle.copy.proofs.Laws.{inside, nearer}
-use Rattle.copy.proofs.Passes.{Writing, writing_starts, part_fits, part_written, end_fits, all_written}
+use Rattle.copy.proofs.Passes.{Writing}
 use Rattle.copy.proofs.put_laid.Given as goal
 
 abbrev pub invariant-loop-at : goal.invariant-loop-at

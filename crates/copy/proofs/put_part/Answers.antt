@@ -1,4 +1,3 @@
-use borrow.Author.Rules.{rules}
 use Rattle.words.proofs.Choosing.{then_case, else_case}
 use Rattle.copy.proofs.put_part.Goals as goal
 

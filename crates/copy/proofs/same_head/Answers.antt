@@ -1,8 +1,4 @@
-use mathlib.Core.Path.{◌≡◌, refl, sym, ◌∙◌}
-use Prim.Native.Nat.{◌-◌}
-use borrow.Author.Rules.{rules}
-use lib.ListN.{length, drop}
-use Rattle.copy.specs.Copy.{same_head}
+use mathlib.Core.Path.{refl, sym, ◌∙◌}
 use Rattle.copy.proofs.Finding.{differ_here, same_to_f, same_so_far, one_ended, other_ended}
 use Rattle.copy.proofs.same_head.Goals as goal
 

@@ -1,9 +1,7 @@
-use mathlib.Core.Path.{◌≡◌, refl, sym, ◌∙◌}
+use mathlib.Core.Path.{◌≡◌}
 use Prim.Native.Nat.{◌-◌}
-use borrow.Author.Rules.{rules}
 use lib.ListN.{length, drop}
 use Rattle.copy.specs.Copy.{same_head}
-use Rattle.copy.proofs.Finding.{differ_here, same_to_f, same_so_far, one_ended, other_ended}
 use Rattle.copy.proofs.same_head.Given as goal
 
 -- the heads are the same if they are so from here on

@@ -1,4 +1,3 @@
-use borrow.Author.Rules.{rules}
 use Rattle.words.proofs.Choosing.{tests}
 use Rattle.damage.specs.Parts.{chosen}
 use Rattle.damage.proofs.byte_with.Goals as goal

@@ -1,4 +1,3 @@
-use borrow.Author.Rules.{rules}
 use Rattle.damage.specs.Parts.{first_parts}
 use Rattle.damage.proofs.first_parts.Goals as goal
 

@@ -1,4 +1,3 @@
-use borrow.Author.Rules.{rules}
 use Rattle.words.proofs.Choosing.{tests}
 use Rattle.damage.specs.Parts.{part_of}
 use Rattle.damage.proofs.part_of.Goals as goal

@@ -1,4 +1,3 @@
-use borrow.Author.Rules.{rules}
 use Rattle.words.proofs.Choosing.{tests}
 use Rattle.words.specs.Choice.{◌is◌to◌}
 use Rattle.damage.specs.Parts.{stops_with}

@@ -1,4 +1,3 @@
-use borrow.Author.Rules.{rules}
 use Rattle.damage.specs.Parts.{with_part}
 use Rattle.damage.proofs.with_part.Goals as goal
 

@@ -1,10 +1,8 @@
-use mathlib.Core.Path.{◌≡◌, refl}
-use Prim.Native.Nat.{◌-◌}
+use mathlib.Core.Path.{refl}
 use native.Mathlib.Omega.{arith}
 use borrow.Author.Rules.{rules}
-use lib.ListN.{length}
 use Rattle.drawing.specs.Drawing.{spaced}
-use Rattle.words.proofs.Pieces.{Walked, walk_starts, walk_goes_on, walk_ends, walk_reached}
+use Rattle.words.proofs.Pieces.{walk_starts, walk_goes_on, walk_ends, walk_reached}
 use Rattle.words.proofs.Elements.{exactly_these}
 use Rattle.drawing.proofs.put_arguments.Goals as goal
 

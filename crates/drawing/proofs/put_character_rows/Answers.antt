@@ -1,12 +1,11 @@
-use mathlib.Core.Path.{◌≡◌, refl, sym, ap, ◌∙◌}
+use mathlib.Core.Path.{refl, sym, ap, ◌∙◌}
 use mathlib.Core.List.{List, [], ◌++◌, append-nil, append_assoc}
-use Prim.Native.Nat.{ℕ, ◌+◌, ◌-◌, ◌*◌}
+use Prim.Native.Nat.{ℕ, ◌+◌, ◌-◌}
 use native.Mathlib.Omega.{arith}
 use borrow.Author.Rules.{rules}
 use lib.ListN.{length, take, drop, length-append}
-use Rattle.words.specs.Output.{Wrote}
 use Rattle.words.proofs.Output.{wrote_none, wrote_then}
-use Rattle.drawing.specs.Drawing.{character_line, row_lines}
+use Rattle.drawing.specs.Drawing.{character_line}
 use Rattle.drawing.proofs.Lengths.{character_line_length}
 use Rattle.drawing.proofs.Lines.{row_taken, rows_next, rows_end}
 use Rattle.drawing.proofs.put_character_rows.Goals as goal

@@ -1,14 +1,9 @@
-use mathlib.Core.Path.{◌≡◌, refl, sym, ap, ◌∙◌}
-use mathlib.Core.List.{List, [], ◌++◌, append-nil, append_assoc}
-use Prim.Native.Nat.{ℕ, ◌+◌, ◌-◌, ◌*◌}
-use native.Mathlib.Omega.{arith}
-use borrow.Author.Rules.{rules}
-use lib.ListN.{length, take, drop, length-append}
+use mathlib.Core.Path.{◌≡◌}
+use mathlib.Core.List.{List, [], ◌++◌}
+use Prim.Native.Nat.{ℕ, ◌+◌, ◌*◌}
+use lib.ListN.{length, drop}
 use Rattle.words.specs.Output.{Wrote}
-use Rattle.words.proofs.Output.{wrote_none, wrote_then}
 use Rattle.drawing.specs.Drawing.{character_line, row_lines}
-use Rattle.drawing.proofs.Lengths.{character_line_length}
-use Rattle.drawing.proofs.Lines.{row_taken, rows_next, rows_end}
 use Rattle.drawing.proofs.put_character_rows.Given as goal
 
 -- what is written so far, with the rows to come, is all the rows

@@ -1,12 +1,8 @@
-use mathlib.Core.Path.{◌≡◌, refl}
-use mathlib.Core.Bool.{false}
+use mathlib.Core.Path.{◌≡◌}
 use Prim.Native.Nat.{◌-◌}
-use native.Mathlib.Omega.{arith}
-use borrow.Author.Rules.{rules}
 use lib.ListN.{length}
 use Rattle.drawing.specs.Drawing.{stop_of}
-use Rattle.words.proofs.Pieces.{Walked, walk_starts, walk_goes_on, walk_ends, walk_reached}
-use Rattle.words.proofs.Elements.{exactly_these}
+use Rattle.words.proofs.Pieces.{Walked}
 use Rattle.drawing.proofs.put_each_stop.Given as goal
 
 abbrev pub invariant-loop-i : goal.invariant-loop-i

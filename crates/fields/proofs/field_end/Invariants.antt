@@ -1,14 +1,9 @@
-use mathlib.Core.Path.{◌≡◌, sym, ap, ◌∙◌}
+use mathlib.Core.Path.{◌≡◌}
 use mathlib.Core.Bool.{true}
-use Prim.Native.Nat.{◌+◌, ◌-◌, ◌<◌, ◌≤◌}
-use native.Mathlib.Omega.{arith}
-use borrow.Author.Rules.{rules}
-use borrow.Author.Tests.{not-true, not-false}
+use Prim.Native.Nat.{◌-◌, ◌<◌, ◌≤◌}
 use lib.ListN.{length}
 use Rattle.page.specs.Marks.{unprotected}
-use Rattle.fields.specs.Fields.{joined, field_end}
-use Rattle.fields.proofs.Laws.{joined_if_unprotected}
-use Rattle.fields.proofs.Walks.{end_on, end_stops, end_at_last, end_of_protected}
+use Rattle.fields.specs.Fields.{field_end}
 use Rattle.fields.proofs.field_end.Given as goal
 
 -- the field's end, found from the cell before `end`, which is unprotected, is the one found from the cell

@@ -1,10 +1,6 @@
-use mathlib.Core.Path.{◌≡◌, sym, ap, ◌∙◌}
-use Prim.Native.Nat.{◌<◌}
+use mathlib.Core.Path.{sym, ap, ◌∙◌}
 use native.Mathlib.Omega.{arith}
-use borrow.Author.Rules.{rules}
-use lib.ListN.{length}
-use Rattle.places.specs.Places.{place_of, Counted}
-use Rattle.page.specs.Marks.{unprotected}
+use Rattle.places.specs.Places.{place_of}
 use Rattle.fields.specs.Fields.{field_start}
 use Rattle.places.proofs.Counting.{counted, cell_is}
 use Rattle.fields.proofs.Laws.{joined_has_before, start_here}

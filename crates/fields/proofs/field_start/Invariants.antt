@@ -1,14 +1,9 @@
-use mathlib.Core.Path.{◌≡◌, sym, ap, ◌∙◌}
+use mathlib.Core.Path.{◌≡◌}
 use Prim.Native.Nat.{◌<◌}
-use native.Mathlib.Omega.{arith}
-use borrow.Author.Rules.{rules}
 use lib.ListN.{length}
-use Rattle.places.specs.Places.{place_of, Counted}
+use Rattle.places.specs.Places.{Counted}
 use Rattle.page.specs.Marks.{unprotected}
 use Rattle.fields.specs.Fields.{field_start}
-use Rattle.places.proofs.Counting.{counted, cell_is}
-use Rattle.fields.proofs.Laws.{joined_has_before, start_here}
-use Rattle.fields.proofs.Walks.{start_on}
 use Rattle.fields.proofs.field_start.Given as goal
 
 -- the field's start, found from here, is the one found from the place

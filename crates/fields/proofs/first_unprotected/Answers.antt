@@ -1,6 +1,5 @@
 use mathlib.Core.Path.{◌∙◌}
 use native.Mathlib.Omega.{arith}
-use borrow.Author.Rules.{rules}
 use Rattle.places.proofs.Counting.{counted, cell_is}
 use Rattle.fields.proofs.Walks.{all_cells}
 use Rattle.fields.proofs.first_unprotected.Goals as goal

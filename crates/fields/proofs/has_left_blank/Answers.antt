@@ -1,6 +1,5 @@
 use mathlib.Core.Path.{sym, ap, ◌∙◌}
 use Prim.Native.Nat.{ℕ}
-use borrow.Author.Rules.{rules}
 use Rattle.words.specs.Lists.{some}
 use Rattle.words.proofs.Choosing.{first_decides, first_fails}
 use Rattle.page.specs.Marks.{unprotected}

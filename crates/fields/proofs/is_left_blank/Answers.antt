@@ -1,5 +1,4 @@
 use mathlib.Core.Path.{sym, ◌∙◌}
-use borrow.Author.Rules.{rules}
 use Rattle.words.proofs.Choosing.{first_decides, first_fails}
 use Rattle.fields.specs.Required.{is_left_blank}
 use Rattle.fields.proofs.is_left_blank.Goals as goal

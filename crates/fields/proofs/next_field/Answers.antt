@@ -1,6 +1,5 @@
 use mathlib.Core.Path.{sym, ap, ◌∙◌}
 use native.Mathlib.Omega.{arith}
-use borrow.Author.Rules.{rules}
 use Rattle.fields.specs.Searches.{first_field, next_field}
 use Rattle.places.proofs.Counting.{counted, cell_is}
 use Rattle.fields.proofs.Walks.{found_at_once, found_round, all_fields}

@@ -1,7 +1,6 @@
 use mathlib.Core.Path.{sym, ◌∙◌}
 use native.Mathlib.Nat.{mul-le-mul}
 use native.Mathlib.Omega.{arith}
-use borrow.Author.Rules.{rules}
 use Rattle.fields.specs.Fields.{fields_of}
 use Rattle.fields.specs.Searches.{previous_field}
 use Rattle.places.proofs.Counting.{counted, cell_is}

@@ -1,13 +1,8 @@
 use mathlib.Core.Path.{sym, ◌∙◌}
-use Prim.Native.Nat.{◌-◌}
 use native.Mathlib.Nat.{le_refl}
 use native.Mathlib.Omega.{arith}
-use borrow.Author.Rules.{rules}
-use lib.ListN.{length}
-use Rattle.page.specs.Marks.{unprotected}
-use Rattle.fields.specs.Fields.{starts_field}
 use Rattle.places.proofs.Counting.{cell_is}
-use Rattle.fields.proofs.Walks.{Onward, sets_out, goes_on, comes_to, comes_to_nothing}
+use Rattle.fields.proofs.Walks.{sets_out, goes_on, comes_to, comes_to_nothing}
 use Rattle.fields.proofs.Searching.{one_first, first_start}
 use Rattle.fields.proofs.seek_field.Goals as goal
 

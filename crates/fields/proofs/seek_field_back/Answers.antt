@@ -1,10 +1,8 @@
 use mathlib.Core.Path.{sym, ap, ◌∙◌}
 use native.Mathlib.Omega.{arith}
-use borrow.Author.Rules.{rules}
-use Rattle.page.specs.Marks.{unprotected}
 use Rattle.fields.specs.Fields.{starts_field}
 use Rattle.places.proofs.Counting.{cell_is}
-use Rattle.fields.proofs.Walks.{Back, sets_out_back, goes_back, comes_back_to, comes_back_to_nothing}
+use Rattle.fields.proofs.Walks.{sets_out_back, goes_back, comes_back_to, comes_back_to_nothing}
 use Rattle.fields.proofs.Searching.{one_last, last_start}
 use Rattle.fields.proofs.seek_field_back.Goals as goal
 

@@ -1,11 +1,8 @@
-use mathlib.Core.Path.{◌≡◌, sym, ap, ◌∙◌}
+use mathlib.Core.Path.{◌≡◌}
 use Prim.Native.Nat.{◌-◌, ◌≤◌}
-use native.Mathlib.Omega.{arith}
-use borrow.Author.Rules.{rules}
 use lib.ListN.{length}
 use Rattle.page.specs.Page.{page_of}
-use Rattle.fields.specs.Fields.{fields_of}
-use Rattle.fields.proofs.Blank.{left_blank_from, blank_here, blank_later, blank_nowhere}
+use Rattle.fields.proofs.Blank.{left_blank_from}
 use Rattle.fields.proofs.seek_left_blank.Given as goal
 
 -- no field that starts before `cell` is left blank

@@ -1,11 +1,7 @@
 use mathlib.Core.Path.{sym, ◌∙◌}
-use Prim.Native.Nat.{◌-◌}
 use native.Mathlib.Omega.{arith}
-use borrow.Author.Rules.{rules}
-use lib.ListN.{length}
-use Rattle.page.specs.Marks.{unprotected}
 use Rattle.places.proofs.Counting.{cell_is}
-use Rattle.fields.proofs.Walks.{Onward, sets_out, goes_on, comes_to, comes_to_nothing}
+use Rattle.fields.proofs.Walks.{sets_out, goes_on, comes_to, comes_to_nothing}
 use Rattle.fields.proofs.Searching.{one_first, first_unprotected_lem}
 use Rattle.fields.proofs.seek_unprotected.Goals as goal
 

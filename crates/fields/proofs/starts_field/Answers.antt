@@ -1,6 +1,5 @@
 use mathlib.Core.Path.{sym, ap, ◌∙◌}
 use mathlib.Core.Bool.{not}
-use borrow.Author.Rules.{rules}
 use Rattle.words.specs.Choice.{◌and◌}
 use Rattle.fields.specs.Fields.{starts_field}
 use Rattle.fields.proofs.starts_field.Goals as goal

@@ -1,4 +1,3 @@
-use borrow.Author.Rules.{rules}
 use Rattle.frames.specs.Sessions.{call_of}
 use Rattle.frames.specs.Held.{frame_at, session_in}
 use Rattle.frames.proofs.Answering.{called}

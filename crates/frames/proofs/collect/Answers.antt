@@ -1,6 +1,5 @@
 use mathlib.Core.Path.{refl, sym}
 use native.Mathlib.Omega.{arith}
-use borrow.Author.Rules.{rules}
 use borrow.Author.Tests.{lt-ltb, le-ltb}
 use lib.Seq.{set_out}
 use Rattle.words.proofs.Choosing.{then_case, else_case}

@@ -1,6 +1,5 @@
 use mathlib.Core.Path.{refl, sym, ap, ◌∙◌}
 use native.Mathlib.Omega.{arith}
-use borrow.Author.Rules.{rules}
 use Rattle.words.proofs.Output.{wrote_none}
 use Rattle.frames.specs.declared.Held.{Held}
 use Rattle.frames.specs.Sessions.{uncalled}

@@ -1,5 +1,4 @@
 use native.Mathlib.Omega.{arith}
-use borrow.Author.Rules.{rules}
 use Rattle.words.specs.Choice.{if◌then◌else◌}
 use Rattle.page.specs.Page.{page_of}
 use Rattle.places.specs.Places.{place_of}

@@ -1,4 +1,3 @@
-use borrow.Author.Rules.{rules}
 use Rattle.keys.specs.Keys.{gone_to}
 use Rattle.keys.proofs.gone_to.Goals as goal
 

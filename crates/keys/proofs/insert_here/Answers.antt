@@ -1,4 +1,3 @@
-use borrow.Author.Rules.{rules}
 use native.Mathlib.Omega.{arith}
 use Rattle.page.specs.Page.{moved_right}
 use Rattle.keys.specs.Keys.{rest_shifted}

@@ -4,7 +4,6 @@ use Prim.Native.Nat.{ℕ, ◌<◌}
 use native.Mathlib.Omega.{arith}
 use lib.Dec.{eqb}
 use borrow.Author.Tests.{ne_eqb}
-use borrow.Author.Rules.{rules}
 use Rattle.words.specs.Choice.{◌is◌to◌, ◌or◌}
 use Rattle.words.proofs.Choosing.{tests}
 use Rattle.keys.specs.Keys.{is_known}

@@ -1,5 +1,4 @@
 use mathlib.Core.Path.{sym, ◌∙◌}
-use borrow.Author.Rules.{rules}
 use Rattle.words.specs.Choice.{◌and◌}
 use Rattle.keys.specs.Keys.{is_locked_out}
 use Rattle.keys.proofs.is_locked_out.Goals as goal

@@ -1,6 +1,5 @@
 use mathlib.Core.Path.{sym, ◌∙◌}
 use native.Mathlib.Omega.{arith}
-use borrow.Author.Rules.{rules}
 use borrow.Author.Tests.{ne_eqb}
 use Rattle.words.specs.Choice.{if◌then◌else◌, ◌and◌, ◌is◌to◌}
 use Rattle.keys.specs.Keys.{is_typing, is_not_taken}

@@ -1,5 +1,4 @@
 use mathlib.Core.Path.{sym, ◌∙◌}
-use borrow.Author.Rules.{rules}
 use Rattle.words.specs.Choice.{if◌then◌else◌, ◌or◌}
 use Rattle.keys.specs.Keys.{lacks_cell}
 use Rattle.keys.proofs.lacks_cell.Goals as goal

@@ -1,6 +1,5 @@
 use mathlib.Core.Path.{sym, ◌∙◌}
 use native.Mathlib.Omega.{arith}
-use borrow.Author.Rules.{rules}
 use Rattle.page.specs.Page.{page_of}
 use Rattle.steps.specs.Steps.{Terminal}
 use Rattle.keys.proofs.Silent.{typing_range, key_told, typing_told, sending_told}

@@ -1,6 +1,5 @@
 use mathlib.Core.Path.{ap, ◌∙◌}
 use Prim.Native.Nat.{ℕ}
-use borrow.Author.Rules.{rules}
 use Rattle.page.specs.Marks.{takes}
 use Rattle.page.specs.Page.{page_of}
 use Rattle.steps.specs.Seen.{takes_at}

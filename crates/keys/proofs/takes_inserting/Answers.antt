@@ -1,4 +1,3 @@
-use borrow.Author.Rules.{rules}
 use Rattle.keys.proofs.Laws.{rest_on_page}
 use Rattle.keys.proofs.takes_inserting.Goals as goal
 

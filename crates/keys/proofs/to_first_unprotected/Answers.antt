@@ -1,7 +1,6 @@
 use mathlib.Core.Path.{sym, ◌∙◌}
 use native.Mathlib.Nat.{zero-mul}
 use native.Mathlib.Omega.{arith}
-use borrow.Author.Rules.{rules}
 use Rattle.places.proofs.Counting.{place_is}
 use Rattle.fields.specs.Searches.{or_else}
 use Rattle.keys.specs.Keys.{gone_to, to_first_unprotected}

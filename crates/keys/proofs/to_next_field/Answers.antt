@@ -1,4 +1,3 @@
-use borrow.Author.Rules.{rules}
 use Rattle.places.proofs.Counting.{cell_is}
 use Rattle.keys.specs.Keys.{to_next_field}
 use Rattle.steps.proofs.Measuring.{measured}

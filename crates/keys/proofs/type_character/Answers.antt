@@ -1,7 +1,6 @@
 use mathlib.Core.Path.{refl}
 use mathlib.Core.List.{[], ◌∷◌}
 use native.Mathlib.Omega.{arith}
-use borrow.Author.Rules.{rules}
 use Rattle.words.specs.Choice.{if◌then◌else◌}
 use Rattle.steps.specs.Steps.{cursor_cell}
 use Rattle.keys.specs.Keys.{typed_step}

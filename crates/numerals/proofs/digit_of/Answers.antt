@@ -1,4 +1,3 @@
-use borrow.Author.Rules.{rules}
 use Rattle.words.proofs.Choosing.{tests}
 use Rattle.numerals.specs.Hexadecimal.{digit_of}
 use Rattle.numerals.proofs.digit_of.Goals as goal

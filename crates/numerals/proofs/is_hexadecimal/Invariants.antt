@@ -1,12 +1,7 @@
-use mathlib.Core.Path.{◌≡◌, sym, ◌∙◌}
+use mathlib.Core.Path.{◌≡◌}
 use Prim.Native.Nat.{◌-◌, ◌≤◌}
-use native.Mathlib.Omega.{arith}
-use borrow.Author.Rules.{rules}
-use borrow.Author.Tests.{eq-eqb, ne_eqb, not-true, not-false}
 use lib.ListN.{length, drop}
 use Rattle.words.specs.Lists.{every}
-use Rattle.words.proofs.Choosing.{first_decides, first_fails}
-use Rattle.words.proofs.Passing.{next_passes, next_fails, all_pass}
 use Rattle.numerals.specs.Hexadecimal.{is_digit, is_hexadecimal}
 use Rattle.numerals.proofs.is_hexadecimal.Given as goal
 

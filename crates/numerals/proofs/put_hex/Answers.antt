@@ -1,10 +1,8 @@
 use mathlib.Core.Path.{refl}
-use Prim.Native.Nat.{◌-◌}
 use native.Mathlib.Omega.{arith}
 use borrow.Author.Rules.{rules}
-use lib.ListN.{length}
 use Rattle.numerals.specs.Hexadecimal.{hex_byte}
-use Rattle.words.proofs.Pieces.{Walked, walk_starts, walk_goes_on, walk_ends, walk_reached}
+use Rattle.words.proofs.Pieces.{walk_starts, walk_goes_on, walk_ends, walk_reached}
 use Rattle.numerals.proofs.put_hex.Goals as goal
 
 pub loop-i-init : goal.loop-i-init

@@ -1,5 +1,4 @@
 use native.Mathlib.Omega.{arith}
-use borrow.Author.Rules.{rules}
 use Rattle.output.proofs.Digits.{three_at_most, place_long}
 use Rattle.output.proofs.place_length.Goals as goal
 

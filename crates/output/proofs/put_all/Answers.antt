@@ -1,9 +1,7 @@
 use mathlib.Core.Path.{refl}
-use Prim.Native.Nat.{◌-◌}
 use native.Mathlib.Omega.{arith}
 use borrow.Author.Rules.{rules}
-use lib.ListN.{length}
-use Rattle.words.proofs.Pieces.{Walked, walk_starts, walk_goes_on, walk_ends, walk_reached, alone, flat_alone}
+use Rattle.words.proofs.Pieces.{walk_starts, walk_goes_on, walk_ends, walk_reached, alone, flat_alone}
 use Rattle.output.proofs.put_all.Goals as goal
 
 pub loop-i-init : goal.loop-i-init

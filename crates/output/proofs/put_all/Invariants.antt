@@ -1,9 +1,6 @@
-use mathlib.Core.Path.{refl}
 use Prim.Native.Nat.{◌-◌}
-use native.Mathlib.Omega.{arith}
-use borrow.Author.Rules.{rules}
 use lib.ListN.{length}
-use Rattle.words.proofs.Pieces.{Walked, walk_starts, walk_goes_on, walk_ends, walk_reached, alone, flat_alone}
+use Rattle.words.proofs.Pieces.{Walked, alone}
 use Rattle.output.proofs.put_all.Given as goal
 
 abbrev pub invariant-loop-i : goal.invariant-loop-i

@@ -1,4 +1,3 @@
-use borrow.Author.Rules.{rules}
 use Rattle.words.proofs.Output.{wrote_one}
 use Rattle.output.proofs.put_byte.Goals as goal
 

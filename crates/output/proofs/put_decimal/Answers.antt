@@ -1,7 +1,6 @@
 use Prim.Native.Nat.{ℕ, ◌≤◌}
 use native.Mathlib.Omega.{arith}
 use mathlib.Core.Path.{ap}
-use borrow.Author.Rules.{rules}
 use lib.ListN.{length}
 use Rattle.words.proofs.Output.{wrote_then}
 use Rattle.output.proofs.Digits.{one_digit, two_digits_lem, three_digits}

@@ -1,6 +1,5 @@
 use mathlib.Core.Path.{ap, ◌∙◌}
 use Prim.Native.Nat.{ℕ}
-use borrow.Author.Rules.{rules}
 use Rattle.panel.specs.Panel.{result_bytes}
 use Rattle.panel.proofs.hand_on.Goals as goal
 

@@ -1,6 +1,5 @@
 use mathlib.Core.Path.{sym}
 use Prim.Native.Nat.{ℕ}
-use borrow.Author.Rules.{rules}
 use borrow.Author.Tests.{le-leb, lt-leb, eq-eqb, ne_eqb}
 use Rattle.words.proofs.Choosing.{then_case, else_case, both_hold, first_fails, second_fails}
 use Rattle.panel.specs.Panel.{marks_said}

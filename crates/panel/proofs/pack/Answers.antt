@@ -1,5 +1,4 @@
 use mathlib.Core.Path.{sym, ap, ◌∙◌}
-use borrow.Author.Rules.{rules}
 use lib.ListN.{length}
 use Rattle.record.proofs.Lengths.{record_length_lem, whole_written}
 use Rattle.record.proofs.Comparing.{same_is_equal}

@@ -1,6 +1,5 @@
 use mathlib.Core.Path.{sym, ◌∙◌}
 use native.Mathlib.Omega.{arith}
-use borrow.Author.Rules.{rules}
 use Rattle.record.specs.Bytes.{AreBytes}
 use Rattle.record.proofs.Comparing.{same_is_equal}
 use Rattle.panel.proofs.Marks.{said_already}

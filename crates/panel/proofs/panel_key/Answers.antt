@@ -1,5 +1,4 @@
 use mathlib.Core.Path.{sym, ◌∙◌}
-use borrow.Author.Rules.{rules}
 use Rattle.panel.proofs.Marks.{own_fit, own_length}
 use Rattle.panel.proofs.panel_key.Goals as goal
 

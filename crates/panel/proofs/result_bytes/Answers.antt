@@ -1,4 +1,3 @@
-use borrow.Author.Rules.{rules}
 use Rattle.record.specs.Bytes.{number_bytes}
 use Rattle.panel.specs.Panel.{result_bytes}
 use Rattle.panel.proofs.result_bytes.Goals as goal

@@ -1,5 +1,4 @@
 use mathlib.Core.Path.{sym, ap, ◌∙◌}
-use borrow.Author.Rules.{rules}
 use lib.ListN.{length}
 use Rattle.record.proofs.Lengths.{whole_written}
 use Rattle.panel.proofs.Laws.{result_length_lem}

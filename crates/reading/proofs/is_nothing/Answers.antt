@@ -1,4 +1,3 @@
-use borrow.Author.Rules.{rules}
 use Rattle.reading.specs.Ahead.{is_nothing}
 use Rattle.reading.proofs.is_nothing.Goals as goal
 

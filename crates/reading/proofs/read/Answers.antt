@@ -1,6 +1,4 @@
 use mathlib.Core.Path.{sym, ◌∙◌}
-use borrow.Author.Rules.{rules}
-use borrow.Author.Tests.{not-true}
 use Rattle.reading.proofs.read.Goals as goal
 
 pub returns-then-not-is_nothing : goal.returns-then-not-is_nothing

@@ -1,14 +1,12 @@
-use mathlib.Core.Path.{◌≡◌, refl, sym, ◌∙◌}
-use mathlib.Core.List.{List, []}
-use Prim.Native.Nat.{ℕ, ◌+◌, ◌-◌, ◌<◌, ◌≤◌}
+use mathlib.Core.Path.{refl, sym, ◌∙◌}
+use mathlib.Core.List.{List}
+use Prim.Native.Nat.{ℕ, ◌<◌}
 use native.Mathlib.Omega.{arith}
-use borrow.Author.Rules.{rules}
-use lib.ListN.{length, drop}
+use lib.ListN.{length}
 use lib.ListN.{length-set}
 use Rattle.words.proofs.Choosing.{true_is_not_false}
-use Rattle.sequence.specs.Record.{argument_read}
-use Rattle.reading.specs.Ahead.{is_nothing, read_from}
-use Rattle.reading.proofs.Laws.{open_sequence, over_digit, over_semicolon, to_final}
+use Rattle.reading.specs.Ahead.{is_nothing}
+use Rattle.reading.proofs.Laws.{over_digit, over_semicolon, to_final}
 use Rattle.reading.proofs.read_arguments.Goals as goal
 
 pub loop-at-init : goal.loop-at-init

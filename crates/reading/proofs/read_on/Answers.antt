@@ -1,15 +1,11 @@
 use mathlib.Core.Path.{◌≡◌, sym, ap, ◌∙◌}
-use mathlib.Core.Bool.{true}
-use mathlib.Core.List.{List, []}
-use Prim.Native.Nat.{ℕ, ◌+◌, ◌-◌, ◌<◌}
+use mathlib.Core.List.{List}
+use Prim.Native.Nat.{ℕ, ◌+◌, ◌<◌}
 use native.Mathlib.Omega.{arith}
-use borrow.Author.Rules.{rules}
-use lib.ListN.{length, drop}
-use Rattle.sequence.specs.Record.{valid_half_read}
+use lib.ListN.{length}
 use Rattle.sequence.proofs.Keeping.{advance_keeps}
 use Rattle.sequence.specs.declared.Advanced.{Advanced}
-use Rattle.reading.specs.Ahead.{is_nothing, read_from}
-use borrow.Author.Tests.{not-true, not-false}
+use Rattle.reading.specs.Ahead.{is_nothing}
 use Rattle.reading.proofs.Laws.{reads_on_lem, reads_to, reads_last}
 use Rattle.reading.proofs.read_on.Goals as goal
 

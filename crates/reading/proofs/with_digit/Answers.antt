@@ -1,6 +1,4 @@
-use mathlib.Core.List.{[]}
 use native.Mathlib.Omega.{arith}
-use borrow.Author.Rules.{rules}
 use Rattle.words.proofs.Choosing.{range_holds}
 use Rattle.reading.proofs.with_digit.Goals as goal
 

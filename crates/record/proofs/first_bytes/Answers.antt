@@ -1,4 +1,3 @@
-use borrow.Author.Rules.{rules}
 use Rattle.record.specs.Bytes.{number_bytes}
 use Rattle.record.specs.Record.{first_bytes}
 use Rattle.record.proofs.first_bytes.Goals as goal

@@ -1,5 +1,4 @@
 use mathlib.Core.Path.{ap, ◌∙◌}
-use borrow.Author.Rules.{rules}
 use Rattle.record.specs.Bytes.{same_bytes}
 use Rattle.record.specs.Record.{record_of, is_good}
 use Rattle.record.proofs.is_good.Goals as goal

@@ -1,11 +1,7 @@
-use mathlib.Core.Path.{◌≡◌, refl}
-use mathlib.Core.Bool.{false}
+use mathlib.Core.Path.{◌≡◌}
 use Prim.Native.Nat.{◌-◌}
-use native.Mathlib.Omega.{arith}
-use borrow.Author.Rules.{rules}
 use lib.ListN.{length}
-use Rattle.words.proofs.Elements.{exactly_these}
-use Rattle.words.proofs.Pieces.{Walked, walk_starts, walk_goes_on, walk_ends, walk_reached}
+use Rattle.words.proofs.Pieces.{Walked}
 use Rattle.record.specs.Bytes.{flag_bytes}
 use Rattle.record.proofs.put_stops.Given as goal
 

@@ -1,9 +1,5 @@
-use mathlib.Core.Path.{◌≡◌, refl, sym, ◌∙◌}
-use Prim.Native.Nat.{◌-◌}
+use mathlib.Core.Path.{refl, sym, ◌∙◌}
 use native.Mathlib.Omega.{arith}
-use borrow.Author.Rules.{rules}
-use lib.ListN.{length, drop}
-use Rattle.record.specs.Bytes.{same_bytes}
 use Rattle.record.proofs.Comparing.{other_length, differ_here, same_so_far, both_ended}
 use Rattle.record.proofs.same_bytes.Goals as goal
 

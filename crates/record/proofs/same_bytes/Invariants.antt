@@ -1,10 +1,7 @@
-use mathlib.Core.Path.{◌≡◌, refl, sym, ◌∙◌}
+use mathlib.Core.Path.{◌≡◌}
 use Prim.Native.Nat.{◌-◌}
-use native.Mathlib.Omega.{arith}
-use borrow.Author.Rules.{rules}
 use lib.ListN.{length, drop}
 use Rattle.record.specs.Bytes.{same_bytes}
-use Rattle.record.proofs.Comparing.{other_length, differ_here, same_so_far, both_ended}
 use Rattle.record.proofs.same_bytes.Given as goal
 
 -- the lists are the same if they are so from here on

@@ -1,4 +1,3 @@
-use borrow.Author.Rules.{rules}
 use Rattle.record.specs.Record.{state_in}
 use Rattle.record.proofs.state_in.Goals as goal
 

@@ -1,11 +1,9 @@
 use mathlib.Core.Bool.{false}
-use mathlib.Core.Path.{◌≡◌, refl}
-use Prim.Native.Nat.{◌-◌, ◌≤◌}
+use mathlib.Core.Path.{refl}
 use native.Mathlib.Omega.{arith}
 use borrow.Author.Rules.{rules}
-use lib.ListN.{length, replicate}
-use Rattle.words.proofs.Writing.{up_to}
-use Rattle.record.proofs.Reading.{stops_read, next_stop_read, stops_read_lem}
+use lib.ListN.{replicate}
+use Rattle.record.proofs.Reading.{next_stop_read, stops_read_lem}
 use Rattle.record.proofs.stops_there.Goals as goal
 
 pub loop-i-init : goal.loop-i-init

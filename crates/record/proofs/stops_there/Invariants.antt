@@ -1,11 +1,8 @@
-use mathlib.Core.Bool.{false}
-use mathlib.Core.Path.{◌≡◌, refl}
+use mathlib.Core.Path.{◌≡◌}
 use Prim.Native.Nat.{◌-◌, ◌≤◌}
-use native.Mathlib.Omega.{arith}
-use borrow.Author.Rules.{rules}
-use lib.ListN.{length, replicate}
+use lib.ListN.{length}
 use Rattle.words.proofs.Writing.{up_to}
-use Rattle.record.proofs.Reading.{stops_read, next_stop_read, stops_read_lem}
+use Rattle.record.proofs.Reading.{stops_read}
 use Rattle.record.proofs.stops_there.Given as goal
 
 abbrev pub invariant-loop-i : goal.invariant-loop-i

@@ -1,6 +1,4 @@
 use mathlib.Core.Path.{sym, ◌∙◌}
-use borrow.Author.Rules.{rules}
-use borrow.Author.Tests.{not-true, not-false}
 use Rattle.words.proofs.Choosing.{first_decides, first_fails}
 use Rattle.samples.specs.Samples.{all_answered}
 use Rattle.samples.proofs.all_done.Goals as goal

@@ -1,5 +1,4 @@
 use native.Mathlib.Omega.{arith}
-use borrow.Author.Rules.{rules}
 use Rattle.samples.proofs.Copying.{three_calls}
 use Rattle.samples.proofs.call_three.Goals as goal
 

@@ -1,5 +1,4 @@
 use mathlib.Core.Path.{sym, ◌∙◌}
-use borrow.Author.Rules.{rules}
 use lib.Seq.{length-take-le}
 use Rattle.samples.proofs.Laws.{whole_rest, in_two}
 use Rattle.samples.proofs.host_in_two.Goals as goal

@@ -1,4 +1,3 @@
-use borrow.Author.Rules.{rules}
 use Rattle.terminal.specs.Answers.{number_of}
 use Rattle.samples.proofs.Copying.{not_done}
 use Rattle.samples.proofs.is_done.Goals as goal

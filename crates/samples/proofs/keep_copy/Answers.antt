@@ -1,6 +1,4 @@
 use mathlib.Core.Path.{sym, ◌∙◌}
-use borrow.Author.Rules.{rules}
-use borrow.Author.Tests.{not-true, not-false}
 use lib.Seq.{length-take-le}
 use Rattle.samples.proofs.Copying.{full_fits, later_fits, full_is_block, later_is_block, copy_made, copy_not_made}
 use Rattle.samples.proofs.keep_copy.Goals as goal

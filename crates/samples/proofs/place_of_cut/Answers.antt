@@ -1,4 +1,3 @@
-use borrow.Author.Rules.{rules}
 use Rattle.samples.proofs.Laws.{past_the_end}
 use Rattle.samples.proofs.place_of_cut.Goals as goal
 

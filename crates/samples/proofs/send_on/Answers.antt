@@ -1,5 +1,4 @@
 use mathlib.Core.Path.{sym}
-use borrow.Author.Rules.{rules}
 use lib.Seq.{length-take-le}
 use Rattle.samples.proofs.Laws.{host_fits, sent_on}
 use Rattle.samples.proofs.send_on.Goals as goal

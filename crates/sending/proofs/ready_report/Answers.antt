@@ -1,5 +1,4 @@
 use mathlib.Core.Path.{sym, ◌∙◌}
-use borrow.Author.Rules.{rules}
 use Rattle.steps.specs.Steps.{bytes_of}
 use Rattle.steps.specs.Told.{told}
 use Rattle.sending.specs.Sending.{ready_report}

@@ -1,4 +1,3 @@
-use borrow.Author.Rules.{rules}
 use Rattle.words.proofs.Choosing.{tests}
 use Rattle.sequence.specs.Reading.{after_intermediate}
 use Rattle.sequence.proofs.after_intermediate.Goals as goal

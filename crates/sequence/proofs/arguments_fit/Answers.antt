@@ -1,9 +1,7 @@
-use mathlib.Core.Path.{◌≡◌, sym, ◌∙◌}
-use Prim.Native.Nat.{◌≤◌, ◌<◌, ◌-◌}
+use mathlib.Core.Path.{sym, ◌∙◌}
+use Prim.Native.Nat.{◌≤◌, ◌<◌}
 use native.Mathlib.Omega.{arith}
-use borrow.Author.Rules.{rules}
-use lib.ListN.{length, drop}
-use Rattle.sequence.specs.Record.{arguments_fit}
+use lib.ListN.{length}
 use Rattle.sequence.proofs.Laws.{next_fits, next_too_large, none_left}
 use Rattle.sequence.proofs.arguments_fit.Goals as goal
 

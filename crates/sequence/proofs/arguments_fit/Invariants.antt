@@ -1,10 +1,7 @@
-use mathlib.Core.Path.{◌≡◌, sym, ◌∙◌}
-use Prim.Native.Nat.{◌≤◌, ◌<◌, ◌-◌}
-use native.Mathlib.Omega.{arith}
-use borrow.Author.Rules.{rules}
+use mathlib.Core.Path.{◌≡◌}
+use Prim.Native.Nat.{◌≤◌, ◌-◌}
 use lib.ListN.{length, drop}
 use Rattle.sequence.specs.Record.{arguments_fit}
-use Rattle.sequence.proofs.Laws.{next_fits, next_too_large, none_left}
 use Rattle.sequence.proofs.arguments_fit.Given as goal
 
 -- the test of all arguments is the test of those from i on

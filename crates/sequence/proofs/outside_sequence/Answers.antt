@@ -1,4 +1,3 @@
-use borrow.Author.Rules.{rules}
 use Rattle.sequence.specs.Reading.{outside_sequence}
 use Rattle.sequence.proofs.Laws.{reading}
 use Rattle.sequence.proofs.outside_sequence.Goals as goal

@@ -1,4 +1,3 @@
-use borrow.Author.Rules.{rules}
 use Rattle.words.proofs.Choosing.{tests}
 use Rattle.sequence.specs.Reading.{right_after_bracket}
 use Rattle.sequence.proofs.right_after_bracket.Goals as goal

@@ -1,4 +1,3 @@
-use borrow.Author.Rules.{rules}
 use Rattle.state.specs.State.{message_of}
 use Rattle.state.proofs.message_of.Goals as goal
 

@@ -1,4 +1,3 @@
-use borrow.Author.Rules.{rules}
 use Rattle.steps.specs.Steps.{bytes_of}
 use Rattle.steps.proofs.refuse.Goals as goal
 

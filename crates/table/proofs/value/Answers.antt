@@ -1,4 +1,3 @@
-use borrow.Author.Rules.{rules}
 use Rattle.words.proofs.Choosing.{tests}
 use Rattle.table.specs.Table.{value_of}
 use Rattle.table.proofs.value.Goals as goal

@@ -1,7 +1,6 @@
 use mathlib.Core.Path.{refl, sym, ap, ◌∙◌}
 use mathlib.Core.Bool.{not}
-use borrow.Author.Rules.{rules}
-use borrow.Author.Tests.{not-true, not-false, lt-ltb}
+use borrow.Author.Tests.{lt-ltb}
 use Rattle.terminal.specs.declared.Answer.TheVariants.{WrongSize, WrongState, TooLong}
 use Rattle.terminal.specs.Answers.{changes_nothing}
 use Rattle.terminal.specs.Tests.{host_refusals, host_lines}

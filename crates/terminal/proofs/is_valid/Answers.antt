@@ -1,5 +1,4 @@
 use mathlib.Core.Path.{sym, ◌∙◌}
-use borrow.Author.Rules.{rules}
 use Rattle.words.proofs.Choosing.{first_decides, first_fails}
 use Rattle.terminal.specs.Tests.{passes_line2}
 use Rattle.terminal.proofs.is_valid.Goals as goal

@@ -4,7 +4,7 @@ use mathlib.Core.List.{List}
 use Prim.Native.Nat.{ℕ}
 use lib.ListN.{drop}
 use Rattle.state.specs.Tests.{size_fits}
-use Rattle.steps.specs.Steps.{Terminal, terminal_of}
+use Rattle.steps.specs.Steps.{Terminal}
 use Rattle.keys.specs.Keys.{is_known, is_locked_out, lacks_cell, is_not_taken}
 use Rattle.terminal.specs.declared.Answer.{Answer}
 use Rattle.terminal.specs.declared.Answer.TheVariants.{WrongSize, WrongState, UnknownKey, Locked, NoCell, NotTaken, RequiredBlank}

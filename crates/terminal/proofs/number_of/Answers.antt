@@ -1,4 +1,3 @@
-use borrow.Author.Rules.{rules}
 use Rattle.terminal.specs.Answers.{number_of}
 use Rattle.terminal.proofs.number_of.Goals as goal
 

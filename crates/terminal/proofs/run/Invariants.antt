@@ -1,20 +1,9 @@
-use mathlib.Core.Path.{◌≡◌, refl, sym, ◌∙◌}
-use Prim.Native.Nat.{◌+◌, ◌-◌}
-use native.Mathlib.Omega.{arith}
-use borrow.Author.Rules.{rules}
-use borrow.Author.Tests.{eqb-true}
+use mathlib.Core.Path.{◌≡◌}
+use Prim.Native.Nat.{◌-◌}
 use lib.ListN.{length}
-use Rattle.words.proofs.Choosing.{both}
 use Rattle.page.specs.Page.{page_of}
 use Rattle.state.specs.State.{refused}
-use Rattle.state.proofs.Keeping.{parts, half_keeps_valid}
-use Rattle.sequence.proofs.Keeping.{nothing_valid}
-use Rattle.steps.specs.Light.{light_step}
-use Rattle.steps.proofs.Measuring.{measured}
-use Rattle.terminal.specs.Runs.{count_of}
-use Rattle.terminal.specs.Answers.{number_of}
-use Rattle.terminal.proofs.Running.{Going, sets_out, ends_done}
-use Rattle.terminal.proofs.Onward.{goes_over_text, text_past, arrived_valid, arrived_final, arrived_count, arrived_past, arrived_inside, goes_lightly, goes_heavily, stops_full}
+use Rattle.terminal.proofs.Running.{Going}
 use Rattle.terminal.proofs.run.Given as goal
 
 -- after `taken` bytes all is as their steps left it (`Going`); no length changes

@@ -2,8 +2,6 @@ use mathlib.Core.Path.{sym, ◌∙◌}
 use mathlib.Core.Bool.{true}
 use mathlib.Core.List.{[]}
 use native.Mathlib.Omega.{arith}
-use borrow.Author.Rules.{rules}
-use borrow.Author.Tests.{not-true, not-false}
 use Rattle.page.specs.Page.{page_of, cells}
 use Rattle.steps.proofs.Soundness.{sized}
 use Rattle.terminal.specs.declared.Answer.TheVariants.{WrongSize, Done}

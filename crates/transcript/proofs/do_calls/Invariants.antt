@@ -1,4 +1,4 @@
-use Rattle.std.proofs.Common.{length, ◌-◌, ◌≡◌, ◌≤◌}
+use Rattle.std.proofs.Common.{◌-◌, ◌≡◌, ◌≤◌}
 use Rattle.frames.specs.Held.{session_in}
 use Rattle.frames.proofs.Running.{to_come}
 use Rattle.transcript.proofs.do_calls.Given as goal

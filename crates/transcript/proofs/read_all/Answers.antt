@@ -1,12 +1,7 @@
-use mathlib.Core.Path.{◌≡◌, refl}
-use mathlib.Core.List.{List, [], ◌++◌}
-use Prim.Native.Nat.{ℕ}
-use native.Mathlib.Omega.{arith}
-use borrow.Author.Rules.{rules}
-use lib.ListN.{length, take}
+use mathlib.Core.Path.{refl}
+use mathlib.Core.List.{[], ◌++◌}
+use lib.ListN.{take}
 use Rattle.frames.specs.Transcript.{none_so_far, after_bytes}
-use Rattle.frames.specs.Held.{Holds}
-use Rattle.frames.proofs.Lending.{still_enough}
 use Rattle.frames.proofs.Reading.{nothing_held, read_in_parts}
 use Rattle.transcript.proofs.read_all.Goals as goal
 

@@ -1,12 +1,7 @@
-use mathlib.Core.Path.{◌≡◌}
-use Prim.Native.Nat.{◌-◌, ◌≤◌}
 use native.Mathlib.Omega.{arith}
 use borrow.Author.Rules.{rules}
-use lib.ListN.{length, take}
 use lib.Seq.{take_all}
-use Rattle.frames.specs.Transcript.{SoFar, after_bytes}
-use Rattle.frames.specs.Held.{Holds}
-use Rattle.frames.proofs.Lending.{still_enough}
+use Rattle.frames.specs.Transcript.{after_bytes}
 use Rattle.frames.proofs.Reading.{next_byte}
 use Rattle.transcript.proofs.take_bytes.Goals as goal
 

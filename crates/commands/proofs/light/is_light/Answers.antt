@@ -1,4 +1,3 @@
-use borrow.Author.Rules.{rules}
 use Rattle.commands.specs.Light.{is_light}
 use Rattle.commands.proofs.light.is_light.Goals as goal
 

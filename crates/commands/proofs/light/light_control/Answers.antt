@@ -1,5 +1,4 @@
 use mathlib.Core.Path.{◌≡◌}
-use borrow.Author.Rules.{rules}
 use borrow.Author.Tests.{ne_eqb}
 use Rattle.words.specs.Choice.{if◌then◌else◌}
 use Rattle.state.specs.Moves.{down_by, left_by, to_margin}

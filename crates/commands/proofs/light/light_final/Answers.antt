@@ -1,5 +1,4 @@
 use mathlib.Core.Path.{sym, ◌∙◌}
-use borrow.Author.Rules.{rules}
 use Rattle.steps.specs.Steps.{Terminal}
 use Rattle.steps.specs.Light.{light_step}
 use Rattle.commands.proofs.Finals.{too_many, not_too_many, final_move, final_o, final_m, final_h, final_l}

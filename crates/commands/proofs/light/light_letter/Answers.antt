@@ -1,5 +1,4 @@
 use mathlib.Core.Path.{◌≡◌}
-use borrow.Author.Rules.{rules}
 use Rattle.words.specs.Choice.{if◌then◌else◌}
 use Rattle.commands.specs.Commands.{esc_step}
 use Rattle.commands.proofs.Lightness.{light_letter_left}

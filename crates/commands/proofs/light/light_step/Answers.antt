@@ -1,5 +1,4 @@
 use mathlib.Core.Path.{sym, ap, ◌∙◌}
-use borrow.Author.Rules.{rules}
 use Rattle.words.proofs.Choosing.{true_is_not_false}
 use Rattle.steps.specs.Light.{light_step}
 use Rattle.commands.specs.Host.{event_step}

@@ -1,16 +1,10 @@
-use mathlib.Core.Path.{◌≡◌, refl, sym, ◌∙◌}
-use Prim.Native.Nat.{◌-◌, ◌≤◌}
+use mathlib.Core.Path.{refl, sym, ◌∙◌}
 use native.Mathlib.Nat.{zero-mul}
 use native.Mathlib.Omega.{arith}
 use borrow.Author.Rules.{rules}
-use borrow.Author.Tests.{not-true, not-false}
-use lib.ListN.{length}
-use Rattle.places.specs.Places.{cell_at}
 use Rattle.places.proofs.Counting.{cell_is}
-use Rattle.page.specs.Page.{page_of}
-use Rattle.state.specs.State.{with_cursor, cursor_at}
 use Rattle.steps.proofs.Measuring.{measured}
-use Rattle.commands.proofs.Runs.{Going, sets_out, goes_on, stops_here, ends_here, next_in_row, cell_in_row, next_row, cell_in_next_row, round_the_page}
+use Rattle.commands.proofs.Runs.{sets_out, goes_on, stops_here, ends_here, next_in_row, cell_in_row, next_row, cell_in_next_row, round_the_page}
 use Rattle.commands.proofs.texts.text_run.Goals as goal
 
 pub place-place-requires : goal.place-place-requires

@@ -1,9 +1,9 @@
-use mathlib.Core.Path.{◌≡◌, refl, sym, ◌∙◌}
-use Prim.Native.Nat.{◌≤◌, ◌<◌, ◌-◌}
+use mathlib.Core.Path.{refl, sym, ◌∙◌}
+use Prim.Native.Nat.{◌≤◌, ◌<◌}
 use native.Mathlib.Omega.{arith}
 use borrow.Author.Rules.{rules}
 use lib.ListN.{length, length-set, length-replicate, get_or-replicate}
-use Rattle.words.proofs.Writing.{up_to, next_stored, all_written}
+use Rattle.words.proofs.Writing.{next_stored, all_written}
 use Rattle.page.specs.Page.{blanked}
 use Rattle.page.proofs.editing.blank.Goals as goal
 

@@ -1,4 +1,3 @@
-use borrow.Author.Rules.{rules}
 use Rattle.page.specs.Page.{page_of, blanked}
 use Rattle.page.proofs.Laws.{stores_part}
 use Rattle.page.proofs.editing.blank_cells.Goals as goal

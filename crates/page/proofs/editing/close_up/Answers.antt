@@ -1,9 +1,9 @@
 use mathlib.Core.Path.{◌≡◌, refl}
-use Prim.Native.Nat.{◌≤◌, ◌-◌}
+use Prim.Native.Nat.{◌-◌}
 use native.Mathlib.Omega.{arith}
 use borrow.Author.Rules.{rules}
-use lib.ListN.{length, drop, length-set}
-use Rattle.words.proofs.Writing.{up_to, next_pulled, all_pulled}
+use lib.ListN.{length, length-set}
+use Rattle.words.proofs.Writing.{next_pulled, all_pulled}
 use Rattle.page.proofs.Laws.{closes_up}
 use Rattle.page.proofs.editing.close_up.Goals as goal
 

@@ -1,10 +1,7 @@
-use mathlib.Core.Path.{◌≡◌, refl}
+use mathlib.Core.Path.{◌≡◌}
 use Prim.Native.Nat.{◌≤◌, ◌-◌}
-use native.Mathlib.Omega.{arith}
-use borrow.Author.Rules.{rules}
-use lib.ListN.{length, drop, length-set}
-use Rattle.words.proofs.Writing.{up_to, next_pulled, all_pulled}
-use Rattle.page.proofs.Laws.{closes_up}
+use lib.ListN.{length, drop}
+use Rattle.words.proofs.Writing.{up_to}
 use Rattle.page.proofs.editing.close_up.Given as goal
 
 -- the elements after the first stand up to `i`, one place nearer to the front

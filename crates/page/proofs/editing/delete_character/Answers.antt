@@ -1,5 +1,4 @@
 use native.Mathlib.Omega.{arith}
-use borrow.Author.Rules.{rules}
 use Rattle.page.specs.Page.{page_of, closed_up}
 use Rattle.page.proofs.Laws.{stores_part}
 use Rattle.page.proofs.editing.delete_character.Goals as goal

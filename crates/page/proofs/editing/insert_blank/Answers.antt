@@ -1,5 +1,4 @@
 use native.Mathlib.Omega.{arith}
-use borrow.Author.Rules.{rules}
 use Rattle.page.specs.Page.{page_of, moved_right}
 use Rattle.page.proofs.Laws.{stores_part}
 use Rattle.page.proofs.editing.insert_blank.Goals as goal

@@ -1,9 +1,8 @@
 use mathlib.Core.Path.{◌≡◌, refl}
-use Prim.Native.Nat.{◌≤◌}
 use native.Mathlib.Omega.{arith}
 use borrow.Author.Rules.{rules}
 use lib.ListN.{length, length-set}
-use Rattle.words.proofs.Writing.{up_to, pushed, none_pushed, next_pushed, all_pushed}
+use Rattle.words.proofs.Writing.{none_pushed, next_pushed, all_pushed}
 use Rattle.page.proofs.Laws.{moves_right}
 use Rattle.page.proofs.editing.move_right.Goals as goal
 

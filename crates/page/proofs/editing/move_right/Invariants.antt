@@ -1,10 +1,7 @@
-use mathlib.Core.Path.{◌≡◌, refl}
+use mathlib.Core.Path.{◌≡◌}
 use Prim.Native.Nat.{◌≤◌}
-use native.Mathlib.Omega.{arith}
-use borrow.Author.Rules.{rules}
-use lib.ListN.{length, length-set}
-use Rattle.words.proofs.Writing.{up_to, pushed, none_pushed, next_pushed, all_pushed}
-use Rattle.page.proofs.Laws.{moves_right}
+use lib.ListN.{length}
+use Rattle.words.proofs.Writing.{up_to, pushed}
 use Rattle.page.proofs.editing.move_right.Given as goal
 
 -- from `i` on each element is the one that stood a place before it

@@ -1,10 +1,10 @@
-use mathlib.Core.Path.{◌≡◌, refl, sym, ap, ◌∙◌}
-use Prim.Native.Nat.{◌≤◌, ◌<◌, ◌-◌}
+use mathlib.Core.Path.{refl, sym, ap, ◌∙◌}
+use Prim.Native.Nat.{◌<◌}
 use native.Mathlib.Omega.{arith}
 use borrow.Author.Rules.{rules}
 use lib.ListN.{length}
 use Rattle.words.proofs.Choosing.{then_case, else_case}
-use Rattle.words.proofs.Writing.{up_to, none_changed, next_changed, all_changed, inside, before_range, after_range}
+use Rattle.words.proofs.Writing.{none_changed, next_changed, all_changed, inside, before_range, after_range}
 use Rattle.page.specs.Marks.{with_modified}
 use Rattle.page.specs.Page.{tagged}
 use Rattle.page.proofs.editing.tag.Goals as goal

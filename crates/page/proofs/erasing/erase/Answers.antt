@@ -1,11 +1,10 @@
 use mathlib.Core.Path.{◌≡◌, refl, sym, ◌∙◌}
 use mathlib.Core.Bool.{true, false}
-use Prim.Native.Nat.{◌≤◌, ◌<◌, ◌+◌, ◌-◌}
+use Prim.Native.Nat.{◌<◌}
 use native.Mathlib.Omega.{arith}
 use borrow.Author.Rules.{rules}
 use lib.ListN.{length}
-use Rattle.words.specs.Lists.{numbers_from}
-use Rattle.words.proofs.Writing.{up_to, none_changed, not_yet, next_changed, next_same, all_changed}
+use Rattle.words.proofs.Writing.{none_changed, not_yet, next_changed, next_same, all_changed}
 use Rattle.words.proofs.Passing.{place_counted, place_passed_by, all_counted}
 use Rattle.page.specs.Page.{page_of, erasable, erased, cells_erased}
 use Rattle.page.proofs.Laws.{erases, passes_by, leaves_before, leaves_after, still_erasable}

@@ -1,14 +1,9 @@
-use mathlib.Core.Path.{◌≡◌, refl, sym, ◌∙◌}
-use mathlib.Core.Bool.{true, false}
-use Prim.Native.Nat.{◌≤◌, ◌<◌, ◌+◌, ◌-◌}
-use native.Mathlib.Omega.{arith}
-use borrow.Author.Rules.{rules}
+use mathlib.Core.Path.{◌≡◌}
+use Prim.Native.Nat.{◌≤◌, ◌+◌, ◌-◌}
 use lib.ListN.{length}
 use Rattle.words.specs.Lists.{numbers_from}
-use Rattle.words.proofs.Writing.{up_to, none_changed, not_yet, next_changed, next_same, all_changed}
-use Rattle.words.proofs.Passing.{place_counted, place_passed_by, all_counted}
+use Rattle.words.proofs.Writing.{up_to}
 use Rattle.page.specs.Page.{page_of, erasable, erased, cells_erased}
-use Rattle.page.proofs.Laws.{erases, passes_by, leaves_before, leaves_after, still_erasable}
 use Rattle.page.proofs.erasing.erase.Given as goal
 
 -- the page is erased up to `cell`, and `count` with the cells still to be erased is the count of all

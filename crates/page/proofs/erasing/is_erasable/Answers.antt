@@ -1,4 +1,3 @@
-use borrow.Author.Rules.{rules}
 use Rattle.words.specs.Choice.{◌or◌}
 use Rattle.page.specs.Page.{erasable}
 use Rattle.page.proofs.erasing.is_erasable.Goals as goal

@@ -1,4 +1,3 @@
-use borrow.Author.Rules.{rules}
 use Rattle.page.specs.Marks.{unprotected}
 use Rattle.page.proofs.marks.is_unprotected.Goals as goal
 

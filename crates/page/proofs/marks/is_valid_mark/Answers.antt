@@ -1,5 +1,4 @@
 use mathlib.Core.Path.{sym, ◌∙◌}
-use borrow.Author.Rules.{rules}
 use Rattle.page.proofs.Valid.{protected_limit, unprotected_limit}
 use Rattle.page.proofs.marks.is_valid_mark.Goals as goal
 

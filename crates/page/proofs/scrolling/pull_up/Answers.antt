@@ -2,8 +2,8 @@ use mathlib.Core.Path.{◌≡◌, refl, ◌∙◌}
 use Prim.Native.Nat.{◌≤◌, ◌<◌, ◌-◌}
 use native.Mathlib.Omega.{arith}
 use borrow.Author.Rules.{rules}
-use lib.ListN.{length, drop}
-use Rattle.words.proofs.Writing.{up_to, next_pulled, all_pulled}
+use lib.ListN.{length}
+use Rattle.words.proofs.Writing.{next_pulled, all_pulled}
 use Rattle.page.specs.Page.{page_of}
 use Rattle.page.proofs.scrolling.pull_up.Goals as goal
 

@@ -1,10 +1,7 @@
-use mathlib.Core.Path.{◌≡◌, refl, ◌∙◌}
-use Prim.Native.Nat.{◌≤◌, ◌<◌, ◌-◌}
-use native.Mathlib.Omega.{arith}
-use borrow.Author.Rules.{rules}
+use mathlib.Core.Path.{◌≡◌}
+use Prim.Native.Nat.{◌≤◌, ◌-◌}
 use lib.ListN.{length, drop}
-use Rattle.words.proofs.Writing.{up_to, next_pulled, all_pulled}
-use Rattle.page.specs.Page.{page_of}
+use Rattle.words.proofs.Writing.{up_to}
 use Rattle.page.proofs.scrolling.pull_up.Given as goal
 
 -- up to `cell` the page has what stood a row lower

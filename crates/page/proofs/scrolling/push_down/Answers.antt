@@ -3,7 +3,7 @@ use Prim.Native.Nat.{◌≤◌}
 use native.Mathlib.Omega.{arith}
 use borrow.Author.Rules.{rules}
 use lib.ListN.{length}
-use Rattle.words.proofs.Writing.{up_to, pushed, none_pushed, next_pushed, all_pushed}
+use Rattle.words.proofs.Writing.{none_pushed, next_pushed, all_pushed}
 use Rattle.page.specs.Page.{page_of}
 use Rattle.page.proofs.scrolling.push_down.Goals as goal
 

@@ -1,10 +1,7 @@
-use mathlib.Core.Path.{◌≡◌, refl, ◌∙◌}
+use mathlib.Core.Path.{◌≡◌}
 use Prim.Native.Nat.{◌≤◌}
-use native.Mathlib.Omega.{arith}
-use borrow.Author.Rules.{rules}
 use lib.ListN.{length}
-use Rattle.words.proofs.Writing.{up_to, pushed, none_pushed, next_pushed, all_pushed}
-use Rattle.page.specs.Page.{page_of}
+use Rattle.words.proofs.Writing.{up_to, pushed}
 use Rattle.page.proofs.scrolling.push_down.Given as goal
 
 -- from `cell` on the page has what stood a row higher

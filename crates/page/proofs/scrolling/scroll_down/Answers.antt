@@ -1,4 +1,3 @@
-use borrow.Author.Rules.{rules}
 use Rattle.page.specs.Page.{page_of}
 use Rattle.page.proofs.Laws.{scrolls_down}
 use Rattle.page.proofs.scrolling.scroll_down.Goals as goal

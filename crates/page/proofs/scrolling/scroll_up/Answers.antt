@@ -1,4 +1,3 @@
-use borrow.Author.Rules.{rules}
 use Rattle.page.specs.Page.{page_of}
 use Rattle.page.proofs.Laws.{scrolls_up}
 use Rattle.page.proofs.scrolling.scroll_up.Goals as goal

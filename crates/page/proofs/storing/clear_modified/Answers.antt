@@ -1,9 +1,9 @@
-use mathlib.Core.Path.{◌≡◌, refl, ◌∙◌}
-use Prim.Native.Nat.{◌≤◌, ◌<◌, ◌-◌}
+use mathlib.Core.Path.{refl, ◌∙◌}
+use Prim.Native.Nat.{◌≤◌, ◌<◌}
 use native.Mathlib.Omega.{arith}
 use borrow.Author.Rules.{rules}
 use lib.ListN.{length}
-use Rattle.words.proofs.Writing.{up_to, length-each, next_changed, all_written}
+use Rattle.words.proofs.Writing.{length-each, next_changed, all_written}
 use Rattle.page.specs.Page.{mark_after_block, modified_cleared}
 use Rattle.page.proofs.storing.clear_modified.Goals as goal
 

@@ -1,10 +1,8 @@
-use mathlib.Core.Path.{◌≡◌, refl, ◌∙◌}
-use Prim.Native.Nat.{◌≤◌, ◌<◌, ◌-◌}
-use native.Mathlib.Omega.{arith}
-use borrow.Author.Rules.{rules}
+use mathlib.Core.Path.{◌≡◌}
+use Prim.Native.Nat.{◌≤◌, ◌-◌}
 use lib.ListN.{length}
-use Rattle.words.proofs.Writing.{up_to, length-each, next_changed, all_written}
-use Rattle.page.specs.Page.{mark_after_block, modified_cleared}
+use Rattle.words.proofs.Writing.{up_to}
+use Rattle.page.specs.Page.{modified_cleared}
 use Rattle.page.proofs.storing.clear_modified.Given as goal
 
 -- the marks are as sending leaves them up to `cell`

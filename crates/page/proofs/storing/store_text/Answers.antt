@@ -1,4 +1,3 @@
-use borrow.Author.Rules.{rules}
 use Rattle.page.specs.Page.{text_stored}
 use Rattle.page.proofs.storing.store_text.Goals as goal
 

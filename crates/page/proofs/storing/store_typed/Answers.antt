@@ -1,4 +1,3 @@
-use borrow.Author.Rules.{rules}
 use Rattle.page.specs.Page.{typed}
 use Rattle.page.proofs.storing.store_typed.Goals as goal
 

@@ -1,12 +1,7 @@
-use mathlib.Core.Path.{◌≡◌, refl, sym, ◌∙◌}
-use Prim.Native.Nat.{◌≤◌, ◌-◌}
+use mathlib.Core.Path.{refl, sym, ◌∙◌}
 use borrow.Author.Rules.{rules}
-use lib.Dec.{leb}
-use lib.ListN.{length, drop}
 use Rattle.words.specs.Choice.{◌and◌, ◌is◌to◌}
-use Rattle.words.specs.Lists.{every}
 use Rattle.words.proofs.Choosing.{tests}
-use Rattle.page.specs.Marks.{valid_character}
 use Rattle.page.proofs.Asking.{larger_within, smaller_reaches, and_crossed, next_asked, all_asked}
 use Rattle.page.proofs.tests.characters_are_valid.Goals as goal
 

@@ -1,13 +1,10 @@
-use mathlib.Core.Path.{◌≡◌, refl, sym, ◌∙◌}
+use mathlib.Core.Path.{◌≡◌}
 use Prim.Native.Nat.{◌≤◌, ◌-◌}
-use borrow.Author.Rules.{rules}
 use lib.Dec.{leb}
 use lib.ListN.{length, drop}
-use Rattle.words.specs.Choice.{◌and◌, ◌is◌to◌}
+use Rattle.words.specs.Choice.{◌and◌}
 use Rattle.words.specs.Lists.{every}
-use Rattle.words.proofs.Choosing.{tests}
 use Rattle.page.specs.Marks.{valid_character}
-use Rattle.page.proofs.Asking.{larger_within, smaller_reaches, and_crossed, next_asked, all_asked}
 use Rattle.page.proofs.tests.characters_are_valid.Given as goal
 
 -- the test of all characters is that of the smallest and the largest before `cell` and that of those from there on

@@ -1,10 +1,7 @@
-use mathlib.Core.Path.{◌≡◌, sym, ap, ◌∙◌}
-use Prim.Native.Nat.{◌-◌, ◌≤◌}
+use mathlib.Core.Path.{sym, ap, ◌∙◌}
 use borrow.Author.Rules.{rules}
-use lib.ListN.{length}
 use Rattle.words.proofs.Ranges.{place_holds, later_places, no_more_places}
 use Rattle.page.specs.Marks.{is_required}
-use Rattle.page.specs.Page.{some_required}
 use Rattle.page.proofs.tests.has_required.Goals as goal
 
 pub returns-then-is_required : goal.returns-then-is_required

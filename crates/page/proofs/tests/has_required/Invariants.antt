@@ -1,9 +1,6 @@
-use mathlib.Core.Path.{◌≡◌, sym, ap, ◌∙◌}
+use mathlib.Core.Path.{◌≡◌}
 use Prim.Native.Nat.{◌-◌, ◌≤◌}
-use borrow.Author.Rules.{rules}
 use lib.ListN.{length}
-use Rattle.words.proofs.Ranges.{place_holds, later_places, no_more_places}
-use Rattle.page.specs.Marks.{is_required}
 use Rattle.page.specs.Page.{some_required}
 use Rattle.page.proofs.tests.has_required.Given as goal
 

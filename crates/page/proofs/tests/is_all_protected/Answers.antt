@@ -1,10 +1,6 @@
-use mathlib.Core.Path.{◌≡◌, refl, sym, ◌∙◌}
-use Prim.Native.Nat.{◌≤◌, ◌-◌}
+use mathlib.Core.Path.{refl, sym, ◌∙◌}
 use borrow.Author.Rules.{rules}
-use lib.ListN.{length, drop}
 use Rattle.words.specs.Choice.{◌and◌}
-use Rattle.words.specs.Lists.{every}
-use Rattle.page.specs.Marks.{is_protected}
 use Rattle.page.proofs.Asking.{next_asked, all_asked}
 use Rattle.page.proofs.tests.is_all_protected.Goals as goal
 

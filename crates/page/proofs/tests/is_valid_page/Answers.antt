@@ -1,5 +1,4 @@
 use mathlib.Core.Path.{sym, ◌∙◌}
-use borrow.Author.Rules.{rules}
 use Rattle.words.proofs.Choosing.{first_decides, first_fails}
 use Rattle.page.specs.Page.{valid_page}
 use Rattle.page.proofs.tests.is_valid_page.Goals as goal

@@ -1,11 +1,9 @@
-use mathlib.Core.Path.{◌≡◌, refl, sym, ◌∙◌}
+use mathlib.Core.Path.{◌≡◌}
 use Prim.Native.Nat.{◌≤◌, ◌-◌}
-use borrow.Author.Rules.{rules}
 use lib.ListN.{length, drop}
 use Rattle.words.specs.Choice.{◌and◌}
 use Rattle.words.specs.Lists.{every}
 use Rattle.page.specs.Marks.{valid_mark}
-use Rattle.page.proofs.Asking.{next_asked, all_asked}
 use Rattle.page.proofs.tests.marks_are_valid.Given as goal
 
 -- the test of all marks is what is known of those before `cell` and the test of those from there on

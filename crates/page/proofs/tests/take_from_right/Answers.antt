@@ -1,12 +1,10 @@
 use mathlib.Core.Path.{◌≡◌, refl, sym, ap, ◌∙◌}
-use Prim.Native.Nat.{◌+◌, ◌-◌, ◌≤◌}
+use Prim.Native.Nat.{◌+◌, ◌-◌}
 use native.Mathlib.Omega.{arith}
 use borrow.Author.Rules.{rules}
-use borrow.Author.Tests.{not-true, not-false}
 use Rattle.words.specs.Lists.{all_from}
 use Rattle.words.proofs.Ranges.{next_place, place_fails}
-use Rattle.page.specs.Marks.{takes}
-use Rattle.page.specs.Page.{page_of, takes_from_right}
+use Rattle.page.specs.Page.{takes_from_right}
 use Rattle.page.proofs.tests.take_from_right.Goals as goal
 
 pub loop-cell-init : goal.loop-cell-init

@@ -1,6 +1,5 @@
 use Prim.Native.Nat.{◌-◌, ◌/◌, ◌%◌}
 use native.Mathlib.Omega.{arith}
-use borrow.Author.Rules.{rules}
 use Rattle.places.proofs.Counting.{place_is, spelt, row_above, row_less}
 use Rattle.places.proofs.Place.back.Goals as goal
 

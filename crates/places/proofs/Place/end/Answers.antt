@@ -1,6 +1,5 @@
 use native.Mathlib.Nat.{mul-le-mul}
 use native.Mathlib.Omega.{arith}
-use borrow.Author.Rules.{rules}
 use Rattle.places.proofs.Counting.{place_is}
 use Rattle.places.proofs.Place.end.Goals as goal
 

@@ -1,7 +1,6 @@
 use Prim.Native.Nat.{◌+◌, ◌/◌, ◌%◌}
 use native.Mathlib.Nat.{div-le_self}
 use native.Mathlib.Omega.{arith}
-use borrow.Author.Rules.{rules}
 use Rattle.words.proofs.Walking.{once_more}
 use Rattle.places.proofs.Counting.{place_is, spelt}
 use Rattle.places.proofs.Place.next.Goals as goal

@@ -1,9 +1,6 @@
-use mathlib.Core.Path.{refl}
 use Prim.Native.Nat.{◌-◌}
-use native.Mathlib.Omega.{arith}
-use borrow.Author.Rules.{rules}
 use lib.ListN.{length}
-use Rattle.words.proofs.Pieces.{Walked, walk_starts, walk_goes_on, walk_ends, walk_reached}
+use Rattle.words.proofs.Pieces.{Walked}
 use Rattle.record.specs.Bytes.{number_bytes}
 use Rattle.record.proofs.numbers.put_numbers.Given as goal
 

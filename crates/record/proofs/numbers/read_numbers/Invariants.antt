@@ -1,11 +1,8 @@
-use mathlib.Core.Path.{◌≡◌, refl, sym, ◌∙◌}
-use Prim.Native.Nat.{◌+◌, ◌*◌, ◌-◌, ◌<◌, ◌≤◌}
-use native.Mathlib.Omega.{arith}
-use borrow.Author.Rules.{rules}
+use mathlib.Core.Path.{◌≡◌}
+use Prim.Native.Nat.{◌-◌, ◌≤◌}
 use lib.ListN.{length}
-use Rattle.words.proofs.Writing.{up_to, next_put, all_written}
+use Rattle.words.proofs.Writing.{up_to}
 use Rattle.record.specs.Bytes.{number_at, read_each}
-use Rattle.record.proofs.Reading.{length-each, each_there}
 use Rattle.record.proofs.numbers.read_numbers.Given as goal
 
 abbrev pub invariant-loop-i : goal.invariant-loop-i

@@ -1,14 +1,8 @@
-use mathlib.Core.Path.{◌≡◌, refl, sym, ap, ◌∙◌}
-use mathlib.Core.Bool.{Bool}
-use Prim.Native.Nat.{ℕ, ◌+◌, ◌*◌, ◌-◌, ◌<◌, ◌≤◌}
-use native.Mathlib.Omega.{arith}
-use borrow.Author.Rules.{rules}
-use lib.Dec.{eqb}
-use lib.ListN.{length, drop, get_or}
+use mathlib.Core.Path.{◌≡◌}
+use Prim.Native.Nat.{◌-◌, ◌≤◌}
+use lib.ListN.{length, drop}
 use Rattle.words.specs.Choice.{◌and◌}
 use Rattle.record.specs.Bytes.{number_at, read_each, same_bytes}
-use Rattle.record.proofs.Comparing.{next_compared, all_compared}
-use Rattle.record.proofs.Reading.{length-each, each_there}
 use Rattle.record.proofs.numbers.says_numbers.Given as goal
 
 -- the test of all numbers is what is known of those before `i` and the test of those from there on

@@ -1,4 +1,3 @@
-use borrow.Author.Rules.{rules}
 use Rattle.words.proofs.Choosing.{tests}
 use Rattle.sequence.specs.Reading.{advance_of}
 use Rattle.sequence.proofs.HalfRead.advance.Goals as goal

@@ -1,4 +1,3 @@
-use borrow.Author.Rules.{rules}
 use Rattle.sequence.specs.Reading.{inside_sequence}
 use Rattle.sequence.proofs.Laws.{reading}
 use Rattle.sequence.proofs.HalfRead.inside_sequence.Goals as goal

@@ -1,4 +1,3 @@
-use borrow.Author.Rules.{rules}
 use Rattle.words.proofs.Choosing.{tests}
 use Rattle.sequence.specs.Record.{valid_half_read}
 use Rattle.sequence.proofs.HalfRead.is_valid.Goals as goal

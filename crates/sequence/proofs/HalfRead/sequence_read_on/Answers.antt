@@ -1,5 +1,4 @@
 use native.Mathlib.Omega.{arith}
-use borrow.Author.Rules.{rules}
 use Rattle.words.proofs.Choosing.{tests}
 use Rattle.sequence.specs.Reading.{sequence_read_on}
 use Rattle.sequence.proofs.Keeping.{arguments_counted, past_2}

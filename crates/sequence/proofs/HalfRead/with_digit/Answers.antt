@@ -1,5 +1,3 @@
-use native.Mathlib.Omega.{arith}
-use borrow.Author.Rules.{rules}
 use Rattle.words.proofs.Choosing.{tests}
 use Rattle.sequence.specs.Record.{with_digit}
 use Rattle.sequence.proofs.HalfRead.with_digit.Goals as goal

@@ -1,4 +1,3 @@
-use borrow.Author.Rules.{rules}
 use Rattle.words.proofs.Choosing.{tests}
 use Rattle.sequence.specs.Record.{with_next_argument}
 use Rattle.sequence.proofs.HalfRead.with_next_argument.Goals as goal

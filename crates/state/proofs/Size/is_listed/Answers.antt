@@ -1,5 +1,4 @@
 use mathlib.Core.Path.{sym, ◌∙◌}
-use borrow.Author.Rules.{rules}
 use Rattle.words.proofs.Choosing.{first_decides, first_fails}
 use Rattle.state.specs.Tests.{listed_size}
 use Rattle.state.proofs.Size.is_listed.Goals as goal

@@ -1,4 +1,3 @@
-use borrow.Author.Rules.{rules}
 use Rattle.state.specs.Moves.{down_by}
 use Rattle.state.proofs.State.down_by.Goals as goal
 

@@ -1,6 +1,4 @@
 use mathlib.Core.Path.{sym, ◌∙◌}
-use borrow.Author.Rules.{rules}
-use borrow.Author.Tests.{not-true, not-false}
 use Rattle.words.proofs.Choosing.{first_decides, first_fails}
 use Rattle.state.specs.Tests.{valid_state}
 use Rattle.state.proofs.State.is_valid.Goals as goal

@@ -1,4 +1,3 @@
-use borrow.Author.Rules.{rules}
 use Rattle.state.specs.Moves.{left_by}
 use Rattle.state.proofs.State.left_by.Goals as goal
 

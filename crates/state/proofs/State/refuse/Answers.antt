@@ -1,4 +1,3 @@
-use borrow.Author.Rules.{rules}
 use Rattle.state.specs.State.{refused}
 use Rattle.state.proofs.State.refuse.Goals as goal
 

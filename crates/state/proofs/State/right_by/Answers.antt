@@ -1,4 +1,3 @@
-use borrow.Author.Rules.{rules}
 use Rattle.state.specs.Moves.{right_by}
 use Rattle.state.proofs.State.right_by.Goals as goal
 

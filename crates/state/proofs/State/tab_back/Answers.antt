@@ -1,4 +1,3 @@
-use borrow.Author.Rules.{rules}
 use Rattle.state.specs.Tabs.{tabbed_back}
 use Rattle.state.proofs.State.tab_back.Goals as goal
 

@@ -1,4 +1,3 @@
-use borrow.Author.Rules.{rules}
 use Rattle.state.specs.Tabs.{tabbed_on}
 use Rattle.state.proofs.State.tab_on.Goals as goal
 

@@ -1,4 +1,3 @@
-use borrow.Author.Rules.{rules}
 use Rattle.words.proofs.Choosing.{tests}
 use Rattle.state.specs.Moves.{to_next_cell}
 use Rattle.state.proofs.State.to_next_cell.Goals as goal

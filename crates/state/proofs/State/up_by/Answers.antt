@@ -1,4 +1,3 @@
-use borrow.Author.Rules.{rules}
 use Rattle.state.specs.Moves.{up_by}
 use Rattle.state.proofs.State.up_by.Goals as goal
 

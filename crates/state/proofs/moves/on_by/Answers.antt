@@ -1,4 +1,3 @@
-use borrow.Author.Rules.{rules}
 use Rattle.words.proofs.Choosing.{tests}
 use Rattle.state.specs.Moves.{on_by}
 use Rattle.state.proofs.moves.on_by.Goals as goal

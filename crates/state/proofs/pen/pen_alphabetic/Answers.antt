@@ -1,7 +1,6 @@
 use Prim.Native.Nat.{◌<◌}
 use native.Mathlib.Nat.{lt_of_le_of_lt}
 use native.Mathlib.Omega.{arith}
-use borrow.Author.Rules.{rules}
 use Rattle.state.proofs.Pens.{cleared_is_less, alphabetic_fits_16}
 use Rattle.state.proofs.pen.pen_alphabetic.Goals as goal
 

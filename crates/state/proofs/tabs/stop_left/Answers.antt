@@ -1,8 +1,6 @@
-use mathlib.Core.Path.{◌≡◌, sym, ◌∙◌}
-use Prim.Native.Nat.{◌≤◌}
+use mathlib.Core.Path.{sym, ◌∙◌}
 use borrow.Author.Rules.{rules}
 use Rattle.words.proofs.Choosing.{then_case, else_case}
-use Rattle.state.specs.Tabs.{stop_left}
 use Rattle.state.proofs.Laws.{left_turn, left_end}
 use Rattle.state.proofs.tabs.stop_left.Goals as goal
 

@@ -1,9 +1,6 @@
-use mathlib.Core.Path.{◌≡◌, sym, ◌∙◌}
+use mathlib.Core.Path.{◌≡◌}
 use Prim.Native.Nat.{◌≤◌}
-use borrow.Author.Rules.{rules}
-use Rattle.words.proofs.Choosing.{then_case, else_case}
 use Rattle.state.specs.Tabs.{stop_left}
-use Rattle.state.proofs.Laws.{left_turn, left_end}
 use Rattle.state.proofs.tabs.stop_left.Given as goal
 
 -- the next stop to the left of the column asked for is the next to the left of `at`

@@ -1,9 +1,6 @@
-use mathlib.Core.Path.{◌≡◌, sym, ◌∙◌}
+use mathlib.Core.Path.{◌≡◌}
 use Prim.Native.Nat.{◌≤◌, ◌-◌}
-use borrow.Author.Rules.{rules}
-use Rattle.words.proofs.Choosing.{then_case, else_case}
 use Rattle.state.specs.Tabs.{stop_right}
-use Rattle.state.proofs.Laws.{right_turn, right_end}
 use Rattle.state.proofs.tabs.stop_right.Given as goal
 
 -- the next stop to the right of the column asked for is the next to the right of `at`

@@ -1,8 +1,5 @@
-use mathlib.Core.Path.{◌≡◌, sym, ◌∙◌}
-use Prim.Native.Nat.{◌≤◌}
+use mathlib.Core.Path.{sym, ◌∙◌}
 use native.Mathlib.Omega.{arith}
-use borrow.Author.Rules.{rules}
-use Rattle.state.specs.Tabs.{stops_back}
 use Rattle.state.proofs.Laws.{stops_back_turn, stops_back_end, stops_back_over, left_within}
 use Rattle.state.proofs.tabs.stops_back.Goals as goal
 

@@ -1,9 +1,6 @@
-use mathlib.Core.Path.{◌≡◌, sym, ◌∙◌}
+use mathlib.Core.Path.{◌≡◌}
 use Prim.Native.Nat.{◌≤◌}
-use native.Mathlib.Omega.{arith}
-use borrow.Author.Rules.{rules}
 use Rattle.state.specs.Tabs.{stops_back}
-use Rattle.state.proofs.Laws.{stops_back_turn, stops_back_end, stops_back_over, left_within}
 use Rattle.state.proofs.tabs.stops_back.Given as goal
 
 -- n stops back from the column asked for is `left` stops back from `at`

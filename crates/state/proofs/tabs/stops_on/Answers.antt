@@ -1,8 +1,6 @@
-use mathlib.Core.Path.{◌≡◌, sym, ◌∙◌}
-use Prim.Native.Nat.{◌≤◌, ◌-◌}
+use mathlib.Core.Path.{sym, ◌∙◌}
+use Prim.Native.Nat.{◌-◌}
 use native.Mathlib.Omega.{arith}
-use borrow.Author.Rules.{rules}
-use Rattle.state.specs.Tabs.{stops_on}
 use Rattle.state.proofs.Laws.{stops_on_turn, stops_on_end, stops_on_over, right_within}
 use Rattle.state.proofs.tabs.stops_on.Goals as goal
 

@@ -1,9 +1,6 @@
-use mathlib.Core.Path.{◌≡◌, sym, ◌∙◌}
-use Prim.Native.Nat.{◌≤◌, ◌-◌}
-use native.Mathlib.Omega.{arith}
-use borrow.Author.Rules.{rules}
+use mathlib.Core.Path.{◌≡◌}
+use Prim.Native.Nat.{◌≤◌}
 use Rattle.state.specs.Tabs.{stops_on}
-use Rattle.state.proofs.Laws.{stops_on_turn, stops_on_end, stops_on_over, right_within}
 use Rattle.state.proofs.tabs.stops_on.Given as goal
 
 -- n stops on from the column asked for is `left` stops on from `at`

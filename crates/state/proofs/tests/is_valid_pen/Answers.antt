@@ -1,5 +1,4 @@
 use mathlib.Core.Path.{sym, ◌∙◌}
-use borrow.Author.Rules.{rules}
 use Rattle.words.proofs.Choosing.{first_decides, first_fails}
 use Rattle.state.specs.Pen.{valid_pen}
 use Rattle.state.proofs.tests.is_valid_pen.Goals as goal

@@ -1,10 +1,9 @@
-use mathlib.Core.Path.{◌≡◌, refl, sym, ◌∙◌}
-use Prim.Native.Nat.{◌≤◌, ◌<◌, ◌-◌}
+use mathlib.Core.Path.{refl, sym, ◌∙◌}
+use Prim.Native.Nat.{◌≤◌, ◌<◌}
 use native.Mathlib.Omega.{arith}
 use borrow.Author.Rules.{rules}
 use lib.ListN.{length}
 use Rattle.words.specs.Choice.{◌and◌}
-use Rattle.state.specs.Tests.{stops_fit}
 use Rattle.state.proofs.Laws.{next_stop_asked, stops_asked}
 use Rattle.state.proofs.tests.stops_fit.Goals as goal
 

@@ -1,11 +1,8 @@
-use mathlib.Core.Path.{◌≡◌, refl, sym, ◌∙◌}
-use Prim.Native.Nat.{◌≤◌, ◌<◌, ◌-◌}
-use native.Mathlib.Omega.{arith}
-use borrow.Author.Rules.{rules}
+use mathlib.Core.Path.{◌≡◌}
+use Prim.Native.Nat.{◌-◌}
 use lib.ListN.{length}
 use Rattle.words.specs.Choice.{◌and◌}
 use Rattle.state.specs.Tests.{stops_fit}
-use Rattle.state.proofs.Laws.{next_stop_asked, stops_asked}
 use Rattle.state.proofs.tests.stops_fit.Given as goal
 
 -- the test of all stops past the last column is what is known of those before i and the test of those from there on

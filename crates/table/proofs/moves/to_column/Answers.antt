@@ -1,4 +1,3 @@
-use borrow.Author.Rules.{rules}
 use borrow.Author.Tests.{lt-leb}
 use Rattle.words.proofs.Choosing.{tests, else_case}
 use Rattle.steps.specs.Light.{light_step}

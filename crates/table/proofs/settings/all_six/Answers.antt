@@ -1,12 +1,6 @@
-use mathlib.Core.Path.{◌≡◌, sym, ◌∙◌}
-use mathlib.Core.Bool.{Bool}
-use Prim.Native.Nat.{ℕ, ◌≤◌, ◌-◌}
+use mathlib.Core.Path.{sym, ◌∙◌}
 use native.Mathlib.Omega.{arith}
-use borrow.Author.Rules.{rules}
 use borrow.Author.Tests.{eq-eqb, ne_eqb}
-use lib.Dec.{eqb}
-use lib.ListN.{length, take, drop}
-use Rattle.words.specs.Lists.{every}
 use Rattle.table.proofs.Walking.{next_value_passes, value_fails, all_values_pass}
 use Rattle.table.proofs.settings.all_six.Invariants.{is_six}
 use Rattle.table.proofs.settings.all_six.Goals as goal

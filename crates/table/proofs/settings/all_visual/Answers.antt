@@ -1,10 +1,5 @@
-use mathlib.Core.Path.{◌≡◌, sym, ◌∙◌}
-use Prim.Native.Nat.{◌≤◌, ◌-◌}
+use mathlib.Core.Path.{sym, ◌∙◌}
 use native.Mathlib.Omega.{arith}
-use borrow.Author.Rules.{rules}
-use borrow.Author.Tests.{not-true, not-false}
-use lib.ListN.{length, take, drop}
-use Rattle.words.specs.Lists.{every}
 use Rattle.table.specs.Settings.{is_visual}
 use Rattle.table.proofs.Walking.{next_value_passes, value_fails, all_values_pass}
 use Rattle.table.proofs.settings.all_visual.Goals as goal

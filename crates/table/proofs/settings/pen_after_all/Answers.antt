@@ -1,9 +1,5 @@
-use mathlib.Core.Path.{◌≡◌, sym, ◌∙◌}
-use Prim.Native.Nat.{◌≤◌, ◌-◌}
+use mathlib.Core.Path.{sym, ◌∙◌}
 use native.Mathlib.Omega.{arith}
-use borrow.Author.Rules.{rules}
-use lib.ListN.{length, take, drop}
-use Rattle.table.specs.Settings.{pen_after_all}
 use Rattle.table.proofs.Walking.{next_value, all_values}
 use Rattle.table.proofs.settings.pen_after_all.Goals as goal
 

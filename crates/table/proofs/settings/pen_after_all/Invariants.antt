@@ -1,10 +1,7 @@
-use mathlib.Core.Path.{◌≡◌, sym, ◌∙◌}
+use mathlib.Core.Path.{◌≡◌}
 use Prim.Native.Nat.{◌≤◌, ◌-◌}
-use native.Mathlib.Omega.{arith}
-use borrow.Author.Rules.{rules}
 use lib.ListN.{length, take, drop}
 use Rattle.table.specs.Settings.{pen_after_all}
-use Rattle.table.proofs.Walking.{next_value, all_values}
 use Rattle.table.proofs.settings.pen_after_all.Given as goal
 
 -- what all values make of the pen is what those from i on make of it now

@@ -1,4 +1,3 @@
-use borrow.Author.Rules.{rules}
 use Rattle.steps.specs.Light.{light_step}
 use Rattle.table.specs.Settings.{area_set}
 use Rattle.table.proofs.settings.set_area.Goals as goal

@@ -1,5 +1,4 @@
 use mathlib.Core.Path.{sym, ◌∙◌}
-use borrow.Author.Rules.{rules}
 use Rattle.words.specs.Choice.{if◌then◌else◌}
 use Rattle.steps.specs.Light.{light_step}
 use Rattle.table.specs.Settings.{set_mode}
