@@ -29,7 +29,7 @@ found=$(find crates -path '*/out' -prune -o \( -name '*.antt' -o -name '*.rt' \)
         else { list = line; sub(/.*( as |::|\.)/, "", list) }
         gsub(/^ +| +$/, "", list)
         n = split(list, names, /, */)
-        for (i = 1; i <= n; i++) { sub(/.* as /, "", names[i]); imports[FILENAME] = imports[FILENAME] " " names[i] }
+        for (i = 1; i <= n; i++) { sub(/.* as /, "", names[i]); if (names[i] != "_") imports[FILENAME] = imports[FILENAME] " " names[i] }
         next
     }
     line ~ /^ *$/ { inside = 0 }
