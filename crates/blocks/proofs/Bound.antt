@@ -7,7 +7,7 @@ use native.Mathlib.Numerals.{add-one, sub-one}
 use native.Mathlib.Omega.{arith}
 use lib.Arith.{digits_div, digits_mod}
 use lib.ListN.{length, replicate, length-replicate}
-use Rattle.words.specs.Choice.{if◌then◌else◌, ◌and◌, ◌or◌}
+use Rattle.words.specs.Choice.{If◌then◌else◌, ◌and◌, ◌or◌}
 use Rattle.words.proofs.Choosing.{true_is_not_false, either_line, either_way}
 use Rattle.words.proofs.Writing.{get_d_each}
 use Rattle.page.specs.Marks.{unprotected}
@@ -36,7 +36,7 @@ record Most : Type 0 where
   after-unprotected : ℕ
 
 most_after : Bool → Most → ℕ
-most_after is_unprotected bound = if is_unprotected then bound.after-unprotected else bound.after_protected
+most_after is_unprotected bound = If is_unprotected then bound.after-unprotected else bound.after_protected
 
 -- One cell more, in front of these: if it is unprotected, it starts a field or belongs to that of the cell before it.
 one_more : ℕ → Most → Most
@@ -60,7 +60,7 @@ most_of_rows columns above (suc n) = let below = most_of_rows columns (above + 1
 one_more_lem : (is_unprotected before : Bool) (added later start : ℕ) (bound : Most)
     → (is_unprotected ≡ false → added ≡ 0) → (before ≡ true → is_unprotected ≡ true → added ≡ 1) → added ≤ start + 1 → later ≤ most_after is_unprotected bound
     → added + later ≤ most_after before (one_more start bound)
-unfolding if◌then◌else◌ most_after one_more
+unfolding If◌then◌else◌ most_after one_more
 one_more_lem false true added later start bound none one most h = omega (arith, none refl)
 one_more_lem false false added later start bound none one most h = omega (arith, none refl)
 one_more_lem true true added later start bound none one most h = omega (arith, one refl refl)
@@ -70,18 +70,18 @@ module _ (is_unprotected : ℕ → Bool) (columns : ℕ) where
   -- What a cell adds: nothing if it is protected, one byte if it is joined to the one before it,
   -- and in any case no more than a start and a byte.
   protected_weight : (cell : ℕ) → is_unprotected cell ≡ false → weight is_unprotected columns cell ≡ 0
-  unfolding weight if◌then◌else◌
+  unfolding weight If◌then◌else◌
   protected_weight cell f = rw (protected_starts_not is_unprotected cell f, f)
 
   joined_weight : (cell : ℕ) → joined is_unprotected cell ≡ true → weight is_unprotected columns cell ≡ 1
-  unfolding weight if◌then◌else◌
+  unfolding weight If◌then◌else◌
   joined_weight cell j = rw (joined_starts_not is_unprotected cell j, (joined-unprotected is_unprotected cell j).1)
 
   any_weight : (cell : ℕ) → weight is_unprotected columns cell ≤ opening columns cell + 1
   unfolding weight
   any_weight cell =
-      let one : (if is_unprotected cell then 1 else 0) ≤ 1 = either_line (λ (n : ℕ). n ≤ 1) (is_unprotected cell) _ _ (λ _. omega arith) (λ _. omega arith) in
-      either_line (λ (n : ℕ). n + (if is_unprotected cell then 1 else 0) ≤ opening columns cell + 1) (starts_field is_unprotected cell) _ _ (λ _. omega arith) (λ _. omega arith)
+      let one : (If is_unprotected cell then 1 else 0) ≤ 1 = either_line (λ (n : ℕ). n ≤ 1) (is_unprotected cell) _ _ (λ _. omega arith) (λ _. omega arith) in
+      either_line (λ (n : ℕ). n + (If is_unprotected cell then 1 else 0) ≤ opening columns cell + 1) (starts_field is_unprotected cell) _ _ (λ _. omega arith) (λ _. omega arith)
 
   inside_weight : (cell : ℕ) → unprotected_before is_unprotected cell ≡ true → is_unprotected cell ≡ true → weight is_unprotected columns cell ≡ 1
   unfolding unprotected_before
@@ -157,12 +157,12 @@ largest : Most
 largest = record { after_protected = 35137; after-unprotected = 35136 }
 
 largest_is : most_of_rows 160 0 48 ≡ largest
-unfolding most_of_rows most one_more needed decimal if◌then◌else◌ largest
+unfolding most_of_rows most one_more needed decimal If◌then◌else◌ largest
 largest_is = refl
 
 -- There is no cell before the first.
 below_largest : (bound : Most) → NotAbove bound largest → most_after false bound ≤ 35137
-unfolding most_after largest if◌then◌else◌
+unfolding most_after largest If◌then◌else◌
 below_largest bound h = h.protected_case
 
 -- A page need not end at a row's end.
@@ -187,11 +187,11 @@ bounded full rows columns page few narrow size =
 -- The block of a blank form, by the cells that are to be unprotected.
 module _ (is_unprotected : ℕ → Bool) (cells : ℕ) where
   form_unprotected : (cell : ℕ) → cell < cells → unprotected (blank_form is_unprotected cells).marks cell ≡ is_unprotected cell
-  unfolding unprotected if◌then◌else◌
+  unfolding unprotected If◌then◌else◌
   form_unprotected cell h =
       let listed : cell < length (replicate {A = ℕ} cells 0) = omega (arith, length-replicate {A = ℕ} cells 0) in
       let same : 0 + cell ≡ cell = omega arith in
-      rw (get_d_each (λ k m. if is_unprotected k then 0 else 1) 0 (replicate cells 0) cell listed, same) (either_way (is_unprotected cell) (λ f. rw f) (λ f. rw f))
+      rw (get_d_each (λ k m. If is_unprotected k then 0 else 1) 0 (replicate cells 0) cell listed, same) (either_way (is_unprotected cell) (λ f. rw f) (λ f. rw f))
 
   -- What a cell adds is told by it and the cell before it.
   same_weight : (other : ℕ → Bool) (columns cell : ℕ) → other cell ≡ is_unprotected cell → other (cell - 1) ≡ is_unprotected (cell - 1) → weight other columns cell ≡ weight is_unprotected columns cell
@@ -205,7 +205,7 @@ module _ (is_unprotected : ℕ → Bool) (cells : ℕ) where
       ∙ rw (length-replicate {A = ℕ} cells 0x20) (ap (λ (sum : ℕ). 1 + sum) (total_same _ _ 0 cells (λ k l h. same_weight (unprotected marks) columns k (form_unprotected k (omega arith)) (form_unprotected (k - 1) (omega arith)))))
 
 all_added : total (weight first_and_even 160) 0 7680 ≡ 35137
-unfolding total weight first_and_even starts_field joined place_of opening decimal if◌then◌else◌ ◌and◌ ◌or◌
+unfolding total weight first_and_even starts_field joined place_of opening decimal If◌then◌else◌ ◌and◌ ◌or◌
 all_added = refl
 
 pub reached : length (block true 160 (blank_form first_and_even (48 * 160))) ≡ 35138

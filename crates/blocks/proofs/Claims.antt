@@ -5,7 +5,7 @@ use mathlib.Core.List.{List, [], ◌∷◌, ◌++◌}
 use Prim.Native.Nat.{ℕ, ◌*◌, ◌%◌, ◌<◌, ◌≤◌}
 use lib.Dec.{eqb}
 use lib.ListN.{length, get_or, replicate}
-use Rattle.words.specs.Choice.{if◌then◌else◌, ◌or◌}
+use Rattle.words.specs.Choice.{If◌then◌else◌, ◌or◌}
 use Rattle.words.specs.Lists.{every, each}
 use Rattle.page.specs.Marks.{is_modified, valid_character, unprotected}
 use Rattle.page.specs.Page.{Page, cells}
@@ -56,7 +56,7 @@ abbrev pub blank_form : (ℕ → Bool) → ℕ → Page
 blank_form cell_unprotected cells =
     record {
       characters = replicate cells 0x20;
-      marks = each (λ cell mark. if cell_unprotected cell then 0 else 1) (replicate cells 0);
+      marks = each (λ cell mark. If cell_unprotected cell then 0 else 1) (replicate cells 0);
     }
 
 -- Of a page of 160 columns, the first cell and the even columns.

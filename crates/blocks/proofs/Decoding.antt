@@ -6,7 +6,7 @@ use Prim.Native.Nat.{ℕ, ◌+◌, ◌-◌, ◌*◌, ◌/◌, ◌%◌, ◌<◌, 
 use native.Mathlib.Omega.{arith}
 use borrow.Author.Tests.{ne_eqb, le-leb, leb-true, ltb-true}
 use lib.Dec.{leb, ltb}
-use Rattle.words.specs.Choice.{if◌then◌else◌, ◌and◌, ◌is◌to◌}
+use Rattle.words.specs.Choice.{If◌then◌else◌, ◌and◌, ◌is◌to◌}
 use Rattle.words.specs.Lists.{every}
 use Rattle.words.proofs.Choosing.{then_case, else_case, either_line, both, both_hold, range_is, range_holds}
 use Rattle.words.proofs.Passing.{every_append}
@@ -119,7 +119,7 @@ valid entry h =
 
 -- The runs of a block are those of its entries.
 cut_encode : (entries : List Entry) → every valid_entry entries ≡ true → split (encode entries) ≡ record { before = []; runs = map run_of entries }
-unfolding encode split every in_front if◌then◌else◌
+unfolding encode split every in_front If◌then◌else◌
 cut_encode [] h = refl
 cut_encode (entry ∷ later) h =
     let p = both h in

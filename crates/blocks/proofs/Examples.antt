@@ -3,7 +3,7 @@ use mathlib.Core.Path.{◌≡◌, refl}
 use mathlib.Core.List.{List, [], ◌∷◌, ◌++◌, map}
 use Prim.Native.Nat.{ℕ}
 use Prim.Native.String.{String}
-use Rattle.words.specs.Choice.{if◌then◌else◌, ◌and◌, ◌or◌, ◌is◌to◌}
+use Rattle.words.specs.Choice.{If◌then◌else◌, ◌and◌, ◌or◌, ◌is◌to◌}
 use Rattle.words.specs.Text.{bytes}
 use Rattle.output.specs.Decimal.{decimal, place_bytes}
 use Rattle.blocks.specs.Blocks.{entry_bytes, encode}
@@ -13,7 +13,7 @@ use Rattle.blocks.specs.Finding.{ends_report, ends_head, outside, inside, after_
 
 -- The definitions that are computed.
 unfoldable tests : Unit {0}
-unfolding if◌then◌else◌ ◌and◌ ◌or◌ ◌is◌to◌
+unfolding If◌then◌else◌ ◌and◌ ◌or◌ ◌is◌to◌
 tests = tt
 
 unfoldable finding : Unit {0}

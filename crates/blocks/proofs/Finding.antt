@@ -5,7 +5,7 @@ use mathlib.Core.List.{List, [], ◌∷◌, ◌++◌, append_assoc, append-nil}
 use Prim.Native.Nat.{ℕ, ◌+◌, ◌/◌, ◌%◌, ◌<◌, ◌≤◌}
 use native.Mathlib.Omega.{arith}
 use borrow.Author.Tests.{ne_eqb}
-use Rattle.words.specs.Choice.{if◌then◌else◌, ◌and◌, ◌or◌}
+use Rattle.words.specs.Choice.{If◌then◌else◌, ◌and◌, ◌or◌}
 use Rattle.words.specs.Lists.{every}
 use Rattle.words.proofs.Choosing.{then_case, else_case, both, both_hold, neither, range_holds}
 use Rattle.words.proofs.Passing.{every_append}
@@ -121,7 +121,7 @@ module _ (block : List ℕ) where
   -- and so from its ESC on.
   sequence_read : (between later : List ℕ) → every reads_on between ≡ true
       → reading block (0x1B ∷ (between ++ later)) ≡ blocks_from (holding block (0x1B ∷ between)) later
-  unfolding blocks_from after_byte outside if◌then◌else◌
+  unfolding blocks_from after_byte outside If◌then◌else◌
   sequence_read between later h = sequence_held block 0x1B [] between later h
 
   -- A report is passed by; a field's head joins the block.
@@ -135,7 +135,7 @@ module _ (block : List ℕ) where
 
   head_read : (row column : ℕ) (later : List ℕ) → row < 1000 → column < 1000
       → reading block (head_bytes row column ++ later) ≡ reading (block ++ head_bytes row column) later
-  unfolding blocks_from after_byte inside ends_report ends_head ◌or◌ if◌then◌else◌
+  unfolding blocks_from after_byte inside ends_report ends_head ◌or◌ If◌then◌else◌
   head_read row column later h k =
       let between = between_of row column in
       rw (place_is row column 0x66, append_assoc between (0x66 ∷ []) later)
@@ -148,7 +148,7 @@ module _ (block : List ℕ) where
   character_read byte later h = rw (character_joins byte block h)
 
   end_read : (later : List ℕ) → reading block (0x03 ∷ later) ≡ (block ++ (0x03 ∷ [])) ∷ blocks_in later
-  unfolding blocks_from after_byte outside if◌then◌else◌
+  unfolding blocks_from after_byte outside If◌then◌else◌
   end_read later = rw (ended_counts_no_more [] [] ((block ++ (0x03 ∷ [])) ∷ []) later)
 
 -- A field's characters, and its entry.

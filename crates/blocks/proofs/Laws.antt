@@ -5,7 +5,7 @@ use mathlib.Core.List.{List, [], ◌∷◌, ◌++◌, map}
 use Prim.Native.Nat.{ℕ, suc, ◌+◌, ◌-◌, ◌<◌, ◌≤◌}
 use native.Mathlib.Omega.{arith}
 use lib.ListN.{length, take, drop, length-append}
-use Rattle.words.specs.Choice.{if◌then◌else◌, ◌and◌}
+use Rattle.words.specs.Choice.{If◌then◌else◌, ◌and◌}
 use Rattle.words.specs.Lists.{selected}
 use Rattle.words.proofs.Choosing.{then_case, else_case, both_hold, first_fails, second_fails}
 use Rattle.words.proofs.Output.{length_part}
@@ -66,7 +66,7 @@ rest_from full columns page n cell =
 
 module _ (full : Bool) (columns : ℕ) (page : Page) where
   rest_suc : (n cell : ℕ) → rest_from full columns page (suc n) cell ≡ bytes_at full columns page cell ++ rest_from full columns page n (cell + 1)
-  unfolding fields_from selected encode bytes_at if◌then◌else◌ ◌and◌
+  unfolding fields_from selected encode bytes_at If◌then◌else◌ ◌and◌
   rest_suc n cell = by_tests (starts_field (unprotected page.marks) cell) (is_in_block full page.marks field) refl
     where
       field : Field
@@ -78,7 +78,7 @@ module _ (full : Bool) (columns : ℕ) (page : Page) where
       bytes : List Field → List ℕ
       bytes fields = encode (map (entry_of columns page.characters) (selected (is_in_block full page.marks) fields))
 
-      by_tests : (starts sent : Bool) → is_in_block full page.marks field ≡ sent → bytes (if starts then field ∷ later else later) ≡ (if starts and sent then entry_bytes (entry_of columns page.characters field) else []) ++ bytes later
+      by_tests : (starts sent : Bool) → is_in_block full page.marks field ≡ sent → bytes (If starts then field ∷ later else later) ≡ (If starts and sent then entry_bytes (entry_of columns page.characters field) else []) ++ bytes later
       by_tests true true e = rw e
       by_tests true false e = rw e
       by_tests false sent e = refl

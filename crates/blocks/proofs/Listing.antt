@@ -6,7 +6,7 @@ use mathlib.Core.List.{List, ◌∷◌, ◌++◌, flat_map, Memᴰ}
 use mathlib.Core.Logic.{⊎_elim, inl, inr}
 use Prim.Native.Nat.{ℕ, zero, suc, ◌+◌, ◌-◌, ◌<◌, ◌≤◌}
 use native.Mathlib.Omega.{arith}
-use Rattle.words.specs.Choice.{if◌then◌else◌}
+use Rattle.words.specs.Choice.{If◌then◌else◌}
 use Rattle.words.specs.Lists.{numbers_from}
 use Rattle.words.proofs.Choosing.{then_case, else_case, either_line, either_way, less_or_not}
 use Rattle.fields.specs.Fields.{joined, starts_field, field_end, Field, fields_from, fields_of}
@@ -77,7 +77,7 @@ module _ (is_unprotected : ℕ → Bool) (cells : ℕ) where
   -- The same from a cell on, where it is known of the cells after it.
   module _ (n cell : ℕ) (here : cell < cells) (after : numbers_from is_unprotected (cell + 1) n ≡ rest n cell) where
     from_unprotected : cell ∷ numbers_from is_unprotected (cell + 1) n ≡ numbers_from (λ _. true) cell (field_end is_unprotected cells cell - cell) ++ flat_map cells_of (fields_from is_unprotected cells (cell + 1) n)
-    unfolding numbers_from if◌then◌else◌ rest
+    unfolding numbers_from If◌then◌else◌ rest
     from_unprotected =
         let end = field_end is_unprotected cells cell in
         let more : end - cell ≡ suc (end - (cell + 1)) = omega (arith, (end_of_lem is_unprotected cells cell here).high) in

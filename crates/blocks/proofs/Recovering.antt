@@ -6,7 +6,7 @@ use Prim.Native.Nat.{ℕ, zero, suc, ◌+◌, ◌-◌, ◌/◌, ◌%◌, ◌<◌
 use native.Mathlib.Nat.{div-add-mod'}
 use native.Mathlib.Omega.{arith}
 use lib.ListN.{length, take, drop, get_or, length-take, length-drop}
-use Rattle.words.specs.Choice.{if◌then◌else◌}
+use Rattle.words.specs.Choice.{If◌then◌else◌}
 use Rattle.words.specs.Lists.{numbers_from}
 use Rattle.words.proofs.Choosing.{either_way}
 use Rattle.words.proofs.Walking.{next_element}
@@ -32,7 +32,7 @@ unprotected_on page = numbers_from (unprotected page.marks) 0 (cells page)
 
 -- A part of a list, by its places.
 part_is : (list : List ℕ) (n i : ℕ) → i + n ≤ length list → take n (drop i list) ≡ map (λ k. get_or list k 0) (numbers_from (λ _. true) i n)
-unfolding numbers_from if◌then◌else◌
+unfolding numbers_from If◌then◌else◌
 part_is list zero i h = refl
 part_is list (suc n) i h = let here : i < length list = omega arith in rw (next_element list i 0 here, part_is list n (i + 1) (omega arith))
 

@@ -5,7 +5,7 @@ use mathlib.Core.List.{List, [], ◌∷◌, map, flat_map, Memᴰ}
 use Prim.Native.Nat.{ℕ, zero, suc, ◌+◌, ◌<◌, ◌≤◌}
 use native.Mathlib.Omega.{arith}
 use lib.ListN.{length, length-append, length-take, length-drop}
-use Rattle.words.specs.Choice.{if◌then◌else◌}
+use Rattle.words.specs.Choice.{If◌then◌else◌}
 use Rattle.words.specs.Lists.{numbers_from, selected}
 use Rattle.words.proofs.Elements.{run_length}
 use Rattle.words.proofs.Choosing.{either_line, either_way}
@@ -48,7 +48,7 @@ opening columns cell = 4 + length (decimal (place_of columns cell).row) + length
 
 -- What a cell adds to a full block.
 unfoldable pub weight : (ℕ → Bool) → ℕ → ℕ → ℕ
-weight is_unprotected columns cell = (if starts_field is_unprotected cell then opening columns cell else 0) + (if is_unprotected cell then 1 else 0)
+weight is_unprotected columns cell = (If starts_field is_unprotected cell then opening columns cell else 0) + (If is_unprotected cell then 1 else 0)
 
 -- The length of the entries of a list of fields: what their starts need, and a byte for each cell.
 openings : ℕ → List Field → ℕ
@@ -74,15 +74,15 @@ encode-length columns characters (field ∷ fields) h =
       run_length field.start field.length,
     )
 
-openings_total : (is_unprotected : ℕ → Bool) (columns cells n cell : ℕ) → openings columns (fields_from is_unprotected cells cell n) ≡ total (λ k. if starts_field is_unprotected k then opening columns k else 0) cell n
-unfolding openings fields_from total if◌then◌else◌
+openings_total : (is_unprotected : ℕ → Bool) (columns cells n cell : ℕ) → openings columns (fields_from is_unprotected cells cell n) ≡ total (λ k. If starts_field is_unprotected k then opening columns k else 0) cell n
+unfolding openings fields_from total If◌then◌else◌
 openings_total is_unprotected columns cells zero cell = refl
 openings_total is_unprotected columns cells (suc n) cell =
     let later = openings_total is_unprotected columns cells n (cell + 1) in
     either_way (starts_field is_unprotected cell) (λ s. rw s (omega arith)) (λ s. rw s (omega arith))
 
-places_total : (is_unprotected : ℕ → Bool) (n i : ℕ) → length (numbers_from is_unprotected i n) ≡ total (λ k. if is_unprotected k then 1 else 0) i n
-unfolding numbers_from total if◌then◌else◌
+places_total : (is_unprotected : ℕ → Bool) (n i : ℕ) → length (numbers_from is_unprotected i n) ≡ total (λ k. If is_unprotected k then 1 else 0) i n
+unfolding numbers_from total If◌then◌else◌
 places_total is_unprotected zero i = refl
 places_total is_unprotected (suc n) i =
     let later = places_total is_unprotected n (i + 1) in
@@ -109,7 +109,7 @@ block-length columns page =
       openings_total is_unprotected columns (cells page) (cells page) 0,
       ap length (unprotected-cells is_unprotected (cells page)),
       places_total is_unprotected (cells page) 0,
-      total_sum (λ k. if starts_field is_unprotected k then opening columns k else 0) (λ k. if is_unprotected k then 1 else 0) 0 (cells page),
+      total_sum (λ k. If starts_field is_unprotected k then opening columns k else 0) (λ k. If is_unprotected k then 1 else 0) 0 (cells page),
     )
 
 -- No block is longer than the full one.

@@ -1,7 +1,7 @@
 -- Document 01, "Fields, keys and blocks": the block that is sent to the host.
 use Rattle.std.specs.Prelude.{Bool, List, [], ◌∷◌, ◌++◌, map, ℕ, ◌-◌, leb, length, take, drop, get_or}
 use Prim.Native.Char.{code}
-use Rattle.words.specs.Choice.{if◌then◌else◌, ◌and◌, ◌or◌}
+use Rattle.words.specs.Choice.{If◌then◌else◌, ◌and◌, ◌or◌}
 use Rattle.words.specs.Lists.{some_from, selected}
 use Rattle.words.specs.Output.{placed}
 use Rattle.page.specs.Marks.{is_modified, unprotected}
@@ -61,7 +61,7 @@ block full columns page = encode (entries_sent full columns page)
 unfoldable pub bytes_at : Bool → ℕ → Page → ℕ → List ℕ
 bytes_at full columns page cell =
     let field = field_from (unprotected page.marks) (cells page) cell in
-    if starts_field (unprotected page.marks) cell and is_in_block full page.marks field then
+    If starts_field (unprotected page.marks) cell and is_in_block full page.marks field then
     entry_bytes (entry_of columns page.characters field)
     else []
 
@@ -73,7 +73,7 @@ pub record BlockWritten : Type 0 where
 
 unfoldable pub writing_block : Bool → ℕ → Page → ℕ → List ℕ → BlockWritten
 writing_block full columns page at output =
-    if leb (length (block full columns page)) (length output - at) then
+    If leb (length (block full columns page)) (length output - at) then
     record {
       answer = Bytes (length (block full columns page));
       marks = modified_cleared page.marks;

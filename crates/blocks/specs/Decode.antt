@@ -1,7 +1,7 @@
 -- A block read back from its bytes: what a host does that was written for these blocks. Any bytes can be read.
 use Rattle.std.specs.Prelude.{Bool, List, [], ◌∷◌, map, ℕ, ◌+◌, ◌-◌, ◌*◌, eqb, ltb, drop}
 use Prim.Native.Char.{code}
-use Rattle.words.specs.Choice.{if◌then◌else◌, ◌and◌, ◌is◌to◌}
+use Rattle.words.specs.Choice.{If◌then◌else◌, ◌and◌, ◌is◌to◌}
 use Rattle.words.specs.Lists.{every}
 use Rattle.page.specs.Marks.{valid_character}
 use Rattle.blocks.specs.Blocks.{Entry}
@@ -14,8 +14,8 @@ pub record Split : Type 0 where
 -- A byte in front of what comes after it.
 unfoldable pub in_front : ℕ → Split → Split
 in_front byte after =
-    if eqb byte 0x03 then record { before = []; runs = [] }
-    else if eqb byte 0x1B then record { before = []; runs = after.before ∷ after.runs }
+    If eqb byte 0x03 then record { before = []; runs = [] }
+    else If eqb byte 0x1B then record { before = []; runs = after.before ∷ after.runs }
     else record { before = byte ∷ after.before; runs = after.runs }
 
 unfoldable pub split : List ℕ → Split
@@ -31,7 +31,7 @@ unfoldable pub read_number : ℕ → List ℕ → Number
 read_number value [] = record { value = value; after = [] }
 read_number value (byte ∷ later) =
     let further = read_number (value * 10 + (byte - code "0")) later in
-    if byte is code "0" to code "9" then further
+    If byte is code "0" to code "9" then further
     else record { value = value; after = later }
 
 -- What follows an ESC: [ is passed by, then the row and ;, the column and f, and the characters.

@@ -1,7 +1,7 @@
 -- The blocks in a stream of blocks and reports, found from its bytes alone, one by one. Any bytes can be read.
 use Rattle.std.specs.Prelude.{Bool, List, [], ◌∷◌, ◌++◌, ℕ, eqb}
 use Prim.Native.Char.{code}
-use Rattle.words.specs.Choice.{if◌then◌else◌, ◌or◌}
+use Rattle.words.specs.Choice.{If◌then◌else◌, ◌or◌}
 
 -- n or R ends a report, f a field's head. A sequence is read on to the first of these.
 unfoldable pub ends_report : ℕ → Bool
@@ -23,15 +23,15 @@ holding block sequence = record { block = block; sequence = sequence; ended = []
 -- Outside a sequence ESC begins one, 03 ends the block, and any other byte is a character of it.
 unfoldable pub outside : ℕ → List ℕ → Held
 outside byte block =
-    if eqb byte 0x1B then holding block (byte ∷ [])
-    else if eqb byte 0x03 then record { block = []; sequence = []; ended = (block ++ (byte ∷ [])) ∷ [] }
+    If eqb byte 0x1B then holding block (byte ∷ [])
+    else If eqb byte 0x03 then record { block = []; sequence = []; ended = (block ++ (byte ∷ [])) ∷ [] }
     else holding (block ++ (byte ∷ [])) []
 
 -- Inside one: a report is no part of the block, a field's head is.
 unfoldable pub inside : ℕ → List ℕ → List ℕ → Held
 inside byte block sequence =
-    if ends_report byte then holding block []
-    else if ends_head byte then holding (block ++ (sequence ++ (byte ∷ []))) []
+    If ends_report byte then holding block []
+    else If ends_head byte then holding (block ++ (sequence ++ (byte ∷ []))) []
     else holding block (sequence ++ (byte ∷ []))
 
 unfoldable pub after_byte : ℕ → List ℕ → List ℕ → Held

@@ -1,6 +1,6 @@
 -- A block laid over a copy of an earlier one, from the bytes of the two alone.
 use Rattle.std.specs.Prelude.{Bool, List, [], ◌∷◌, map, ℕ, eqb}
-use Rattle.words.specs.Choice.{if◌then◌else◌, ◌and◌}
+use Rattle.words.specs.Choice.{If◌then◌else◌, ◌and◌}
 use Rattle.blocks.specs.Blocks.{Entry, encode}
 use Rattle.blocks.specs.Decode.{decode}
 
@@ -14,7 +14,7 @@ unfoldable pub laid_on : List Entry → Entry → Entry
 laid_on [] field = field
 laid_on (sent ∷ later) field =
     let further = laid_on later field in
-    if same_place sent field then sent
+    If same_place sent field then sent
     else further
 
 -- A field that the copy lacks is passed by.

@@ -4,7 +4,7 @@ use mathlib.Core.Bool.{Bool}
 use mathlib.Core.List.{List}
 use Prim.Native.Nat.{ℕ}
 use lib.ListN.{length}
-use Rattle.words.specs.Choice.{if◌then◌else◌}
+use Rattle.words.specs.Choice.{If◌then◌else◌}
 use Rattle.words.proofs.Choosing.{either_line}
 use Rattle.sequence.specs.declared.HalfRead.{HalfRead}
 use Rattle.sequence.specs.declared.Event.{Event}
@@ -27,7 +27,7 @@ use Rattle.commands.specs.Host.{event_step, host_step}
 abbrev Keeps : Stepped → Type 0
 Keeps step = Arrays step.terminal.state
 
-line : (test : Bool) (a b : Stepped) → Keeps a → Keeps b → Keeps (if test then a else b)
+line : (test : Bool) (a b : Stepped) → Keeps a → Keeps b → Keeps (If test then a else b)
 line test a b first rest = either_line Keeps test a b (λ _. first) (λ _. rest)
 
 module _ (t : Terminal) (has : Arrays t.state) where

@@ -1,5 +1,5 @@
 -- What a computed step comes to: all that is unfolded on the way, for the worked examples.
-use Rattle.words.specs.Choice.{if◌then◌else◌, ◌and◌, ◌or◌, ◌is◌to◌}
+use Rattle.words.specs.Choice.{If◌then◌else◌, ◌and◌, ◌or◌, ◌is◌to◌}
 use Rattle.words.specs.Lists.{within, every, each_from, numbers_from, selected}
 use Rattle.sequence.specs.Record.{with_digit, with_next_argument}
 use Rattle.sequence.specs.Reading.{is_control, is_cancel, outside_sequence, after_esc, after_intermediate, after_bracket, right_after_bracket, after_private_mark, sequence_read_on, inside_sequence, advance_of}
@@ -24,7 +24,7 @@ use Rattle.commands.specs.Host.{event_step, host_step}
 
 -- Tests and lists.
 unfoldable tests : Unit {0}
-unfolding if◌then◌else◌ ◌and◌ ◌or◌ ◌is◌to◌ within every each_from numbers_from selected
+unfolding If◌then◌else◌ ◌and◌ ◌or◌ ◌is◌to◌ within every each_from numbers_from selected
 tests = tt
 
 -- Reading a byte.

@@ -6,7 +6,7 @@ use Prim.Native.Nat.{ℕ, ◌+◌, ◌<◌, ◌≤◌}
 use borrow.Author.Tests.{eq-eqb, ne_eqb, lt-ltb, le-ltb}
 use lib.Dec.{ltb, eqb}
 use lib.ListN.{take}
-use Rattle.words.specs.Choice.{if◌then◌else◌, ◌and◌, ◌or◌, ◌is◌to◌}
+use Rattle.words.specs.Choice.{If◌then◌else◌, ◌and◌, ◌or◌, ◌is◌to◌}
 use Rattle.words.proofs.Choosing.{then_case, else_case}
 use Rattle.sequence.specs.declared.HalfRead.{HalfRead}
 use Rattle.page.specs.Page.{cells}
@@ -40,27 +40,27 @@ module _ (final : ℕ) (half : HalfRead) (t : Terminal) (most : ℕ) (asked : mo
 -- By final byte.
 module _ (final what : ℕ) (arguments : List ℕ) (count : ℕ) (t : Terminal) (given : what ≡ value_of final arguments 0) where
   pub final_I : final ≡ 0x49 → listed_step final arguments count t ≡ goes_to (tabbed_on what t.state) t
-  unfolding listed_step is_move move_step if◌then◌else◌ ◌and◌ ◌or◌ ◌is◌to◌
+  unfolding listed_step is_move move_step If◌then◌else◌ ◌and◌ ◌or◌ ◌is◌to◌
   final_I e = rw (given, e)
 
   pub final_Z : final ≡ 0x5A → listed_step final arguments count t ≡ goes_to (tabbed_back what t.state) t
-  unfolding listed_step is_move move_step if◌then◌else◌ ◌and◌ ◌or◌ ◌is◌to◌
+  unfolding listed_step is_move move_step If◌then◌else◌ ◌and◌ ◌or◌ ◌is◌to◌
   final_Z e = rw (given, e)
 
   pub final_W : final ≡ 0x57 → listed_step final arguments count t ≡ tab_control final what t
-  unfolding listed_step is_move if◌then◌else◌ ◌and◌ ◌or◌ ◌is◌to◌
+  unfolding listed_step is_move If◌then◌else◌ ◌and◌ ◌or◌ ◌is◌to◌
   final_W e = rw (given, e)
 
   pub final_J : final ≡ 0x4A → listed_step final arguments count t ≡ erase_part final what 0 (cells t.page) t
-  unfolding listed_step is_move if◌then◌else◌ ◌and◌ ◌or◌ ◌is◌to◌
+  unfolding listed_step is_move If◌then◌else◌ ◌and◌ ◌or◌ ◌is◌to◌
   final_J e = rw (given, e)
 
   pub final_K : final ≡ 0x4B → listed_step final arguments count t ≡ erase_part final what (row_start t.state) (row_start t.state + t.state.size.columns) t
-  unfolding listed_step is_move if◌then◌else◌ ◌and◌ ◌or◌ ◌is◌to◌
+  unfolding listed_step is_move If◌then◌else◌ ◌and◌ ◌or◌ ◌is◌to◌
   final_K e = rw (given, e)
 
   pub final_o : final ≡ 0x6F → listed_step final arguments count t ≡ area_qualified final what t
-  unfolding listed_step is_move if◌then◌else◌ ◌and◌ ◌or◌ ◌is◌to◌
+  unfolding listed_step is_move If◌then◌else◌ ◌and◌ ◌or◌ ◌is◌to◌
   final_o e = rw (given, e)
 
   -- No other line is left for a final byte that is none of the listed ones but n.
@@ -83,13 +83,13 @@ module _ (final : ℕ) (arguments : List ℕ) (count : ℕ) (t : Terminal) where
   final_move move = then_case _ _ _ move
 
   pub final_m : final ≡ 0x6D → listed_step final arguments count t ≡ rendition final (take count arguments) t
-  unfolding listed_step is_move if◌then◌else◌ ◌and◌ ◌or◌ ◌is◌to◌
+  unfolding listed_step is_move If◌then◌else◌ ◌and◌ ◌or◌ ◌is◌to◌
   final_m e = rw e
 
   pub final_h : final ≡ 0x68 → listed_step final arguments count t ≡ set_mode final true (take count arguments) t
-  unfolding listed_step is_move if◌then◌else◌ ◌and◌ ◌or◌ ◌is◌to◌
+  unfolding listed_step is_move If◌then◌else◌ ◌and◌ ◌or◌ ◌is◌to◌
   final_h e = rw e
 
   pub final_l : final ≡ 0x6C → listed_step final arguments count t ≡ set_mode final false (take count arguments) t
-  unfolding listed_step is_move if◌then◌else◌ ◌and◌ ◌or◌ ◌is◌to◌
+  unfolding listed_step is_move If◌then◌else◌ ◌and◌ ◌or◌ ◌is◌to◌
   final_l e = rw e

@@ -5,7 +5,7 @@ use mathlib.Core.List.{List, []}
 use Prim.Native.Nat.{ℕ}
 use native.Mathlib.Omega.{arith}
 use lib.ListN.{length, replicate}
-use Rattle.words.specs.Choice.{if◌then◌else◌, ◌and◌, ◌or◌}
+use Rattle.words.specs.Choice.{If◌then◌else◌, ◌and◌, ◌or◌}
 use Rattle.words.specs.Lists.{within, each}
 use Rattle.words.proofs.Elements.{run_length}
 use Rattle.words.proofs.Writing.{each_last}
@@ -21,7 +21,7 @@ pub all_cells_count : (page : Page) → length (all_cells page) ≡ cells page
 all_cells_count page = run_length 0 (cells page)
 
 -- A page erased whole, whatever its marks are, is a fresh one.
-all_erased : (v n : ℕ) (marks list : List ℕ) → n ≡ length list → each (λ cell x. if within 0 n cell and erasable true marks cell then v else x) list ≡ replicate (length list) v
+all_erased : (v n : ℕ) (marks list : List ℕ) → n ≡ length list → each (λ cell x. If within 0 n cell and erasable true marks cell then v else x) list ≡ replicate (length list) v
 unfolding erasable ◌or◌
 all_erased v n marks list e =
     each_last _ v [] list (λ k x h. absurd (omega arith)) (λ k x h l. erases true 0 n marks v k x (omega arith) (omega arith) refl)

@@ -7,7 +7,7 @@ use native.Mathlib.Omega.{arith}
 use borrow.Author.Tests.{eqb-true}
 use lib.Dec.{eqb}
 use lib.ListN.{length}
-use Rattle.words.specs.Choice.{if◌then◌else◌}
+use Rattle.words.specs.Choice.{If◌then◌else◌}
 use Rattle.words.proofs.Choosing.{either_line, either_way}
 use Rattle.sequence.specs.declared.HalfRead.{HalfRead}
 use Rattle.sequence.specs.declared.Event.{Event}
@@ -44,7 +44,7 @@ unfolding send_block block_transmission bytes_of
 full_short t fits = block_short t fits true
 
 esc_short : (byte : ℕ) (t : Terminal) → size_fits t.state.size t.page ≡ true → Short (esc_step byte t)
-unfolding esc_step if◌then◌else◌
+unfolding esc_step If◌then◌else◌
 esc_short byte t fits =
     either_way (eqb byte 0x53)
     (λ is. rw (eqb-true byte 0x53 is) (full_short t fits))

@@ -5,7 +5,7 @@ use Prim.Native.Nat.{ℕ, ◌<◌, ◌≤◌}
 use native.Mathlib.Omega.{arith}
 use borrow.Author.Tests.{ltb-true, eqb-true, eqb-false, ne_eqb, eq-eqb}
 use lib.Dec.{ltb, eqb}
-use Rattle.words.specs.Choice.{if◌then◌else◌, ◌and◌, ◌or◌, ◌is◌to◌}
+use Rattle.words.specs.Choice.{If◌then◌else◌, ◌and◌, ◌or◌, ◌is◌to◌}
 use Rattle.words.specs.Lists.{all_from}
 use Rattle.words.proofs.Ranges.{in_range}
 use Rattle.words.proofs.Choosing.{true_is_not_false, then_case, else_case, either_way, neither, refuted, second_decides}
@@ -45,7 +45,7 @@ module _ (final : ℕ) where
     is_listed_if_light n = not (is_light_final n) or ltb 0 (allowed n).most
 
     all_listed : all_from is_listed_if_light 0x40 63 ≡ true
-    unfolding all_from is_light_final is_plain_move allowed not if◌then◌else◌ ◌and◌ ◌or◌ ◌is◌to◌
+    unfolding all_from is_light_final is_plain_move allowed not If◌then◌else◌ ◌and◌ ◌or◌ ◌is◌to◌
     all_listed = refl
 
     pub light_listed : is_light_final final ≡ true → (allowed final).most ≡ 0 → ⊥

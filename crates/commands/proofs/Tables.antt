@@ -8,7 +8,7 @@ use native.Mathlib.Omega.{arith}
 use borrow.Author.Tests.{leb-true, eqb-true}
 use lib.Dec.{eqb}
 use lib.ListN.{length, take}
-use Rattle.words.specs.Choice.{if◌then◌else◌}
+use Rattle.words.specs.Choice.{If◌then◌else◌}
 use Rattle.words.proofs.Choosing.{true_is_not_false, either_line, both}
 use Rattle.sequence.specs.declared.HalfRead.{HalfRead}
 use Rattle.sequence.specs.declared.Reason.{Reason}
@@ -53,7 +53,7 @@ module _ (Asked : Type 0) (byte : ℕ) (t : Terminal) (valid : Valid t) where
   abbrev Holds : Stepped → Type 0
   Holds step = EventSound Asked byte t step
 
-  line : {test : Bool} {a b : Stepped} → (test ≡ true → Holds a) → Holds b → Holds (if test then a else b)
+  line : {test : Bool} {a b : Stepped} → (test ≡ true → Holds a) → Holds b → Holds (If test then a else b)
   line {test} {a} {b} first rest = either_line Holds test a b first (λ _. rest)
 
   -- The kinds of steps.

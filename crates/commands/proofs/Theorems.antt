@@ -7,7 +7,7 @@ use Prim.Native.Nat.{ℕ, ◌-◌, ◌*◌, ◌<◌, ◌≤◌}
 use native.Mathlib.Omega.{arith}
 use lib.Dec.{ltb}
 use lib.ListN.{length}
-use Rattle.words.specs.Choice.{if◌then◌else◌}
+use Rattle.words.specs.Choice.{If◌then◌else◌}
 use Rattle.words.proofs.Elements.{place_passes, place_listed, run_length}
 use Rattle.page.specs.Page.{Page, cells, erasable, cells_erased}
 use Rattle.blocks.proofs.Claims.{IsReport}
@@ -71,8 +71,8 @@ module _ (byte : ℕ) (t : Terminal) (valid : Valid t) where
   step_keeps_protection same = (host_holds byte t valid).sound.protection same
 
 -- The count of cells stored is the number of cells named, by the kinds of steps.
-either_count : (test : Bool) (a b : Stepped) (m n : ℕ) → counted a ≡ m → counted b ≡ n → counted (if test then a else b) ≡ (if test then m else n)
-unfolding if◌then◌else◌
+either_count : (test : Bool) (a b : Stepped) (m n : ℕ) → counted a ≡ m → counted b ≡ n → counted (If test then a else b) ≡ (If test then m else n)
+unfolding If◌then◌else◌
 either_count true a b m n p q = p
 either_count false a b m n p q = q
 
@@ -98,15 +98,15 @@ module _ (t : Terminal) where
     page_count : length (all_cells t.page) ≡ t.state.size.rows * t.state.size.columns
     page_count = run_length 0 (cells t.page) ∙ (sized t.state.size t.page valid.size).characters
 
-    pub line_down_count : counted (line_down t) ≡ (if ltb t.state.cursor.row t.state.size.rows then 0 else t.state.size.rows * t.state.size.columns)
+    pub line_down_count : counted (line_down t) ≡ (If ltb t.state.cursor.row t.state.size.rows then 0 else t.state.size.rows * t.state.size.columns)
     unfolding line_down
     line_down_count = either_count _ _ _ 0 _ refl page_count
 
-    pub next_line_count : counted (next_line t) ≡ (if ltb t.state.cursor.row t.state.size.rows then 0 else t.state.size.rows * t.state.size.columns)
+    pub next_line_count : counted (next_line t) ≡ (If ltb t.state.cursor.row t.state.size.rows then 0 else t.state.size.rows * t.state.size.columns)
     unfolding next_line line_down to_margin
     next_line_count = either_count _ _ _ 0 _ refl page_count
 
-    pub line_up_count : counted (line_up t) ≡ (if ltb 1 t.state.cursor.row then 0 else t.state.size.rows * t.state.size.columns)
+    pub line_up_count : counted (line_up t) ≡ (If ltb 1 t.state.cursor.row then 0 else t.state.size.rows * t.state.size.columns)
     unfolding line_up
     line_up_count = either_count _ _ _ 0 _ refl page_count
 

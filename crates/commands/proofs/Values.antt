@@ -7,7 +7,7 @@ use native.Mathlib.Omega.{arith}
 use borrow.Author.Tests.{eqb-true, eqb-false}
 use lib.Dec.{eqb}
 use lib.ListN.{get_or}
-use Rattle.words.specs.Choice.{if◌then◌else◌, ◌and◌, ◌or◌, ◌is◌to◌}
+use Rattle.words.specs.Choice.{If◌then◌else◌, ◌and◌, ◌or◌, ◌is◌to◌}
 use Rattle.words.proofs.Choosing.{either_line}
 use Rattle.table.specs.Table.{allowed, value_of}
 use Rattle.table.specs.Moves.{kept_column}
@@ -20,7 +20,7 @@ some_value final command arguments i t e =
     either_line (λ (n : ℕ). 1 ≤ n) _ _ _ (λ _. omega arith) (λ t. let given = eqb-false (get_or arguments i 0) 0 t in omega arith)
 
 pub zero_is_one : ((allowed 0x47).zero_is ≡ 1) × ((allowed 0x64).zero_is ≡ 1) × ((allowed 0x48).zero_is ≡ 1) × ((allowed 0x66).zero_is ≡ 1)
-unfolding allowed if◌then◌else◌ ◌and◌ ◌or◌ ◌is◌to◌
+unfolding allowed If◌then◌else◌ ◌and◌ ◌or◌ ◌is◌to◌
 zero_is_one = (refl, refl, refl, refl)
 
 pub some_column : (row given column present : ℕ) → 1 ≤ column → 1 ≤ present → 1 ≤ kept_column row given column present

@@ -2,7 +2,7 @@
 -- place.)
 use Rattle.std.specs.Prelude.{Bool, true, false, ℕ, ltb, eqb}
 use Prim.Native.Char.{code}
-use Rattle.words.specs.Choice.{if◌then◌else◌, ◌or◌}
+use Rattle.words.specs.Choice.{If◌then◌else◌, ◌or◌}
 use Rattle.sequence.specs.declared.Event.{Event}
 use Rattle.sequence.specs.declared.Event.TheVariants.{Nothing, Text, Control, EscCommand}
 use Rattle.sequence.specs.declared.Event.TheVariants.{BracketCommand, PrivateCommand, Refused}
@@ -13,8 +13,8 @@ use Rattle.table.specs.Moves.{is_plain_move}
 -- BS and CR, and LF where it scrolls nothing; HT looks at tab stops.
 unfoldable pub is_light_control : Size → Cursor → ℕ → Bool
 is_light_control size cursor byte =
-    if eqb byte 0x09 then false
-    else if eqb byte 0x0A then ltb cursor.row size.rows
+    If eqb byte 0x09 then false
+    else If eqb byte 0x0A then ltb cursor.row size.rows
     else true
 
 -- SPA and EPA.

@@ -7,7 +7,7 @@ use native.Mathlib.Nat.{add-zero}
 use native.Mathlib.Omega.{arith}
 use lib.ListN.{length, take, drop, get_or, length-append, length-drop}
 use lib.Seq.{get_or-drop, drop-drop, take_at, drop_at}
-use Rattle.words.specs.Choice.{if◌then◌else◌}
+use Rattle.words.specs.Choice.{If◌then◌else◌}
 use Rattle.words.specs.Lists.{every}
 use Rattle.words.proofs.Choosing.{then_case, else_case, both}
 use Rattle.output.specs.Decimal.{place_bytes}
@@ -81,7 +81,7 @@ module _ (bytes : List ℕ) (at : ℕ) (block : IsBlock (drop at bytes)) where
 
 -- After an entry comes an ESC or 03.
 not_plain : (entries : List Entry) → plain_length (encode entries) ≡ 0
-unfolding encode entry_bytes place_bytes plain_length if◌then◌else◌
+unfolding encode entry_bytes place_bytes plain_length If◌then◌else◌
 not_plain [] = refl
 not_plain (entry ∷ later) = refl
 
@@ -165,7 +165,7 @@ module _ (block copy : List ℕ) (at here : ℕ) (copy_here : IsBlock (drop at c
 
     -- An entry of that place is laid,
     pub laid_from_block : same_head (drop here block) (drop at copy) ≡ true → NextLaid block copy at (record { sent = true; from = here; to = entry_end block here; next = entry_end copy at })
-    unfolding laid_on if◌then◌else◌
+    unfolding laid_on If◌then◌else◌
     laid_from_block same =
         let there = entry_ends block here sent in
         let on = entry_ends copy at field in
@@ -196,7 +196,7 @@ module _ (block copy : List ℕ) (at here : ℕ) (copy_here : IsBlock (drop at c
 
   -- Where the block has none, the copy's own entry is laid.
   pub laid_from_copy : (get_or block here 0 ≡ 0x1B → ⊥) → NextLaid block copy at (record { sent = false; from = at; to = entry_end copy at; next = entry_end copy at })
-  unfolding laid_on if◌then◌else◌
+  unfolding laid_on If◌then◌else◌
   laid_from_copy no_more =
       let on = entry_ends copy at field in
       let kept = search.not_before field.entry field.later field.read ∙ ap (λ (entries : List Entry). laid_on entries field.entry) (stops block here search.block_here no_more).1 in

@@ -3,7 +3,7 @@
 use Rattle.std.specs.Prelude.{◌≡◌, Bool, true, false, List, [], ◌∷◌, ◌++◌, length, take, drop}
 use Rattle.std.specs.Prelude.{ℕ, ◌+◌, ◌-◌, ◌<◌, ◌≤◌, leb, eqb}
 use Prim.Native.Char.{code}
-use Rattle.words.specs.Choice.{if◌then◌else◌, ◌and◌, ◌or◌}
+use Rattle.words.specs.Choice.{If◌then◌else◌, ◌and◌, ◌or◌}
 use Rattle.words.specs.Lists.{every}
 use Rattle.words.specs.Output.{placed}
 use Rattle.blocks.specs.Blocks.{encode}
@@ -23,7 +23,7 @@ unfoldable pub plain_length : List ℕ → ℕ
 plain_length [] = 0
 plain_length (byte ∷ later) =
     let further = plain_length later in
-    if leb 0x20 byte then further + 1
+    If leb 0x20 byte then further + 1
     else 0
 
 -- Where the entry ends whose ESC is at a place.
@@ -39,7 +39,7 @@ same_head (a ∷ one) (b ∷ other) = eqb a b and (eqb a (code "f") or same_head
 -- The bytes of a part of the block, or of the copy.
 abbrev pub source_of : List ℕ → List ℕ → Part → List ℕ
 source_of block copy part =
-    if part.sent then block
+    If part.sent then block
     else copy
 
 abbrev pub part_bytes : List ℕ → List ℕ → Part → List ℕ
@@ -61,5 +61,5 @@ pub record BlockLaid : Type 0 where
 
 unfoldable pub laying : List ℕ → List ℕ → BlockLaid
 laying bytes output =
-    if leb (length bytes) (length output) then record { answer = Bytes (length bytes); output = placed 0 bytes output }
+    If leb (length bytes) (length output) then record { answer = Bytes (length bytes); output = placed 0 bytes output }
     else record { answer = NoRoom; output = output }

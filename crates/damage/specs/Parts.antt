@@ -3,13 +3,13 @@
 -- 9 kind of the half-read record, 10 its spoilt flag, 11 its count, 12 to 19 its arguments, 20 to 179 the tab stops,
 -- 180 the byte beside the message, 181 whether the Send key sends all fields.
 use Rattle.std.specs.Prelude.{Bool, false, List, [], ◌∷◌, ℕ, ◌-◌, ◌%◌, eqb, ltb, get_or, set}
-use Rattle.words.specs.Choice.{if◌then◌else◌, ◌is◌to◌}
+use Rattle.words.specs.Choice.{If◌then◌else◌, ◌is◌to◌}
 use Rattle.state.specs.declared.State.{State}
 
 -- A flag is 0 or 1; it is set by 0, off, or by any other value, on.
 unfoldable pub flag_number : Bool → ℕ
 flag_number flag =
-    if flag then 1
+    If flag then 1
     else 0
 
 abbrev pub is_on : ℕ → Bool
@@ -35,28 +35,28 @@ first_parts s =
 -- A part's value; past the last part, 0.
 unfoldable pub part_of : State → ℕ → ℕ
 part_of s part =
-    if ltb part 12 then get_or (first_parts s) part 0
-    else if ltb part 20 then get_or s.half.arguments (part - 12) 0
-    else if ltb part 180 then flag_number (get_or s.stops (part - 20) false)
-    else if eqb part 180 then s.locks.byte
-    else if eqb part 181 then flag_number s.modes.full
+    If ltb part 12 then get_or (first_parts s) part 0
+    else If ltb part 20 then get_or s.half.arguments (part - 12) 0
+    else If ltb part 180 then flag_number (get_or s.stops (part - 20) false)
+    else If eqb part 180 then s.locks.byte
+    else If eqb part 181 then flag_number s.modes.full
     else 0
 
 -- What a part of this number becomes where a part is set: only that one changes. One that is a byte takes the value's
 -- low byte.
 unfoldable pub chosen : {A : Type 0} → ℕ → ℕ → A → A → A
 chosen this part new old =
-    if eqb part this then new
+    If eqb part this then new
     else old
 
 unfoldable pub arguments_with : List ℕ → ℕ → ℕ → List ℕ
 arguments_with arguments part value =
-    if part is 12 to 19 then set arguments (part - 12) value
+    If part is 12 to 19 then set arguments (part - 12) value
     else arguments
 
 unfoldable pub stops_with : List Bool → ℕ → ℕ → List Bool
 stops_with stops part value =
-    if part is 20 to 179 then set stops (part - 20) (is_on value)
+    If part is 20 to 179 then set stops (part - 20) (is_on value)
     else stops
 
 unfoldable pub with_part : State → ℕ → ℕ → State

@@ -4,7 +4,7 @@ use mathlib.Core.Bool.{true, false}
 use mathlib.Core.List.{[], ◌∷◌, ◌++◌, flat_map}
 use Prim.Native.Char.{code}
 use lib.ListN.{replicate}
-use Rattle.words.specs.Choice.{if◌then◌else◌}
+use Rattle.words.specs.Choice.{If◌then◌else◌}
 use Rattle.state.specs.declared.State.{State}
 use Rattle.numerals.specs.Hexadecimal.{digit_of}
 use Rattle.words.specs.Text.{bytes}
@@ -27,5 +27,5 @@ pub small_drawn : drawn small (bytes "KN .-!") (0 ∷ 1 ∷ 0x14D ∷ 0xFFFF ∷
     ≡ bytes "size 00002 00003\ncursor 00001 00003\npen 014D erasure 1 full 0\nmanual 0 soft 1 message 00004 byte 9B\nstops .T"
     ++ replicate 158 (code ".")
     ++ bytes "\nhalf 00003 spoilt 0 count 00002 arguments 00001 65535 00000 00000 00000 00000 00000 00000\n|KN |\n|.-!|\n:00000001014D\n:FFFF00A00002\n"
-unfolding if◌then◌else◌ flat_map digit_of exactly pen_line locks_line stops_line half_line state_lines rows_of drawn
+unfolding If◌then◌else◌ flat_map digit_of exactly pen_line locks_line stops_line half_line state_lines rows_of drawn
 small_drawn = refl

@@ -10,7 +10,7 @@
 use Rattle.std.specs.Prelude.{Bool, false, ℕ, zero, suc, ◌<◌, take, drop}
 use mathlib.Core.List.{List, [], ◌∷◌, ◌++◌, flat_map}
 use Prim.Native.Char.{code}
-use Rattle.words.specs.Choice.{if◌then◌else◌}
+use Rattle.words.specs.Choice.{If◌then◌else◌}
 use Rattle.words.specs.Lists.{exactly}
 use Rattle.sequence.specs.declared.HalfRead.{HalfRead}
 use Rattle.state.specs.declared.Modes.{Modes}
@@ -24,11 +24,11 @@ abbrev pub line_end : List ℕ
 line_end = bytes "\n"
 
 abbrev pub flag_text : Bool → List ℕ
-flag_text flag = (if flag then code "1" else code "0") ∷ []
+flag_text flag = (If flag then code "1" else code "0") ∷ []
 
 -- A tab stop in a column, or none.
 abbrev pub stop_of : Bool → List ℕ
-stop_of stop = (if stop then code "T" else code ".") ∷ []
+stop_of stop = (If stop then code "T" else code ".") ∷ []
 
 -- A word, and the number or the flag that it names.
 abbrev pub numbered : List ℕ → ℕ → List ℕ

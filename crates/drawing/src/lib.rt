@@ -3,7 +3,7 @@
 #![tactic(auto)]
 
 ghost use Rattle.std.specs.Prelude.{◌≡◌, ◌+◌, ◌*◌, ◌<◌, ◌≤◌, length};
-ghost use Rattle.words.specs.Choice.{if◌then◌else◌};
+ghost use Rattle.words.specs.Choice.{If◌then◌else◌};
 ghost use Rattle.words.specs.Output.{Wrote};
 ghost use Rattle.drawing.specs.Drawing.{numbered, flagged, spaced, pair_line, pen_line, locks_line};
 ghost use Rattle.drawing.specs.Drawing.{all_stops, stops_line, all_arguments, half_line, state_lines};
@@ -14,7 +14,7 @@ use sequence::HalfRead;
 use state::{Locks, Modes, State};
 
 fn byte_if(test: bool, yes: u8, no: u8) -> u8
-    ensures { result ≡ (if test then yes else no) }
+    ensures { result ≡ (If test then yes else no) }
 {
     if test {
         return yes;

@@ -1,7 +1,7 @@
 -- Document 01, "Fields, keys and blocks", its first rule, as document 02, M-101, has it: what a field is.
 -- `unprotected` tells which cells are unprotected, by their numbers; `cells` is how many the page has.
 use Rattle.std.specs.Prelude.{Bool, false, not, List, [], ◌∷◌, ℕ, zero, suc, ◌+◌, ◌-◌}
-use Rattle.words.specs.Choice.{if◌then◌else◌, ◌and◌}
+use Rattle.words.specs.Choice.{If◌then◌else◌, ◌and◌}
 
 -- The cell and the one before it in page order belong to one field. The first cell is not joined to the last.
 unfoldable pub joined : (ℕ → Bool) → ℕ → Bool
@@ -17,7 +17,7 @@ unfoldable pub field_start : (ℕ → Bool) → ℕ → ℕ
 field_start unprotected zero = zero
 field_start unprotected (suc before) =
     let further = field_start unprotected before in
-    if joined unprotected (suc before) then further
+    If joined unprotected (suc before) then further
     else suc before
 
 -- The cell after the last of the field that has the cell; `more` is how many cells of the page come after the cell.
@@ -25,7 +25,7 @@ unfoldable pub end_from : (ℕ → Bool) → ℕ → ℕ → ℕ
 end_from unprotected cell zero = cell + 1
 end_from unprotected cell (suc more) =
     let further = end_from unprotected (cell + 1) more in
-    if joined unprotected (cell + 1) then further
+    If joined unprotected (cell + 1) then further
     else cell + 1
 
 unfoldable pub field_end : (ℕ → Bool) → ℕ → ℕ → ℕ
@@ -44,7 +44,7 @@ unfoldable pub fields_from : (ℕ → Bool) → ℕ → ℕ → ℕ → List Fie
 fields_from unprotected cells cell zero = []
 fields_from unprotected cells cell (suc n) =
     let later = fields_from unprotected cells (cell + 1) n in
-    if starts_field unprotected cell then field_from unprotected cells cell ∷ later
+    If starts_field unprotected cell then field_from unprotected cells cell ∷ later
     else later
 
 -- All fields of the page.

@@ -1,6 +1,6 @@
 -- Document 01, "Fields, keys and blocks": the cells and fields that keys look for.
 use Rattle.std.specs.Prelude.{Bool, List, [], ◌∷◌, ℕ, zero, suc, ◌+◌, ◌-◌, ltb}
-use Rattle.words.specs.Choice.{if◌then◌else◌}
+use Rattle.words.specs.Choice.{If◌then◌else◌}
 use Rattle.places.specs.Places.{place_of}
 use Rattle.fields.specs.declared.Sought.{Sought}
 use Rattle.fields.specs.declared.Sought.TheVariants.{At, Nowhere}
@@ -29,14 +29,14 @@ unfoldable pub first_after : ℕ → ℕ → List Field → Sought
 first_after columns cell [] = Nowhere
 first_after columns cell (field ∷ later) =
     let further = first_after columns cell later in
-    if ltb cell field.start then start_of columns field
+    If ltb cell field.start then start_of columns field
     else further
 
 unfoldable pub last_before : ℕ → ℕ → List Field → Sought
 last_before columns cell [] = Nowhere
 last_before columns cell (field ∷ later) =
     let further = last_before columns cell later in
-    if ltb field.start cell then or_else further (start_of columns field)
+    If ltb field.start cell then or_else further (start_of columns field)
     else Nowhere
 
 -- Keys 260 and 261.
@@ -51,7 +51,7 @@ unfoldable pub first_unprotected_from : (ℕ → Bool) → ℕ → ℕ → ℕ �
 first_unprotected_from unprotected columns cell zero = Nowhere
 first_unprotected_from unprotected columns cell (suc n) =
     let further = first_unprotected_from unprotected columns (cell + 1) n in
-    if unprotected cell then At (place_of columns cell)
+    If unprotected cell then At (place_of columns cell)
     else further
 
 -- Key 262; and after a typed character: the next unprotected cell, going round the page.

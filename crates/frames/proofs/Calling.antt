@@ -7,7 +7,7 @@ use native.Mathlib.Omega.{arith}
 use borrow.Author.Tests.{leb-true}
 use lib.Dec.{leb}
 use lib.ListN.{length, length-append, length-replicate}
-use Rattle.words.specs.Choice.{if◌then◌else◌}
+use Rattle.words.specs.Choice.{If◌then◌else◌}
 use Rattle.words.specs.Output.{placed}
 use Rattle.words.proofs.Choosing.{either_line}
 use Rattle.words.proofs.Output.{placed_before, wrote_none}
@@ -70,10 +70,10 @@ module _ (t : Terminal) (taken : ℕ) (steps : List Stepped) (one other : List �
       }
 
   gives_alike : (answer : Answer) → Alike (gives answer taken t one steps) (gives answer taken t other steps) other
-  unfolding gives if◌then◌else◌
+  unfolding gives If◌then◌else◌
   gives_alike answer = go (changes_nothing answer)
     where
-      go : (nothing : Bool) → Alike (if nothing then unchanged answer t one else after_steps answer taken t one steps) (if nothing then unchanged answer t other else after_steps answer taken t other steps) other
+      go : (nothing : Bool) → Alike (If nothing then unchanged answer t one else after_steps answer taken t one steps) (If nothing then unchanged answer t other else after_steps answer taken t other steps) other
       go true = unchanged_alike answer
       go false = did_alike answer
 

@@ -8,7 +8,7 @@ use borrow.Author.Tests.{le-leb, lt-leb, ne_eqb}
 use lib.Dec.{eqb}
 use lib.ListN.{length, drop, get_or, length-drop}
 use lib.Seq.{get_or-drop}
-use Rattle.words.specs.Choice.{if◌then◌else◌, ◌and◌}
+use Rattle.words.specs.Choice.{If◌then◌else◌, ◌and◌}
 use Rattle.words.proofs.Choosing.{else_case, first_fails, second_fails}
 use Rattle.words.proofs.Walking.{next_element}
 use Rattle.frames.specs.Frames.{start, host, key, no_frame, frame_in}
@@ -28,11 +28,11 @@ module _ (bytes : List ℕ) (some : 0 < length bytes) where
 
   module _ (first : get_or bytes 0 0 ≡ 1) where
     pub is_host : length bytes ≤ 256 → frame_in bytes ≡ host (drop 1 bytes)
-    unfolding frame_in if◌then◌else◌ ◌and◌
+    unfolding frame_in If◌then◌else◌ ◌and◌
     is_host short = frame_first ∙ rw (first, le-leb (length (drop 1 bytes)) 255 (omega (arith, rest_length)))
 
     pub host_too_long : 256 < length bytes → frame_in bytes ≡ no_frame
-    unfolding frame_in if◌then◌else◌ ◌and◌
+    unfolding frame_in If◌then◌else◌ ◌and◌
     host_too_long long = frame_first ∙ rw (first, lt-leb (length (drop 1 bytes)) 255 (omega (arith, rest_length)))
 
   pub wrong_length : (get_or bytes 0 0 ≡ 1 → ⊥) → (length bytes ≡ 3 → ⊥) → frame_in bytes ≡ no_frame
@@ -46,15 +46,15 @@ module _ (bytes : List ℕ) (some : 0 < length bytes) where
     two = omega (arith, rest_length)
 
     pub is_start : get_or bytes 0 0 ≡ 0 → frame_in bytes ≡ start (get_or bytes 1 0) (get_or bytes 2 0)
-    unfolding frame_in if◌then◌else◌ ◌and◌
+    unfolding frame_in If◌then◌else◌ ◌and◌
     is_start first = frame_first ∙ rw (first, two, get_or-drop 1 bytes 0 0, get_or-drop 1 bytes 1 0)
 
     pub is_key : get_or bytes 0 0 ≡ 2 → frame_in bytes ≡ key (get_or bytes 1 0 * 256 + get_or bytes 2 0)
-    unfolding frame_in if◌then◌else◌ ◌and◌
+    unfolding frame_in If◌then◌else◌ ◌and◌
     is_key first = frame_first ∙ rw (first, two, get_or-drop 1 bytes 0 0, get_or-drop 1 bytes 1 0)
 
   pub wrong_first : (get_or bytes 0 0 ≡ 0 → ⊥) → (get_or bytes 0 0 ≡ 1 → ⊥) → (get_or bytes 0 0 ≡ 2 → ⊥) → frame_in bytes ≡ no_frame
-  unfolding frame_in if◌then◌else◌ ◌and◌
+  unfolding frame_in If◌then◌else◌ ◌and◌
   wrong_first no_start no-host no_key = frame_first ∙ rw (ne_eqb _ _ no_start, ne_eqb _ _ no-host, ne_eqb _ _ no_key)
 
 pub no_bytes : (bytes : List ℕ) → length bytes ≡ 0 → frame_in bytes ≡ no_frame

@@ -7,7 +7,7 @@ use native.Mathlib.Omega.{arith}
 use lib.ListN.{length, take, drop, length-append, length-take, take-append-drop, drop_of_length-le}
 use lib.Seq.{take-nil, length-take-le, take_all}
 use Rattle.words.specs.Output.{placed, Wrote}
-use Rattle.words.specs.Choice.{if◌then◌else◌}
+use Rattle.words.specs.Choice.{If◌then◌else◌}
 use Rattle.words.proofs.Choosing.{then_case, else_case, either_line, either_way, less_or_not}
 use Rattle.words.proofs.Output.{placed_before, wrote_none}
 use Rattle.frames.specs.declared.Held.{Held}
@@ -83,7 +83,7 @@ wrote_inside {bytes} {before} wrote =
 
 -- A session that is held is the one that was kept, if its page has as many marks as characters.
 pub held_again : (t : Terminal) (characters marks : List ℕ) → length t.page.marks ≡ length t.page.characters → session_in (kept (session t)) (placed 0 t.page.characters characters) (placed 0 t.page.marks marks) ≡ session t
-unfolding session_in kept if◌then◌else◌
+unfolding session_in kept If◌then◌else◌
 held_again t characters marks same =
     λ i. session (record { state = t.state; page = page_of (placed_before t.page.characters characters i) ((ap (λ (n : ℕ). take n (placed 0 t.page.marks marks)) (sym same) ∙ placed_before t.page.marks marks) i) })
 
@@ -99,7 +99,7 @@ module _ (held : Held) (characters marks : List ℕ) (same : length characters �
   still = (λ i. session_in (kept (session here)) (placed_own held.cells characters i) (placed_own held.cells marks i)) ∙ held_again here characters marks as_many
 
   none_still : session_in (kept no_session) characters marks ≡ no_session
-  unfolding session_in kept if◌then◌else◌
+  unfolding session_in kept If◌then◌else◌
   none_still = refl
 
   pub held_still : session_in (kept (session_in held characters marks)) characters marks ≡ session_in held characters marks

@@ -7,7 +7,7 @@ use native.Mathlib.Numerals.{add-one}
 use borrow.Author.Tests.{ne_eqb}
 use lib.ListN.{length, take, get_or, set}
 use lib.Seq.{take-suc}
-use Rattle.words.specs.Choice.{if◌then◌else◌}
+use Rattle.words.specs.Choice.{If◌then◌else◌}
 use Rattle.frames.specs.declared.Held.{Held}
 use Rattle.frames.specs.Sessions.{frame_done, line_done}
 use Rattle.frames.specs.Transcript.{SoFar, none_so_far, line_ended, after_byte, after_bytes}
@@ -31,7 +31,7 @@ nothing_held held line characters marks none room = record { collected = none_co
 
 module _ {read : SoFar} {held : Held} {digits : ℕ} {line characters marks : List ℕ} (holds : Holds read held digits line characters marks) where
   pub byte_held : (byte : ℕ) → (byte ≡ 0x0A → ⊥) → Holds (after_byte byte read) held (longer digits) (set line digits byte) characters marks
-  unfolding after_byte if◌then◌else◌
+  unfolding after_byte If◌then◌else◌
   byte_held byte other = rw (ne_eqb byte 0x0A other) (record { collected = more_collected byte holds.collected; going = holds.going })
 
   same_line : line_done (line_in line digits) (session_in held characters marks) ≡ line_done read.line read.session
@@ -39,5 +39,5 @@ module _ {read : SoFar} {held : Held} {digits : ℕ} {line characters marks : Li
   same_line = λ i. frame_done 256 (frame_found holds.collected i) (holds.going i)
 
   pub line_held : {byte : ℕ} {left : Held} {buffer characters' marks' : List ℕ} → byte ≡ 0x0A → length buffer ≡ 512 → session_in left characters' marks' ≡ (line_done (line_in line digits) (session_in held characters marks)).after → Holds (after_byte byte read) left 0 buffer characters' marks'
-  unfolding after_byte line_ended if◌then◌else◌
+  unfolding after_byte line_ended If◌then◌else◌
   line_held {byte} {left} {buffer} end room done = rw end (record { collected = none_collected buffer room; going = done ∙ after_same same_line })

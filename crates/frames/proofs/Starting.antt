@@ -8,7 +8,7 @@ use native.Mathlib.Omega.{arith}
 use borrow.Author.Tests.{eq-eqb}
 use lib.ListN.{length, take, drop, replicate, length-replicate, take-append-drop}
 use lib.Seq.{length-take-le}
-use Rattle.words.specs.Choice.{if◌then◌else◌}
+use Rattle.words.specs.Choice.{If◌then◌else◌}
 use Rattle.words.specs.Output.{placed, Wrote}
 use Rattle.words.proofs.Choosing.{either_way, both_hold, first_fails}
 use Rattle.words.proofs.Output.{wrote_none}
@@ -125,7 +125,7 @@ module _ (rows columns cells from end : ℕ) (before : Lent) (enough : Enough be
       (wrote (page_of [] []))
 
   good_did : listed_size size ≡ true → CallDone (started (fresh size)) from before (record { held = record { going = true; cells = cells; state = reply.state }; end = end; from = from; more = false }) whole
-  unfolding started kept characters_of marks_of if◌then◌else◌
+  unfolding started kept characters_of marks_of If◌then◌else◌
   good_did listed =
       let told = is ∙ good_start size _ sizes listed in
       let few = listed_few rows columns listed in
@@ -150,7 +150,7 @@ module _ (rows columns cells from end : ℕ) (before : Lent) (enough : Enough be
       }
 
   refused_did : listed_size size ≡ false → (zero : State) → zero ≡ zero_state → CallDone (started (unchanged WrongSize (unstarted (lent_page rows columns)) [])) from before (record { held = record { going = false; cells = 0; state = zero }; end = end; from = from; more = false }) whole
-  unfolding started kept characters_of marks_of if◌then◌else◌ unchanged number_of
+  unfolding started kept characters_of marks_of If◌then◌else◌ unchanged number_of
   refused_did unlisted zero is_zero =
       let told = is ∙ refused_start size _ sizes unlisted in
       let characters-are = ap (λ (o : Outcome). o.terminal.page.characters) told in

@@ -6,7 +6,7 @@ use native.Mathlib.Omega.{arith}
 use borrow.Author.Tests.{ne_eqb}
 use lib.Dec.{eqb}
 use lib.ListN.{length}
-use Rattle.words.specs.Choice.{if◌then◌else◌}
+use Rattle.words.specs.Choice.{If◌then◌else◌}
 use Rattle.words.proofs.Choosing.{either_way}
 use Rattle.frames.specs.Sessions.{Session, line_done}
 use Rattle.frames.specs.Transcript.{with_first, lines_of, lines_done, transcript_of, SoFar, none_so_far, line_ended, after_byte, after_bytes, input_ended}
@@ -32,14 +32,14 @@ front_last byte [] = refl
 front_last byte (next ∷ line) = ap (with_first byte) (front_last next line)
 
 at_end : (line : List ℕ) (s : Session) (text : List ℕ) → (input_ended (record { line = line; session = s; text = text })).text ≡ text ++ lines_done (with_front line []) s
-unfolding input_ended line_ended lines_done with_front if◌then◌else◌
+unfolding input_ended line_ended lines_done with_front If◌then◌else◌
 at_end [] s text = sym (append-nil text)
 at_end (byte ∷ line) s text =
     let some = ne_eqb (suc (length line)) 0 (λ none. omega arith) in
     rw some (ap (λ (l : List ℕ). text ++ l) (sym (append-nil (line_done (byte ∷ line) s).text) ∙ ap (λ (lines : List (List ℕ)). lines_done lines s) (sym (front_last byte line))))
 
 read_on : (later : List ℕ) (read : SoFar) → (input_ended (after_bytes later read)).text ≡ read.text ++ lines_done (with_front read.line (lines_of later)) read.session
-unfolding after_bytes after_byte line_ended with_front lines_of lines_done if◌then◌else◌
+unfolding after_bytes after_byte line_ended with_front lines_of lines_done If◌then◌else◌
 read_on [] read = at_end read.line read.session read.text
 read_on (byte ∷ later) read =
     either_way (eqb byte 0x0A)

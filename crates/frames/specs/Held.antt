@@ -1,6 +1,6 @@
 -- How the code holds a line, its frame and the session.
 use Rattle.std.specs.Prelude.{◌≡◌, true, false, List, [], ℕ, ◌+◌, ◌≤◌, min, leb, ltb, length, take, drop}
-use Rattle.words.specs.Choice.{if◌then◌else◌}
+use Rattle.words.specs.Choice.{If◌then◌else◌}
 use Rattle.words.specs.Output.{placed, Wrote}
 use Rattle.page.specs.Page.{page_of}
 use Rattle.state.specs.State.{zero_state}
@@ -16,12 +16,12 @@ use Rattle.frames.specs.Transcript.{SoFar}
 -- an empty one: neither is a frame.
 unfoldable pub longer : ℕ → ℕ
 longer length =
-    if ltb length 512 then length + 1
+    If ltb length 512 then length + 1
     else 513
 
 unfoldable pub line_in : List ℕ → ℕ → List ℕ
 line_in buffer length =
-    if leb length 512 then take length buffer
+    If leb length 512 then take length buffer
     else []
 
 -- What the code has of a line of which all bytes so far were collected.
@@ -59,7 +59,7 @@ marks_of (session t) = t.page.marks
 unfoldable pub session_in : Held → List ℕ → List ℕ → Session
 session_in held characters marks =
     let page = page_of (take held.cells characters) (take held.cells marks) in
-    if held.going then session (record { state = held.state; page = page })
+    If held.going then session (record { state = held.state; page = page })
     else no_session
 
 -- The code holds what has been read: the line so far and the session.

@@ -1,6 +1,6 @@
 -- What a frame does to the session, call by call.
 use Rattle.std.specs.Prelude.{Bool, false, List, [], ◌++◌, ℕ, zero, suc, ◌*◌, eqb, replicate}
-use Rattle.words.specs.Choice.{if◌then◌else◌}
+use Rattle.words.specs.Choice.{If◌then◌else◌}
 use Rattle.page.specs.Page.{Page, page_of}
 use Rattle.steps.specs.Steps.{Terminal}
 use Rattle.terminal.specs.Answers.{Outcome, bytes_sent}
@@ -34,7 +34,7 @@ pub record FrameCall : Type 0 where
 unfoldable pub started : Outcome → FrameCall
 started outcome =
     record {
-      after = if eqb outcome.number 0 then session outcome.terminal else no_session;
+      after = If eqb outcome.number 0 then session outcome.terminal else no_session;
       text = printed outcome;
       bytes_sent = [];
       taken = 0;
@@ -85,7 +85,7 @@ frame_done zero frame before = record { after = before; text = [] }
 frame_done (suc calls) frame before =
     let call = call_of frame before in
     let rest = frame_done calls (rest_of frame call.taken) call.after in
-    if call.more then record { after = rest.after; text = call.text ++ rest.text }
+    If call.more then record { after = rest.after; text = call.text ++ rest.text }
     else record { after = call.after; text = call.text }
 
 -- A frame has at most 255 host bytes, and a call given 3 takes one at least, so 256 calls are enough

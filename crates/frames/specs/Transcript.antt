@@ -1,6 +1,6 @@
 -- The whole: from the bytes of standard input to those of standard output.
 use Rattle.std.specs.Prelude.{List, [], ◌∷◌, ◌++◌, ℕ, eqb, length}
-use Rattle.words.specs.Choice.{if◌then◌else◌}
+use Rattle.words.specs.Choice.{If◌then◌else◌}
 use Rattle.frames.specs.Sessions.{Session, no_session, line_done}
 
 -- A byte before the first of these lines; where there is none yet, it begins one that lacks its 0A.
@@ -13,7 +13,7 @@ unfoldable pub lines_of : List ℕ → List (List ℕ)
 lines_of [] = []
 lines_of (byte ∷ later) =
     let lines = lines_of later in
-    if eqb byte 0x0A then [] ∷ lines
+    If eqb byte 0x0A then [] ∷ lines
     else with_first byte lines
 
 unfoldable pub lines_done : List (List ℕ) → Session → List ℕ
@@ -40,7 +40,7 @@ line_ended before =
 -- 0A ends the line, and its calls are done; another byte is added to it.
 unfoldable pub after_byte : ℕ → SoFar → SoFar
 after_byte byte before =
-    if eqb byte 0x0A then line_ended before
+    If eqb byte 0x0A then line_ended before
     else record { line = before.line ++ (byte ∷ []); session = before.session; text = before.text }
 
 unfoldable pub after_bytes : List ℕ → SoFar → SoFar
@@ -50,5 +50,5 @@ after_bytes (byte ∷ later) before = after_bytes later (after_byte byte before)
 -- At the end of the input a last line that lacks its 0A counts.
 unfoldable pub input_ended : SoFar → SoFar
 input_ended before =
-    if eqb (length before.line) 0 then before
+    If eqb (length before.line) 0 then before
     else line_ended before

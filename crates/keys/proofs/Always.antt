@@ -9,7 +9,7 @@ use native.Mathlib.Omega.{arith}
 use borrow.Author.Tests.{eqb-true, eq-eqb}
 use lib.ListN.{get_or}
 use lib.Seq.{get_or-set_other}
-use Rattle.words.specs.Choice.{if◌then◌else◌}
+use Rattle.words.specs.Choice.{If◌then◌else◌}
 use Rattle.words.proofs.Choosing.{not_both, either_line, first_decides}
 use Rattle.words.proofs.Writing.{outside_part}
 use Rattle.page.specs.Marks.{has_bit}
@@ -52,7 +52,7 @@ module _ (key : ℕ) (t : Terminal) where
   abbrev Always : Stepped → Type 0
   Always step = KeyAlways key t step
 
-  line : {test : Bool} {a b : Stepped} → (test ≡ true → Always a) → Always b → Always (if test then a else b)
+  line : {test : Bool} {a b : Stepped} → (test ≡ true → Always a) → Always b → Always (If test then a else b)
   line {test} {a} {b} first rest = either_line Always test a b first (λ _. rest)
 
   -- The kinds of steps.

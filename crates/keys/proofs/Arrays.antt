@@ -2,7 +2,7 @@
 use mathlib.Core.Bool.{Bool}
 use mathlib.Core.List.{List}
 use Prim.Native.Nat.{ℕ}
-use Rattle.words.specs.Choice.{if◌then◌else◌}
+use Rattle.words.specs.Choice.{If◌then◌else◌}
 use Rattle.words.proofs.Choosing.{either_line}
 use Rattle.fields.specs.declared.Sought.{Sought}
 use Rattle.fields.specs.declared.Sought.TheVariants.{At, Nowhere}
@@ -16,7 +16,7 @@ use Rattle.keys.specs.Keys.{gone_to, typed_step, to_next_field, to_previous_fiel
 abbrev Keeps : Stepped → Type 0
 Keeps step = Arrays step.terminal.state
 
-line : (test : Bool) (a b : Stepped) → Keeps a → Keeps b → Keeps (if test then a else b)
+line : (test : Bool) (a b : Stepped) → Keeps a → Keeps b → Keeps (If test then a else b)
 line test a b first rest = either_line Keeps test a b (λ _. first) (λ _. rest)
 
 module _ (t : Terminal) (has : Arrays t.state) where

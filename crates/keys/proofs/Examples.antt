@@ -5,7 +5,7 @@ use mathlib.Core.Bool.{Bool, true, false}
 use Prim.Native.Nat.{ℕ}
 use Prim.Native.Char.{code}
 use lib.ListN.{length, replicate}
-use Rattle.words.specs.Choice.{if◌then◌else◌, ◌and◌, ◌or◌, ◌is◌to◌}
+use Rattle.words.specs.Choice.{If◌then◌else◌, ◌and◌, ◌or◌, ◌is◌to◌}
 use Rattle.words.specs.Text.{bytes}
 use Rattle.words.specs.Lists.{within, some, all_from, some_from, each_from, numbers_from, on_part, selected}
 use Rattle.page.specs.Marks.{numeric_takes, alphabetic_takes, takes, unprotected}
@@ -292,7 +292,7 @@ examples =
 
 -- Each key leaves what the example says.
 as_worked_out : map as_run examples ≡ map (λ (e : Example). e.seen) examples
-unfolding characters marks on as_run goes_on stored_on sent_on in_full all_sent_on goes stored sent all_sent closed ends whole kinds kinds_after required examples if◌then◌else◌ ◌and◌ ◌or◌ ◌is◌to◌ within each_from numbers_from on_part selected unprotected typed tagged blanked closed_up moved_right mark_after_block modified_cleared place_of decimal place_bytes joined starts_field field_start end_from field_end fields_from fields_of or_else first_field last_field first_after last_before next_field previous_field first_unprotected_from first_unprotected next_unprotected entry_bytes encode entry_of some_from is_in_block entries_sent block unlocked back_by on_by up_by down_by right_by left_by bytes_of block_transmission send_block is_typing gone_to typed_step to_next_field to_previous_field to_first_unprotected field_blanked rest_shifted is_not_taken is_held_back taken_step key_step numeric_takes alphabetic_takes takes all_from takes_from_right takes_from_left some is_left_blank some_left_blank
+unfolding characters marks on as_run goes_on stored_on sent_on in_full all_sent_on goes stored sent all_sent closed ends whole kinds kinds_after required examples If◌then◌else◌ ◌and◌ ◌or◌ ◌is◌to◌ within each_from numbers_from on_part selected unprotected typed tagged blanked closed_up moved_right mark_after_block modified_cleared place_of decimal place_bytes joined starts_field field_start end_from field_end fields_from fields_of or_else first_field last_field first_after last_before next_field previous_field first_unprotected_from first_unprotected next_unprotected entry_bytes encode entry_of some_from is_in_block entries_sent block unlocked back_by on_by up_by down_by right_by left_by bytes_of block_transmission send_block is_typing gone_to typed_step to_next_field to_previous_field to_first_unprotected field_blanked rest_shifted is_not_taken is_held_back taken_step key_step numeric_takes alphabetic_takes takes all_from takes_from_right takes_from_left some is_left_blank some_left_blank
 as_worked_out = refl
 
 -- 268: soft lock, message and byte are cleared; the manual lock, and all else, stays. It is the one key that a lock
@@ -303,7 +303,7 @@ locked manual soft message byte =
     record { state = with_locks t.state (record { manual = manual; soft = soft; message = message; byte = byte }); page = t.page }
 
 unlocks : map (λ (t : Terminal). (key_step 268 t).terminal) (locked false true 1 0x42 ∷ locked true true 3 0 ∷ locked true false 0 0 ∷ []) ≡ (locked false false 0 0 ∷ locked true false 0 0 ∷ locked true false 0 0 ∷ [])
-unfolding characters marks on locked if◌then◌else◌ ◌and◌ ◌is◌to◌ is_typing unlocked is_not_taken is_held_back taken_step key_step
+unfolding characters marks on locked If◌then◌else◌ ◌and◌ ◌is◌to◌ is_typing unlocked is_not_taken is_held_back taken_step key_step
 unlocks = refl
 
 locked_out : Terminal → List Bool
@@ -325,7 +325,7 @@ lacking : Terminal → List Bool
 lacking t = map (λ (key : ℕ). lacks_cell key t) (0x41 ∷ 263 ∷ 264 ∷ 265 ∷ 260 ∷ 261 ∷ 256 ∷ 262 ∷ 266 ∷ [])
 
 lacks : map lacking (on (page_of characters marks) 1 1 ∷ on (page_of characters marks) 1 3 ∷ on closed 1 1 ∷ []) ≡ ((true ∷ true ∷ true ∷ true ∷ false ∷ false ∷ false ∷ false ∷ false ∷ []) ∷ (false ∷ false ∷ false ∷ false ∷ false ∷ false ∷ false ∷ false ∷ false ∷ []) ∷ (true ∷ true ∷ true ∷ true ∷ true ∷ true ∷ false ∷ false ∷ false ∷ []) ∷ [])
-unfolding characters marks on closed lacking if◌then◌else◌ ◌and◌ ◌or◌ ◌is◌to◌ unprotected place_of joined starts_field end_from field_end fields_from fields_of is_typing is_editing is_field_move no_field lacks_cell
+unfolding characters marks on closed lacking If◌then◌else◌ ◌and◌ ◌or◌ ◌is◌to◌ unprotected place_of joined starts_field end_from field_end fields_from fields_of is_typing is_editing is_field_move no_field lacks_cell
 lacks = refl
 
 -- Line 8, for O, 5, a blank, 263, 264, 265 and 260: on a numeric cell, on an alphabetic one, and on a plain one before
@@ -334,7 +334,7 @@ not_taken : Terminal → List Bool
 not_taken t = map (λ (key : ℕ). is_not_taken key t) (0x4F ∷ 0x35 ∷ 0x20 ∷ 263 ∷ 264 ∷ 265 ∷ 260 ∷ [])
 
 not_taken_lem : map not_taken (on kinds 1 3 ∷ on kinds 1 4 ∷ on kinds 2 2 ∷ []) ≡ ((true ∷ false ∷ false ∷ false ∷ true ∷ false ∷ false ∷ []) ∷ (false ∷ true ∷ false ∷ false ∷ false ∷ false ∷ false ∷ []) ∷ (false ∷ false ∷ false ∷ false ∷ true ∷ true ∷ false ∷ []) ∷ [])
-unfolding on kinds not_taken if◌then◌else◌ ◌and◌ ◌or◌ ◌is◌to◌ numeric_takes alphabetic_takes takes all_from takes_from_right takes_from_left unprotected joined end_from field_end is_typing is_not_taken
+unfolding on kinds not_taken If◌then◌else◌ ◌and◌ ◌or◌ ◌is◌to◌ numeric_takes alphabetic_takes takes all_from takes_from_right takes_from_left unprotected joined end_from field_end is_typing is_not_taken
 not_taken_lem = refl
 
 -- Line 9, for 266 and, beside it, A, 260, 263, 265, 267 and 268: with a required field blank, and with none.
@@ -350,5 +350,5 @@ held_back_lem : map held_back
     ∷ (true ∷ false ∷ false ∷ false ∷ false ∷ false ∷ false ∷ [])
     ∷ (false ∷ false ∷ false ∷ false ∷ false ∷ false ∷ false ∷ [])
     ∷ [])
-unfolding on required held_back if◌then◌else◌ ◌and◌ ◌or◌ some all_from some_from unprotected joined starts_field end_from field_end fields_from fields_of is_left_blank some_left_blank is_held_back
+unfolding on required held_back If◌then◌else◌ ◌and◌ ◌or◌ some all_from some_from unprotected joined starts_field end_from field_end fields_from fields_of is_left_blank some_left_blank is_held_back
 held_back_lem = refl

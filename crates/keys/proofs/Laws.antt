@@ -7,7 +7,7 @@ use Prim.Native.Nat.{ℕ, ◌-◌, ◌<◌, ◌≤◌}
 use native.Mathlib.Omega.{arith}
 use borrow.Author.Tests.{not-true, not-false}
 use lib.ListN.{length, get_or}
-use Rattle.words.specs.Choice.{if◌then◌else◌}
+use Rattle.words.specs.Choice.{If◌then◌else◌}
 use Rattle.words.specs.Lists.{every}
 use Rattle.words.proofs.Choosing.{not_both, either_way, refuted}
 use Rattle.words.proofs.Elements.{run_length}
@@ -58,7 +58,7 @@ is_unprotected told is = sym told ∙ not-false _ is
 
 -- On a protected cell a key that stores does nothing.
 pub stays : (t : Terminal) (stepped : Stepped) {answer : Bool} {step : Step} → answer ≡ unprotected_at t (cursor_cell t.state) → not answer ≡ true → told step t.page ≡ tells (goes_to t.state t) → told step t.page ≡ tells (if_unprotected t stepped)
-unfolding if◌then◌else◌
+unfolding If◌then◌else◌
 stays t stepped told is quiet = rw (sym told ∙ not-true _ is) quiet
 
 -- The rest of the cursor's field stands on the page, the cursor's cell at least.
@@ -75,7 +75,7 @@ rest_on_page {t} valid =
 
 -- 264 and 265, whatever the change: it is made on the rest of the field, and these cells are counted.
 pub rest_shifted_lem : (t : Terminal) (change : List ℕ → List ℕ) {step : Step} {page : Page} → unprotected_at t (cursor_cell t.state) ≡ true → ((cells : List ℕ) (page : Page) → length cells ≡ end_here t - cursor_cell t.state → told step page ≡ tells (stores cells false t.state page)) → page ≡ part_stored change (cursor_cell t.state) (end_here t) t.page → told step page ≡ tells (rest_shifted change t)
-unfolding rest_shifted if◌then◌else◌
+unfolding rest_shifted If◌then◌else◌
 rest_shifted_lem t change is_unprotected stored left =
     rw (is_unprotected, stored (cells_from (cursor_cell t.state) (end_here t)) _ (run_length (cursor_cell t.state) (end_here t - cursor_cell t.state)), left)
 

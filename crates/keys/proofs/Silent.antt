@@ -5,7 +5,7 @@ use mathlib.Core.List.{List}
 use Prim.Native.Nat.{ℕ, ◌≤◌}
 use native.Mathlib.Omega.{arith}
 use borrow.Author.Tests.{eqb-true, ne_eqb}
-use Rattle.words.specs.Choice.{if◌then◌else◌, ◌and◌, ◌is◌to◌}
+use Rattle.words.specs.Choice.{If◌then◌else◌, ◌and◌, ◌is◌to◌}
 use Rattle.words.proofs.Choosing.{then_case, else_case, either_line, first_fails, range_holds}
 use Rattle.page.specs.Page.{Page}
 use Rattle.steps.specs.declared.Step.{Step}
@@ -50,7 +50,7 @@ pub typing_not_held_back : (key : ℕ) (t : Terminal) → is_typing key ≡ true
 typing_not_held_back key t typing = let range = typing_range key typing in not_held_back key t (λ e. omega arith)
 
 send_step : (t : Terminal) → taken_step 266 t ≡ send_block (sends_full t.state) t
-unfolding taken_step is_typing ◌is◌to◌ ◌and◌ if◌then◌else◌
+unfolding taken_step is_typing ◌is◌to◌ ◌and◌ If◌then◌else◌
 send_step t = refl
 
 -- Where the code tells what such a key does, it tells what is written.

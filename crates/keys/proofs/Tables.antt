@@ -6,7 +6,7 @@ use mathlib.Core.List.{List}
 use Prim.Native.Nat.{ℕ, ◌-◌, ◌<◌, ◌≤◌}
 use native.Mathlib.Omega.{arith}
 use lib.ListN.{length}
-use Rattle.words.specs.Choice.{if◌then◌else◌}
+use Rattle.words.specs.Choice.{If◌then◌else◌}
 use Rattle.words.proofs.Choosing.{either_line}
 use Rattle.page.specs.Page.{part_stored, mark_after_block}
 use Rattle.page.proofs.Keeping.{KeepsPart, blanked_keeps, closed_up_keeps, moved_right_keeps}
@@ -43,7 +43,7 @@ module _ (t : Terminal) (valid : Valid t) where
   abbrev Holds : Stepped → Type 0
   Holds step = Sound t step × Tags t.page step.cells step.terminal.page
 
-  line : {test : Bool} {a b : Stepped} → (test ≡ true → Holds a) → Holds b → Holds (if test then a else b)
+  line : {test : Bool} {a b : Stepped} → (test ≡ true → Holds a) → Holds b → Holds (If test then a else b)
   line {test} {a} {b} first rest = either_line Holds test a b first (λ _. rest)
 
   -- What is known of a valid terminal.

@@ -8,7 +8,7 @@ use native.Mathlib.Omega.{arith}
 use borrow.Author.Tests.{eqb-true, not-false}
 use lib.ListN.{get_or}
 use lib.Seq.{get_or-set_same}
-use Rattle.words.specs.Choice.{if◌then◌else◌, ◌and◌, ◌is◌to◌}
+use Rattle.words.specs.Choice.{If◌then◌else◌, ◌and◌, ◌is◌to◌}
 use Rattle.words.proofs.Choosing.{then_case, either_line, less_or_not}
 use Rattle.words.proofs.Ranges.{in_range}
 use Rattle.page.specs.Marks.{takes}
@@ -26,7 +26,7 @@ use Rattle.keys.proofs.Always.{field_unprotected}
 
 -- A 20 is taken everywhere.
 takes_blank : (mark character : ℕ) → character ≡ 0x20 → takes mark character ≡ true
-unfolding takes if◌then◌else◌
+unfolding takes If◌then◌else◌
 takes_blank mark character blank = ap (takes mark) blank
 
 -- What line 8 asks of each cell that a character comes into.
@@ -39,11 +39,11 @@ module _ (t : Terminal) where
   typed_taken key typing taken = not-false _ (sym (then_case _ _ _ typing) ∙ taken)
 
   taken_on_the_left : is_not_taken 264 t ≡ false → (cell : ℕ) → cursor ≤ cell → cell + 1 < end_here t → takes_at t cell (character_at t (cell + 1)) ≡ true
-  unfolding is_not_taken is_typing ◌is◌to◌ ◌and◌ if◌then◌else◌ takes_from_right
+  unfolding is_not_taken is_typing ◌is◌to◌ ◌and◌ If◌then◌else◌ takes_from_right
   taken_on_the_left taken cell low high = in_range _ cursor (carried t) cell (not-false _ taken) low (omega arith)
 
   taken_on_the_right : is_not_taken 265 t ≡ false → (cell : ℕ) → cursor < cell → cell < end_here t → takes_at t cell (character_at t (cell - 1)) ≡ true
-  unfolding is_not_taken is_typing ◌is◌to◌ ◌and◌ if◌then◌else◌ takes_from_left
+  unfolding is_not_taken is_typing ◌is◌to◌ ◌and◌ If◌then◌else◌ takes_from_left
   taken_on_the_right taken cell low high =
       let next : cell - 1 + 1 ≡ cell = omega arith in
       rw next at (in_range _ cursor (carried t) (cell - 1) (not-false _ taken) (omega arith) (omega arith))
@@ -52,7 +52,7 @@ module _ (t : Terminal) (valid : Valid t) where
   abbrev Taken : Stepped → Type 0
   Taken step = Takes t.page step.cells step.terminal.page
 
-  line : (test : Bool) (a b : Stepped) → (test ≡ true → Taken a) → Taken b → Taken (if test then a else b)
+  line : (test : Bool) (a b : Stepped) → (test ≡ true → Taken a) → Taken b → Taken (If test then a else b)
   line test a b first rest = either_line Taken test a b first (λ _. rest)
 
   -- A step that stores no cell.

@@ -6,7 +6,7 @@ use mathlib.Core.Logic.{◌⊎◌, inl, inr, ⊎_elim}
 use Prim.Native.Nat.{ℕ, ◌-◌, ◌<◌}
 use native.Mathlib.Omega.{arith}
 use lib.ListN.{length, get_or}
-use Rattle.words.specs.Choice.{if◌then◌else◌, ◌and◌, ◌or◌, ◌is◌to◌}
+use Rattle.words.specs.Choice.{If◌then◌else◌, ◌and◌, ◌or◌, ◌is◌to◌}
 use Rattle.words.proofs.Choosing.{not_both, then_case, else_case, either_way, first_holds}
 use Rattle.words.proofs.Elements.{run_length}
 use Rattle.page.specs.Marks.{has_bit, is_modified, takes, unprotected}
@@ -102,7 +102,7 @@ module _ (key : ℕ) (t : Terminal) where
 
 -- 268 clears the soft lock, the message and its byte, and does nothing else.
 pub unlocked_step : (t : Terminal) → key_step 268 t ≡ goes_to (with_locks t.state (record { manual = t.state.locks.manual; soft = false; message = 0; byte = 0 })) t
-unfolding key_step is_not_taken is_held_back taken_step is_typing ◌is◌to◌ ◌and◌ if◌then◌else◌ unlocked
+unfolding key_step is_not_taken is_held_back taken_step is_typing ◌is◌to◌ ◌and◌ If◌then◌else◌ unlocked
 unlocked_step t = refl
 
 -- A key that would bring a character where it isn't taken does nothing.
@@ -134,16 +134,16 @@ module _ (t : Terminal) where
 
     -- The whole field for 263.
     pub blanked_count : counted (key_step 263 t) ≡ end_here t - start_here t
-    unfolding key_step is_not_taken is_held_back taken_step is_typing ◌is◌to◌ ◌and◌ if◌then◌else◌ field_blanked
+    unfolding key_step is_not_taken is_held_back taken_step is_typing ◌is◌to◌ ◌and◌ If◌then◌else◌ field_blanked
     blanked_count = ap counted (then_case _ _ _ here) ∙ run_length (start_here t) (end_here t - start_here t)
 
     -- Cursor to field end for 264 and 265.
     pub closed_up_count : is_not_taken 264 t ≡ false → counted (key_step 264 t) ≡ end_here t - cursor_cell t.state
-    unfolding taken_step is_typing ◌is◌to◌ ◌and◌ if◌then◌else◌ rest_shifted
+    unfolding taken_step is_typing ◌is◌to◌ ◌and◌ If◌then◌else◌ rest_shifted
     closed_up_count taken = ap counted (taken_step_lem 264 t taken (not_held_back 264 t (λ e. omega arith)) ∙ then_case _ _ _ here) ∙ run_length (cursor_cell t.state) (end_here t - cursor_cell t.state)
 
     pub moved_right_count : is_not_taken 265 t ≡ false → counted (key_step 265 t) ≡ end_here t - cursor_cell t.state
-    unfolding taken_step is_typing ◌is◌to◌ ◌and◌ if◌then◌else◌ rest_shifted
+    unfolding taken_step is_typing ◌is◌to◌ ◌and◌ If◌then◌else◌ rest_shifted
     moved_right_count taken = ap counted (taken_step_lem 265 t taken (not_held_back 265 t (λ e. omega arith)) ∙ then_case _ _ _ here) ∙ run_length (cursor_cell t.state) (end_here t - cursor_cell t.state)
 
   -- 0 for the others, for every key where the cursor's cell is protected, and for one whose character isn't taken.

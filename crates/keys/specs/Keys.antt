@@ -2,7 +2,7 @@
 -- no cell or field does nothing, nor one that brings a character where it isn't taken, nor 266 where a required field
 -- is blank: line 7, 8 or 9 is then given.
 use Rattle.std.specs.Prelude.{Bool, true, false, not, List, [], ◌∷◌, ℕ, ◌-◌, eqb}
-use Rattle.words.specs.Choice.{if◌then◌else◌, ◌and◌, ◌or◌, ◌is◌to◌}
+use Rattle.words.specs.Choice.{If◌then◌else◌, ◌and◌, ◌or◌, ◌is◌to◌}
 use Rattle.words.specs.Lists.{numbers_from}
 use Rattle.page.specs.Page.{typed, takes_from_right, takes_from_left, blanked, closed_up, moved_right, part_stored}
 use Rattle.fields.specs.declared.Sought.{Sought}
@@ -46,8 +46,8 @@ no_field (field ∷ later) = false
 -- Line 7: a key that stores, on a protected cell; a move to a field, where there is none.
 unfoldable pub lacks_cell : ℕ → Terminal → Bool
 lacks_cell key t =
-    if is_typing key or is_editing key then not (unprotected_at t (cursor_cell t.state))
-    else if is_field_move key then no_field (fields_here t)
+    If is_typing key or is_editing key then not (unprotected_at t (cursor_cell t.state))
+    else If is_field_move key then no_field (fields_here t)
     else false
 
 -- How many characters 264 and 265 carry into the next cell: those from the cursor's to its field's end, but one.
@@ -58,9 +58,9 @@ carried t = end_here t - cursor_cell t.state - 1
 -- one that 265 loses.
 unfoldable pub is_not_taken : ℕ → Terminal → Bool
 is_not_taken key t =
-    if is_typing key then not (takes_at t (cursor_cell t.state) key)
-    else if eqb key 264 then not (takes_from_right (seen t) (cursor_cell t.state) (carried t))
-    else if eqb key 265 then not (takes_from_left (seen t) (cursor_cell t.state) (carried t))
+    If is_typing key then not (takes_at t (cursor_cell t.state) key)
+    else If eqb key 264 then not (takes_from_right (seen t) (cursor_cell t.state) (carried t))
+    else If eqb key 265 then not (takes_from_left (seen t) (cursor_cell t.state) (carried t))
     else false
 
 -- Line 9: 266, in either mode, while some field has a required cell and holds nothing but 20s. (ESC S is never held
@@ -80,7 +80,7 @@ cells_from from end = numbers_from (λ _. true) from (end - from)
 -- A key that stores does so on an unprotected cell only.
 abbrev pub if_unprotected : Terminal → Stepped → Stepped
 if_unprotected t stepped =
-    if unprotected_at t (cursor_cell t.state) then stepped
+    If unprotected_at t (cursor_cell t.state) then stepped
     else goes_to t.state t
 
 -- A typed character goes into the cursor's cell, and the cursor on to where the next one can go.
@@ -120,24 +120,24 @@ rest_shifted change t =
 -- What a key does that lines 8 and 9 let pass. A number that is no key does nothing.
 unfoldable pub taken_step : ℕ → Terminal → Stepped
 taken_step key t =
-    if is_typing key then typed_step key t
-    else if eqb key 256 then goes_to (up_by 1 t.state) t
-    else if eqb key 257 then goes_to (down_by 1 t.state) t
-    else if eqb key 258 then goes_to (left_by 1 t.state) t
-    else if eqb key 259 then goes_to (right_by 1 t.state) t
-    else if eqb key 260 then to_next_field t
-    else if eqb key 261 then to_previous_field t
-    else if eqb key 262 then to_first_unprotected t
-    else if eqb key 263 then field_blanked t
-    else if eqb key 264 then rest_shifted closed_up t
-    else if eqb key 265 then rest_shifted moved_right t
-    else if eqb key 266 then send_block (sends_full t.state) t
-    else if eqb key 268 then goes_to (unlocked t.state) t
+    If is_typing key then typed_step key t
+    else If eqb key 256 then goes_to (up_by 1 t.state) t
+    else If eqb key 257 then goes_to (down_by 1 t.state) t
+    else If eqb key 258 then goes_to (left_by 1 t.state) t
+    else If eqb key 259 then goes_to (right_by 1 t.state) t
+    else If eqb key 260 then to_next_field t
+    else If eqb key 261 then to_previous_field t
+    else If eqb key 262 then to_first_unprotected t
+    else If eqb key 263 then field_blanked t
+    else If eqb key 264 then rest_shifted closed_up t
+    else If eqb key 265 then rest_shifted moved_right t
+    else If eqb key 266 then send_block (sends_full t.state) t
+    else If eqb key 268 then goes_to (unlocked t.state) t
     else goes_to t.state t
 
 -- The step of a key.
 unfoldable pub key_step : ℕ → Terminal → Stepped
 key_step key t =
-    if is_not_taken key t then goes_to t.state t
-    else if is_held_back key t then goes_to t.state t
+    If is_not_taken key t then goes_to t.state t
+    else If is_held_back key t then goes_to t.state t
     else taken_step key t

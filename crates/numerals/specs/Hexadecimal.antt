@@ -2,7 +2,7 @@
 use Rattle.std.specs.Prelude.{Bool, ℕ, ◌+◌, ◌-◌, ◌*◌, ◌/◌, ◌%◌, eqb, ltb, leb, length}
 use mathlib.Core.List.{List, [], ◌∷◌, ◌++◌, flat_map}
 use Prim.Native.Char.{code}
-use Rattle.words.specs.Choice.{if◌then◌else◌, ◌and◌, ◌or◌, ◌is◌to◌}
+use Rattle.words.specs.Choice.{If◌then◌else◌, ◌and◌, ◌or◌, ◌is◌to◌}
 use Rattle.words.specs.Lists.{every}
 
 -- 0 to 9, and A to F; 0x37 is ten before A.
@@ -11,12 +11,12 @@ is_digit digit = digit is code "0" to code "9" or digit is code "A" to code "F"
 
 unfoldable pub digit_value : ℕ → ℕ
 digit_value digit =
-    if leb digit (code "9") then digit - code "0"
+    If leb digit (code "9") then digit - code "0"
     else digit - 0x37
 
 unfoldable pub digit_of : ℕ → ℕ
 digit_of value =
-    if ltb value 10 then code "0" + value
+    If ltb value 10 then code "0" + value
     else 0x37 + value
 
 -- Bytes as digits.
@@ -44,5 +44,5 @@ is_hexadecimal text = eqb (length text % 2) 0 and every is_digit text
 
 unfoldable pub bytes_in : List ℕ → List ℕ
 bytes_in text =
-    if is_hexadecimal text then pairs_of text
+    If is_hexadecimal text then pairs_of text
     else []

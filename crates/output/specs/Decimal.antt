@@ -1,13 +1,13 @@
 -- Document 01, "Fields, keys and blocks": rows and columns in blocks and reports have no leading zeros.
 use Rattle.std.specs.Prelude.{List, [], ◌∷◌, ◌++◌, ℕ, ◌+◌, ◌/◌, ◌%◌, ltb}
 use Prim.Native.Char.{code}
-use Rattle.words.specs.Choice.{if◌then◌else◌}
+use Rattle.words.specs.Choice.{If◌then◌else◌}
 
 -- A number below 1,000 in decimal digits.
 unfoldable pub decimal : ℕ → List ℕ
 decimal number =
-    if ltb number 10 then (code "0" + number) ∷ []
-    else if ltb number 100 then (code "0" + number / 10) ∷ (code "0" + number % 10) ∷ []
+    If ltb number 10 then (code "0" + number) ∷ []
+    else If ltb number 100 then (code "0" + number / 10) ∷ (code "0" + number % 10) ∷ []
     else (code "0" + number / 100) ∷ (code "0" + number / 10 % 10) ∷ (code "0" + number % 10) ∷ []
 
 -- ESC [ row ; column and a final byte.

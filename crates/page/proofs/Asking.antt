@@ -7,7 +7,7 @@ use native.Mathlib.Omega.{arith}
 use borrow.Author.Tests.{le-leb, ltb-true, ltb-false, leb-true}
 use lib.Dec.{ltb, leb}
 use lib.ListN.{length, drop, get_or}
-use Rattle.words.specs.Choice.{if◌then◌else◌, ◌and◌}
+use Rattle.words.specs.Choice.{If◌then◌else◌, ◌and◌}
 use Rattle.words.specs.Lists.{every}
 use Rattle.words.proofs.Choosing.{then_case, else_case, either_way, first_fails, second_fails, both_hold}
 use Rattle.words.proofs.Walking.{next_element}
@@ -44,7 +44,7 @@ module _ (test : ℕ → Bool) (a b : ℕ) where
       (λ p. p ∙ sym (both_hold _ _ p (follows p)))
       (λ p. p ∙ sym (first_fails _ _ p))
 
-  one_tells : (t : Bool) → (t ≡ true → test b ≡ true → test a ≡ true) → (t ≡ false → test a ≡ true → test b ≡ true) → test (if t then b else a) ≡ (test a and test b)
+  one_tells : (t : Bool) → (t ≡ true → test b ≡ true → test a ≡ true) → (t ≡ false → test a ≡ true → test b ≡ true) → test (If t then b else a) ≡ (test a and test b)
   one_tells t taken left =
       either_way t
       (λ p. rw (then_case t b a p) (tells_of_both (taken p)))
@@ -52,13 +52,13 @@ module _ (test : ℕ → Bool) (a b : ℕ) where
 
 -- The larger of two numbers is no more than a limit if both are; the smaller one reaches it if both do.
 module _ (a b limit : ℕ) where
-  pub larger_within : leb (if ltb a b then b else a) limit ≡ (leb a limit and leb b limit)
+  pub larger_within : leb (If ltb a b then b else a) limit ≡ (leb a limit and leb b limit)
   larger_within =
       one_tells (λ n. leb n limit) a b (ltb a b)
       (λ t p. le-leb a limit (omega (arith, ltb-true a b t, leb-true b limit p)))
       (λ t p. le-leb b limit (omega (arith, ltb-false a b t, leb-true a limit p)))
 
-  pub smaller_reaches : leb limit (if ltb b a then b else a) ≡ (leb limit a and leb limit b)
+  pub smaller_reaches : leb limit (If ltb b a then b else a) ≡ (leb limit a and leb limit b)
   smaller_reaches =
       one_tells (λ n. leb limit n) a b (ltb b a)
       (λ t p. le-leb limit a (omega (arith, ltb-true b a t, leb-true limit b p)))

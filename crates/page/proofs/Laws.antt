@@ -8,7 +8,7 @@ use native.Mathlib.Omega.{arith}
 use borrow.Author.Tests.{not-false}
 use lib.ListN.{length, take, drop, get_or, set, replicate, length-drop, drop_of_length-le}
 use lib.Seq.{drop-cons, drop-drop, set_at, length-take-le}
-use Rattle.words.specs.Choice.{if◌then◌else◌, ◌and◌, ◌or◌}
+use Rattle.words.specs.Choice.{If◌then◌else◌, ◌and◌, ◌or◌}
 use Rattle.words.specs.Lists.{within, each, on_part}
 use Rattle.words.proofs.Choosing.{then_case, else_case, both_hold, first_fails, second_fails}
 use Rattle.words.proofs.Writing.{pushed, each_last, each_first, inside, before_range, after_range}
@@ -36,7 +36,7 @@ stores_part change from to page part marks h is-changed is-tagged =
 
 -- What erasing makes of the character or the mark x of a cell.
 abbrev erasing : Bool → ℕ → ℕ → List ℕ → ℕ → ℕ → ℕ → ℕ
-erasing mode from to marks v cell x = if within from to cell and erasable mode marks cell then v else x
+erasing mode from to marks v cell x = If within from to cell and erasable mode marks cell then v else x
 
 module _ (mode : Bool) (from to : ℕ) (marks : List ℕ) (v cell x : ℕ) where
   pub erases : from ≤ cell → cell < to → erasable mode marks cell ≡ true → erasing mode from to marks v cell x ≡ v

@@ -2,7 +2,7 @@
 -- marks.
 use Rattle.std.specs.Prelude.{Bool, true, not, List, ℕ, ◌+◌, ◌*◌, ◌/◌, ◌%◌, ◌^◌, ltb, eqb, get_or}
 use Prim.Native.Char.{code}
-use Rattle.words.specs.Choice.{if◌then◌else◌, ◌and◌, ◌or◌, ◌is◌to◌}
+use Rattle.words.specs.Choice.{If◌then◌else◌, ◌and◌, ◌or◌, ◌is◌to◌}
 
 -- `mark` is all marks of a cell. Bit n of it, the lowest being 0: read, set; the other bits stay.
 abbrev pub has_bit : ℕ → ℕ → Bool
@@ -86,9 +86,9 @@ alphabetic_takes character =
 -- Whether a cell with these marks takes a character that a key brings: 20 is taken everywhere.
 unfoldable pub takes : ℕ → ℕ → Bool
 takes mark character =
-    if eqb character 0x20 then true
-    else if is_numeric mark then numeric_takes character
-    else if is_alphabetic mark then alphabetic_takes character
+    If eqb character 0x20 then true
+    else If is_numeric mark then numeric_takes character
+    else If is_alphabetic mark then alphabetic_takes character
     else true
 
 -- Whether a cell is unprotected, by its number: the one place that says what counts as protected.

@@ -1,7 +1,7 @@
 -- What the commands and keys of document 01 do to the lent characters and marks.
 use Rattle.std.specs.Prelude.{Bool, List, [], ◌∷◌, ◌++◌, length, take, drop, get_or, set, replicate}
 use Rattle.std.specs.Prelude.{◌≡◌, ℕ, ◌+◌, ◌-◌, eqb}
-use Rattle.words.specs.Choice.{if◌then◌else◌, ◌and◌, ◌or◌}
+use Rattle.words.specs.Choice.{If◌then◌else◌, ◌and◌, ◌or◌}
 use Rattle.words.specs.Lists.{within, every, all_from, some_from, each, numbers_from, on_part}
 use Rattle.page.specs.Marks.{is_protected, with_modified, without_modified, valid_character, valid_mark}
 use Rattle.page.specs.Marks.{is_required, takes, unprotected}
@@ -43,8 +43,8 @@ unfoldable pub erased : Bool → ℕ → ℕ → Page → Page
 erased mode from to page =
     let hit : ℕ → Bool = λ cell. within from to cell and erasable mode page.marks cell in
     record {
-      characters = each (λ cell character. if hit cell then 0x20 else character) page.characters;
-      marks = each (λ cell mark. if hit cell then 0 else mark) page.marks;
+      characters = each (λ cell character. If hit cell then 0x20 else character) page.characters;
+      marks = each (λ cell mark. If hit cell then 0 else mark) page.marks;
     }
 
 unfoldable pub cells_erased : Bool → ℕ → ℕ → Page → List ℕ
@@ -88,7 +88,7 @@ pushed_down columns page =
 
 -- "Fields, keys and blocks", 263 to 265: each cell stored, from `from` to before `to`, becomes modified.
 unfoldable pub tagged : ℕ → ℕ → List ℕ → List ℕ
-tagged from to marks = each (λ cell mark. if within from to cell then with_modified mark else mark) marks
+tagged from to marks = each (λ cell mark. If within from to cell then with_modified mark else mark) marks
 
 -- 263: the part becomes 20s.
 unfoldable pub blanked : List ℕ → List ℕ
@@ -127,7 +127,7 @@ all_blank characters = all_from (λ cell. eqb (get_or characters cell 0) 0x20)
 -- What a block that was sent leaves of the marks.
 unfoldable pub mark_after_block : ℕ → ℕ
 mark_after_block mark =
-    if is_protected mark then mark
+    If is_protected mark then mark
     else without_modified mark
 
 unfoldable pub modified_cleared : List ℕ → List ℕ

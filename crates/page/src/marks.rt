@@ -1,6 +1,6 @@
 // The marks of a cell, a bit for each; see specs/Marks.antt.
 ghost use Rattle.std.specs.Prelude.{◌≡◌, ◌<◌, length, get_or, set};
-ghost use Rattle.words.specs.Choice.{if◌then◌else◌};
+ghost use Rattle.words.specs.Choice.{If◌then◌else◌};
 ghost use Rattle.page.specs.Marks.{is_protected, is_modified, is_bold, is_underlined, is_blinking, is_reversed};
 ghost use Rattle.page.specs.Marks.{is_concealed, is_numeric, is_alphabetic, is_required, with_modified, without_modified};
 ghost use Rattle.page.specs.Marks.{valid_mark, numeric_takes, alphabetic_takes, takes, unprotected};
@@ -148,7 +148,7 @@ pub fn takes(mark: Mark, character: u8) -> bool
 
 // One mark or the other, without a branch: so a loop that stores it takes many cells at a time.
 pub fn chosen(first: bool, one: Mark, other: Mark) -> Mark
-    ensures { result ≡ (if first then one else other) }
+    ensures { result ≡ (If first then one else other) }
 {
     if first {
         return one;

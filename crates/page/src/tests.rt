@@ -1,6 +1,6 @@
 // What a lent page may have, and no other; see specs/Page.antt, valid_page.
 ghost use Rattle.std.specs.Prelude.{◌≡◌, ◌-◌, ◌<◌, ◌≤◌, ltb, length};
-ghost use Rattle.words.specs.Choice.{if◌then◌else◌, ◌and◌};
+ghost use Rattle.words.specs.Choice.{If◌then◌else◌, ◌and◌};
 ghost use Rattle.words.specs.Lists.{every};
 ghost use Rattle.page.specs.Marks.{is_protected, valid_character, valid_mark};
 ghost use Rattle.page.specs.Page.{page_of, valid_page, takes_from_right, takes_from_left, some_required, all_blank};
@@ -9,7 +9,7 @@ use crate::marks::{Mark, is_protected, is_required, is_valid_mark, mark_at, take
 
 // The larger of two bytes, and the smaller.
 fn larger(a: u8, b: u8) -> u8
-    ensures { result ≡ (if ltb a b then b else a) }
+    ensures { result ≡ (If ltb a b then b else a) }
 {
     if a < b {
         return b;
@@ -18,7 +18,7 @@ fn larger(a: u8, b: u8) -> u8
 }
 
 fn smaller(a: u8, b: u8) -> u8
-    ensures { result ≡ (if ltb b a then b else a) }
+    ensures { result ≡ (If ltb b a then b else a) }
 {
     if b < a {
         return b;

@@ -1,7 +1,7 @@
 -- Document 02, M-100: what the three functions that C calls give back and leave.
 use Rattle.std.specs.Prelude.{◌≡◌, not, ℕ, ◌*◌, eqb, leb, ltb, length}
 use mathlib.Core.List.{List, [], ◌∷◌, ◌++◌, flat_map}
-use Rattle.words.specs.Choice.{if◌then◌else◌, ◌and◌}
+use Rattle.words.specs.Choice.{If◌then◌else◌, ◌and◌}
 use Rattle.words.specs.Output.{placed}
 use Rattle.page.specs.Page.{Page, page_of}
 use Rattle.state.specs.Tests.{size_fits}
@@ -45,7 +45,7 @@ most_cells = 7680
 -- Else none, and then line 1 is given: no listed size has no cells.
 unfoldable pub marks_said : ℕ → ℕ → ℕ
 marks_said cells bytes =
-    if leb cells most_cells and eqb bytes (cells * 2) then cells
+    If leb cells most_cells and eqb bytes (cells * 2) then cells
     else 0
 
 -- The marks that bytes say for a page of so many cells, each the low byte first; and the bytes of marks.
@@ -90,22 +90,22 @@ left_by lent outcome =
 -- Before document 01's refusals: 1, the result slice has another length; 2, the record has. 0 is neither.
 unfoldable pub wrong_length : List ℕ → List ℕ → ℕ
 wrong_length packed result =
-    if not (eqb (length result) result_length) then 1
-    else if not (eqb (length packed) record_length) then 2
+    If not (eqb (length result) result_length) then 1
+    else If not (eqb (length packed) record_length) then 2
     else 0
 
 -- Bad content gives 2 in its place: after document 01's 1, which looks at the size and the page slices alone.
 unfoldable pub wrong_content : List ℕ → Page → ℕ
 wrong_content packed page =
-    if not (size_fits (state_in packed).size page) then 1
-    else if not (is_good packed) then 2
+    If not (size_fits (state_in packed).size page) then 1
+    else If not (is_good packed) then 2
     else 0
 
 -- A start takes no notice of what the record held; it is lent no output.
 unfoldable pub panel_start : ℕ → ℕ → Lent → Left
 panel_start rows columns lent =
     let wrong = wrong_length lent.packed lent.result in
-    if ltb 0 wrong then untouched wrong lent
+    If ltb 0 wrong then untouched wrong lent
     else left_by lent (start_call (record { rows = rows; columns = columns }) (page_in lent))
 
 -- A call on the terminal that the record and the page say.
@@ -113,8 +113,8 @@ unfoldable pub on_terminal : (Terminal → Outcome) → Lent → Left
 on_terminal call lent =
     let wrong = wrong_length lent.packed lent.result in
     let bad = wrong_content lent.packed (page_in lent) in
-    if ltb 0 wrong then untouched wrong lent
-    else if ltb 0 bad then refused_with bad lent
+    If ltb 0 wrong then untouched wrong lent
+    else If ltb 0 bad then refused_with bad lent
     else left_by lent (call (terminal_in lent))
 
 unfoldable pub panel_host : Lent → List ℕ → Left

@@ -9,7 +9,7 @@ use native.Mathlib.Omega.{arith}
 use borrow.Author.Tests.{eqb-true, eqb-false, leb-true, leb-false, not-false}
 use lib.Dec.{eqb}
 use lib.ListN.{length, get_or}
-use Rattle.words.specs.Choice.{if◌then◌else◌, ◌and◌, ◌or◌, ◌is◌to◌}
+use Rattle.words.specs.Choice.{If◌then◌else◌, ◌and◌, ◌or◌, ◌is◌to◌}
 use Rattle.words.specs.Lists.{every}
 use Rattle.words.proofs.Choosing.{not_both, either_line, either_way, both, neither, first_decides, one_fails, one_holds, range_holds, range_fails}
 use Rattle.words.proofs.Passing.{passes}
@@ -177,7 +177,7 @@ module _ (t : Terminal) where
     abbrev there : Terminal
     there = reading t nothing_read
 
-    line : {test : Bool} {a b : Stepped} → (test ≡ true → Weighed t final a) → (test ≡ false → Weighed t final b) → Weighed t final (if test then a else b)
+    line : {test : Bool} {a b : Stepped} → (test ≡ true → Weighed t final a) → (test ≡ false → Weighed t final b) → Weighed t final (If test then a else b)
     line {test} {a} {b} first rest = either_line (Weighed t final) test a b first rest
 
     -- What is known of the letter is known of the final byte that is that letter.
@@ -414,7 +414,7 @@ module _ (t : Terminal) where
           (λ _. either_line IsN _ _ _ (λ e _. absurd (not_both e o)) (λ _ none. absurd (omega arith)))))))))))))) some
 
       plain_letters : ((allowed 0x57).zero_is ≡ 0) × ((allowed 0x4A).zero_is ≡ 0) × ((allowed 0x4B).zero_is ≡ 0) × ((allowed 0x6F).zero_is ≡ 0) × ((allowed 0x6E).zero_is ≡ 0)
-      unfolding allowed if◌then◌else◌ ◌and◌ ◌or◌ ◌is◌to◌
+      unfolding allowed If◌then◌else◌ ◌and◌ ◌or◌ ◌is◌to◌
       plain_letters = (refl, refl, refl, refl, refl)
 
       first_plain : (letter : ℕ) → eqb final letter ≡ true → (allowed letter).zero_is ≡ 0 → value_of final half.arguments 0 ≡ argument_of half 0

@@ -3,7 +3,7 @@ use mathlib.Core.Path.{◌≡◌, refl, sym, ap, ◌∙◌, subst}
 use mathlib.Core.Bool.{Bool, true, false}
 use mathlib.Core.List.{List}
 use Prim.Native.Nat.{ℕ}
-use Rattle.words.specs.Choice.{if◌then◌else◌, ◌and◌, ◌or◌, ◌is◌to◌}
+use Rattle.words.specs.Choice.{If◌then◌else◌, ◌and◌, ◌or◌, ◌is◌to◌}
 use Rattle.words.proofs.Choosing.{refuted}
 use Rattle.sequence.specs.declared.HalfRead.{HalfRead}
 use Rattle.sequence.specs.declared.Event.TheVariants.{EscCommand}
@@ -26,7 +26,7 @@ use Rattle.promises.proofs.FeedingRuns.{step_is}
 
 -- S after ESC.
 s_event : (half : HalfRead) → half.kind ≡ 1 → advance_of half 0x53 ≡ ends (EscCommand 0x53)
-unfolding advance_of inside_sequence sequence_read_on is_cancel after_esc if◌then◌else◌ ◌or◌ ◌is◌to◌ ◌and◌
+unfolding advance_of inside_sequence sequence_read_on is_cancel after_esc If◌then◌else◌ ◌or◌ ◌is◌to◌ ◌and◌
 s_event half when_after_esc = rw when_after_esc
 
 module _ (t : Terminal) where
@@ -38,7 +38,7 @@ module _ (t : Terminal) where
       blank_field (required_blank _ field blank) = none_blank field blank
 
   pub block_asked : (full : Bool) (input : Input) → Asks t full input → (step_of our_rules input t).transmission ≡ block_transmission full (block_here full t)
-  unfolding step_of is_not_taken taken_step is_typing event_step esc_step send_block if◌then◌else◌ ◌is◌to◌ ◌and◌
+  unfolding step_of is_not_taken taken_step is_typing event_step esc_step send_block If◌then◌else◌ ◌is◌to◌ ◌and◌
   block_asked full _ (by_266 _ mode none_blank) =
       ap (λ (s : Stepped). s.transmission) (taken_step_lem 266 t refl (send_not_held_back none_blank))
       ∙ ap (λ (f : Bool). block_transmission f (block_here f t)) mode

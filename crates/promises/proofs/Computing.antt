@@ -1,5 +1,5 @@
 -- What is opened where something is computed from the definitions: each name stands for all that its line lists.
-use Rattle.words.specs.Choice.{if◌then◌else◌, ◌and◌, ◌or◌, ◌is◌to◌}
+use Rattle.words.specs.Choice.{If◌then◌else◌, ◌and◌, ◌or◌, ◌is◌to◌}
 use Rattle.words.specs.Lists.{within, every, some, all_from, some_from, each_from, numbers_from, on_part, selected}
 use Rattle.words.specs.Output.{placed}
 use Rattle.sequence.specs.Record.{arguments_fit, largest_argument, valid_half_read, with_digit, with_next_argument}
@@ -39,7 +39,7 @@ use Rattle.promises.specs.Entries.{outcome_of, outcomes, total, inputs_of, input
 
 -- Tests, and the first two lines of the table.
 unfoldable pub tests : Unit {0}
-unfolding if◌then◌else◌ ◌and◌ ◌or◌ ◌is◌to◌
+unfolding If◌then◌else◌ ◌and◌ ◌or◌ ◌is◌to◌
 tests = tt
 
 unfoldable pub validity : Unit {0}

@@ -5,7 +5,7 @@ use mathlib.Core.List.{List, [], ◌∷◌, map, Memᴰ}
 use mathlib.Core.Logic.{inl, inr, ⊎_elim}
 use Prim.Native.Nat.{ℕ, ◌+◌, ◌-◌, ◌*◌, ◌/◌, ◌%◌, ◌<◌, ◌≤◌}
 use native.Mathlib.Omega.{arith}
-use Rattle.words.specs.Choice.{if◌then◌else◌, ◌and◌, ◌or◌, ◌is◌to◌}
+use Rattle.words.specs.Choice.{If◌then◌else◌, ◌and◌, ◌or◌, ◌is◌to◌}
 use Rattle.sequence.specs.declared.HalfRead.{HalfRead}
 use Rattle.sequence.specs.declared.Event.TheVariants.{Nothing}
 use Rattle.sequence.specs.Record.{nothing_read}
@@ -29,7 +29,7 @@ use Rattle.promises.proofs.FeedingText.{text_feeds}
 
 -- 03 outside a sequence.
 last_event : advance_of nothing_read 0x03 ≡ ends Nothing
-unfolding advance_of outside_sequence is_control if◌then◌else◌ ◌or◌ ◌is◌to◌ ◌and◌
+unfolding advance_of outside_sequence is_control If◌then◌else◌ ◌or◌ ◌is◌to◌ ◌and◌
 last_event = refl
 
 last_leads : (t : Terminal) → t.state.half ≡ nothing_read → Leads t (0x03 ∷ []) (reading t nothing_read)

@@ -7,7 +7,7 @@ use native.Mathlib.Omega.{arith}
 use borrow.Author.Tests.{ne_eqb, le-leb, le-ltb}
 use lib.Dec.{eqb}
 use lib.ListN.{get_or, replicate}
-use Rattle.words.specs.Choice.{if◌then◌else◌, ◌and◌, ◌or◌, ◌is◌to◌}
+use Rattle.words.specs.Choice.{If◌then◌else◌, ◌and◌, ◌or◌, ◌is◌to◌}
 use Rattle.words.proofs.Choosing.{then_case, else_case, both_hold, first_fails, second_decides, range_is, either_line, less_or_not}
 use Rattle.sequence.specs.declared.HalfRead.{HalfRead}
 use Rattle.sequence.specs.declared.Advanced.{Advanced}
@@ -56,7 +56,7 @@ digit_event half digit bracket small =
 
 -- And right after it: the first argument begins.
 first_digit_event : (digit : ℕ) → digit < 10 → advance_of bracket_read (0x30 + digit) ≡ reads_on (with_digit argument_read digit)
-unfolding sequence_read_on right_after_bracket if◌then◌else◌
+unfolding sequence_read_on right_after_bracket If◌then◌else◌
 first_digit_event digit small =
     digit_inside bracket_read digit (omega arith) small
     ∙ else_case _ _ _ (ne_eqb (0x30 + digit) 0x3E (λ e. omega arith))
@@ -97,7 +97,7 @@ abbrev column_read : ℕ → ℕ → HalfRead
 column_read row column = record { kind = 3; arguments = row ∷ column ∷ replicate 6 0; count = 2; spoilt = false }
 
 row_adds : (value digit : ℕ) → value * 10 + digit ≤ 9999 → with_digit (row_read value) digit ≡ row_read (value * 10 + digit)
-unfolding with_digit if◌then◌else◌
+unfolding with_digit If◌then◌else◌
 row_adds value digit fits = else_case _ _ _ (le-ltb _ _ fits)
 
 column_adds : (row value digit : ℕ) → value * 10 + digit ≤ 9999 → with_digit (column_read row value) digit ≡ column_read row (value * 10 + digit)
@@ -106,19 +106,19 @@ column_adds row value digit fits = else_case _ _ _ refl ∙ else_case _ _ _ (le-
 
 -- The bytes around the numbers.
 pub esc_event : (half : HalfRead) → advance_of half 0x1B ≡ reads_on esc_read
-unfolding advance_of outside_sequence inside_sequence is_control is_cancel if◌then◌else◌ ◌or◌ ◌is◌to◌ ◌and◌
+unfolding advance_of outside_sequence inside_sequence is_control is_cancel If◌then◌else◌ ◌or◌ ◌is◌to◌ ◌and◌
 esc_event half = either_line (λ (a : Advanced). a ≡ reads_on esc_read) (eqb half.kind 0) _ _ (λ _. refl) (λ _. refl)
 
 bracket_event : advance_of esc_read 0x5B ≡ reads_on bracket_read
-unfolding advance_of inside_sequence sequence_read_on is_cancel after_esc if◌then◌else◌ ◌or◌ ◌is◌to◌ ◌and◌
+unfolding advance_of inside_sequence sequence_read_on is_cancel after_esc If◌then◌else◌ ◌or◌ ◌is◌to◌ ◌and◌
 bracket_event = refl
 
 semicolon_event : (row : ℕ) → advance_of (row_read row) 0x3B ≡ reads_on (column_read row 0)
-unfolding advance_of inside_sequence sequence_read_on is_cancel after_bracket with_next_argument if◌then◌else◌ ◌or◌ ◌is◌to◌ ◌and◌
+unfolding advance_of inside_sequence sequence_read_on is_cancel after_bracket with_next_argument If◌then◌else◌ ◌or◌ ◌is◌to◌ ◌and◌
 semicolon_event row = refl
 
 final_event : (row column : ℕ) → advance_of (column_read row column) 0x66 ≡ ends (BracketCommand 0x66)
-unfolding advance_of inside_sequence sequence_read_on is_cancel after_bracket if◌then◌else◌ ◌or◌ ◌is◌to◌ ◌and◌
+unfolding advance_of inside_sequence sequence_read_on is_cancel after_bracket If◌then◌else◌ ◌or◌ ◌is◌to◌ ◌and◌
 final_event row column = refl
 
 -- HVP with a row and a column on the page.
@@ -142,7 +142,7 @@ module _ (t : Terminal) (row column : ℕ) (some_row : 1 ≤ row) (row_fits : ro
   column_kept second present = else_case _ _ _ (first_fails _ _ (ne_eqb column 0 (λ e. omega arith)))
 
   final_acts : bracket_step 0x66 (column_read row column) (reading t nothing_read) ≡ placing t row column
-  unfolding bracket_step is_move move_step listed_step allowed if◌then◌else◌ ◌or◌ ◌is◌to◌ ◌and◌
+  unfolding bracket_step is_move move_step listed_step allowed If◌then◌else◌ ◌or◌ ◌is◌to◌ ◌and◌
   final_acts =
       let arguments = (column_read row column).arguments in
       rw (column_kept, value_is 0x66 arguments 0 some_row, value_is 0x66 arguments 1 some_column) goes_there

@@ -5,7 +5,7 @@ use mathlib.Core.Bool.{Bool, true, false}
 use mathlib.Core.List.{List}
 use Prim.Native.Nat.{ℕ}
 use borrow.Author.Tests.{eqb-true}
-use Rattle.words.specs.Choice.{if◌then◌else◌, ◌and◌, ◌or◌, ◌is◌to◌}
+use Rattle.words.specs.Choice.{If◌then◌else◌, ◌and◌, ◌or◌, ◌is◌to◌}
 use Rattle.words.proofs.Choosing.{true_is_not_false, either_line}
 use Rattle.sequence.specs.declared.HalfRead.{HalfRead}
 use Rattle.sequence.specs.declared.Event.{Event}
@@ -61,7 +61,7 @@ Ordinary (Refused reason at) = Unit {0}
 
 -- Their steps are such, line by line.
 module _ (t : Terminal) where
-  line : (test : Bool) (a b : Stepped) → Leaves t a → Leaves t b → Leaves t (if test then a else b)
+  line : (test : Bool) (a b : Stepped) → Leaves t a → Leaves t b → Leaves t (If test then a else b)
   line test a b first rest = either_line (Leaves t) test a b (λ _. first) (λ _. rest)
 
   abbrev LeftIn : State → State → Type 0
@@ -186,15 +186,15 @@ module _ (t : Terminal) where
 
 -- b and c after ESC.
 b_event : (half : HalfRead) → half.kind ≡ 1 → advance_of half 0x62 ≡ ends (EscCommand 0x62)
-unfolding advance_of inside_sequence sequence_read_on is_cancel after_esc if◌then◌else◌ ◌or◌ ◌is◌to◌ ◌and◌
+unfolding advance_of inside_sequence sequence_read_on is_cancel after_esc If◌then◌else◌ ◌or◌ ◌is◌to◌ ◌and◌
 b_event half when_after_esc = rw when_after_esc
 
 pub c_event : (half : HalfRead) → half.kind ≡ 1 → advance_of half 0x63 ≡ ends (EscCommand 0x63)
-unfolding advance_of inside_sequence sequence_read_on is_cancel after_esc if◌then◌else◌ ◌or◌ ◌is◌to◌ ◌and◌
+unfolding advance_of inside_sequence sequence_read_on is_cancel after_esc If◌then◌else◌ ◌or◌ ◌is◌to◌ ◌and◌
 c_event half when_after_esc = rw when_after_esc
 
 cleared : (t : Terminal) (byte : ℕ) → Clears t.state.half byte → Shows 0 0 (host_step byte t)
-unfolding event_step esc_step fresh_step input_enabled if◌then◌else◌
+unfolding event_step esc_step fresh_step input_enabled If◌then◌else◌
 cleared t _ (esc_b when_after_esc) = rw (step_is t 0x62 (b_event t.state.half when_after_esc) refl) (record { message_shown = refl; byte_shown = refl })
 cleared t _ (esc_c when_after_esc) = rw (step_is t 0x63 (c_event t.state.half when_after_esc) refl) (record { message_shown = refl; byte_shown = refl })
 

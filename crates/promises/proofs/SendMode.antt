@@ -4,7 +4,7 @@ use mathlib.Core.Bool.{Bool, true, false}
 use Prim.Native.Nat.{ℕ}
 use borrow.Author.Tests.{eqb-true, eqb-false}
 use lib.Dec.{eqb}
-use Rattle.words.specs.Choice.{if◌then◌else◌, ◌and◌, ◌or◌, ◌is◌to◌}
+use Rattle.words.specs.Choice.{If◌then◌else◌, ◌and◌, ◌or◌, ◌is◌to◌}
 use Rattle.words.proofs.Choosing.{either_line, either_way, both}
 use Rattle.sequence.specs.declared.HalfRead.{HalfRead}
 use Rattle.sequence.specs.declared.Event.{Event}
@@ -31,11 +31,11 @@ use Rattle.promises.proofs.Messages.{SameMode, mode_left, Ordinary, event_leaves
 
 -- h and l after ESC [ > and an argument.
 h_event : (half : HalfRead) → half.kind ≡ 5 → advance_of half 0x68 ≡ ends (PrivateCommand 0x68)
-unfolding advance_of inside_sequence sequence_read_on is_cancel after_private_mark if◌then◌else◌ ◌or◌ ◌is◌to◌ ◌and◌
+unfolding advance_of inside_sequence sequence_read_on is_cancel after_private_mark If◌then◌else◌ ◌or◌ ◌is◌to◌ ◌and◌
 h_event half private = rw private
 
 l_event : (half : HalfRead) → half.kind ≡ 5 → advance_of half 0x6C ≡ ends (PrivateCommand 0x6C)
-unfolding advance_of inside_sequence sequence_read_on is_cancel after_private_mark if◌then◌else◌ ◌or◌ ◌is◌to◌ ◌and◌
+unfolding advance_of inside_sequence sequence_read_on is_cancel after_private_mark If◌then◌else◌ ◌or◌ ◌is◌to◌ ◌and◌
 l_event half private = rw private
 
 module _ (t : Terminal) where
@@ -43,7 +43,7 @@ module _ (t : Terminal) where
   after step = sends_full step.terminal.state
 
   chosen : (full : Bool) (byte : ℕ) → Chooses t.state.half full byte → after (host_step byte t) ≡ full
-  unfolding event_step esc_step fresh_step if◌then◌else◌
+  unfolding event_step esc_step fresh_step If◌then◌else◌
   chosen _ _ (set_by_h private six) = ap after (step_is t 0x68 (h_event t.state.half private) (mode_set 0x68 _ _ six refl))
   chosen _ _ (reset_by_l private six) = ap after (step_is t 0x6C (l_event t.state.half private) (mode_reset 0x6C _ _ six refl))
   chosen _ _ (fresh_by_esc_c esc) = ap after (step_is t 0x63 (c_event t.state.half esc) refl)
@@ -54,7 +54,7 @@ module _ (t : Terminal) where
 
     -- ESC b leaves the modes.
     b_leaves : (command : ℕ) → command ≡ 0x62 → SameMode t (esc_step command here)
-    unfolding esc_step input_enabled if◌then◌else◌
+    unfolding esc_step input_enabled If◌then◌else◌
     b_leaves command b = ap (λ (c : ℕ). after (esc_step c here)) b
 
     esc_leaves : (command : ℕ) → (command ≡ 0x63 → ⊥) → SameMode t (esc_step command here)

@@ -6,7 +6,7 @@ use mathlib.Core.List.{List, [], ◌∷◌, ◌++◌}
 use Prim.Native.Nat.{ℕ, ◌≤◌}
 use native.Mathlib.Omega.{arith}
 use lib.ListN.{length, get_or, get_or-eq_default}
-use Rattle.words.specs.Choice.{if◌then◌else◌}
+use Rattle.words.specs.Choice.{If◌then◌else◌}
 use Rattle.words.proofs.Choosing.{less_or_not}
 use Rattle.page.specs.Marks.{is_modified}
 use Rattle.page.specs.Page.{cells, mark_after_block}
@@ -37,7 +37,7 @@ past_alike : (after before : List ℕ) (cell : ℕ) → length after ≤ cell �
 past_alike after before cell past past-too = get_or-eq_default after 0 past ∙ sym (get_or-eq_default before 0 past-too)
 
 past_unmarked : (after before : List ℕ) (cell : ℕ) → length after ≤ cell → length before ≤ cell → get_or after cell 0 ≡ mark_after_block (get_or before cell 0)
-unfolding mark_after_block if◌then◌else◌
+unfolding mark_after_block If◌then◌else◌
 past_unmarked after before cell past past-too = get_or-eq_default after 0 past ∙ sym (ap mark_after_block (get_or-eq_default before 0 past-too))
 
 -- Of a run: how many bytes the first step sends (0 where there is none), and the other steps.

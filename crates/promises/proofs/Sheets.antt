@@ -8,7 +8,7 @@ use native.Mathlib.Nat.{zero-add, suc-add}
 use native.Mathlib.Omega.{arith}
 use lib.ListN.{length, get_or, replicate, length-append, length-replicate, get_or-replicate, get_or-append}
 use lib.Seq.{get_or-append-add}
-use Rattle.words.specs.Choice.{if◌then◌else◌}
+use Rattle.words.specs.Choice.{If◌then◌else◌}
 use Rattle.words.specs.Lists.{selected}
 use Rattle.words.proofs.Choosing.{else_case}
 use Rattle.page.specs.Marks.{is_protected, unprotected}
@@ -51,7 +51,7 @@ module _ (is_unprotected : ℕ → Bool) (cells : ℕ) where
   fields_in_front zero n cell protected = rw (zero-add n) (no_fields n cell (λ k low high. protected k (omega arith) (omega arith)))
   fields_in_front (suc front) n cell protected =
       rw (suc-add front n)
-      (ap (λ (later : List Field). if starts_field is_unprotected cell then field_from is_unprotected cells cell ∷ later else later)
+      (ap (λ (later : List Field). If starts_field is_unprotected cell then field_from is_unprotected cells cell ∷ later else later)
       (fields_in_front front n (cell + 1) (λ k low high. protected k (omega arith) (omega arith))))
 
   fields_behind : (front n cell : ℕ) → ((k : ℕ) → cell ≤ k → k < cell + front → is_unprotected k ≡ false) → fields_from is_unprotected cells cell (front + n) ≡ fields_from is_unprotected cells (cell + front) n

@@ -1,6 +1,6 @@
 -- The entries of a terminal, which are what runs: start, host bytes and a key, the last two with the output lent.
 use Rattle.std.specs.Prelude.{◌≡◌, false, List, [], ◌∷◌, ◌++◌, map, ℕ, ◌+◌, eqb, take, drop}
-use Rattle.words.specs.Choice.{if◌then◌else◌, ◌or◌}
+use Rattle.words.specs.Choice.{If◌then◌else◌, ◌or◌}
 use Rattle.page.specs.Page.{Page}
 use Rattle.state.specs.declared.Size.{Size}
 use Rattle.steps.specs.Steps.{Terminal}
@@ -54,7 +54,7 @@ call_all entries t calls = total t (outcomes entries t calls)
 unfoldable pub inputs_of : Call → Outcome → List Input
 inputs_of (read bytes output) outcome = map byte (take outcome.taken bytes)
 inputs_of (key_press key output) outcome =
-    if eqb outcome.number 0 then press key ∷ []
+    If eqb outcome.number 0 then press key ∷ []
     else []
 
 unfoldable pub inputs_done : Entries → Terminal → List Call → List Input

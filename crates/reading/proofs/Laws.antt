@@ -7,7 +7,7 @@ use native.Mathlib.Omega.{arith}
 use borrow.Author.Tests.{lt-ltb, le-ltb, lt-leb, eq-eqb, ne_eqb}
 use lib.Dec.{leb}
 use lib.ListN.{length, get_or, drop, set, replicate, drop_of_length-le}
-use Rattle.words.specs.Choice.{if◌then◌else◌, ◌is◌to◌, ◌and◌, ◌or◌}
+use Rattle.words.specs.Choice.{If◌then◌else◌, ◌is◌to◌, ◌and◌, ◌or◌}
 use Rattle.words.proofs.Choosing.{not_both, then_case, else_case, either_line, less_or_not, second_decides, range_is, refuted, range_holds}
 use Rattle.words.proofs.Walking.{next_element}
 use Rattle.sequence.specs.declared.HalfRead.{HalfRead}
@@ -58,11 +58,11 @@ no_cancel byte low = second_decides _ _ (ne_eqb byte 0x18 (λ e. absurd (omega (
 
 module _ (arguments : List ℕ) (last byte : ℕ) where
   in_bracket : 0x20 ≤ byte → byte ≤ 0x7E → advance_of (open_sequence arguments (last + 1)) byte ≡ after_bracket (open_sequence arguments (last + 1)) byte
-  unfolding advance_of inside_sequence sequence_read_on if◌then◌else◌
+  unfolding advance_of inside_sequence sequence_read_on If◌then◌else◌
   in_bracket low high = rw (no_cancel byte low, ne_eqb byte 0x1B (λ e. absurd (omega (arith, e))), range_is byte 0x20 0x7E low high)
 
   pub digit_read : (byte is 0x30 to 0x39) ≡ true → get_or arguments last 0 * 10 + (byte - 0x30) ≤ 9999 → advance_of (open_sequence arguments (last + 1)) byte ≡ reads_on (open_sequence (set arguments last (get_or arguments last 0 * 10 + (byte - 0x30))) (last + 1))
-  unfolding after_bracket with_digit if◌then◌else◌
+  unfolding after_bracket with_digit If◌then◌else◌
   digit_read digit small =
       let range = range_holds byte 0x30 0x39 digit in
       let low : 0x20 ≤ byte = omega (arith, range.0) in
@@ -71,7 +71,7 @@ module _ (arguments : List ℕ) (last byte : ℕ) where
       in_bracket low high ∙ rw (digit, back, le-ltb 9999 (get_or arguments last 0 * 10 + (byte - 0x30)) small)
 
   pub semicolon_read : byte ≡ 0x3B → last < 7 → advance_of (open_sequence arguments (last + 1)) byte ≡ reads_on (open_sequence arguments (last + 1 + 1))
-  unfolding after_bracket with_next_argument if◌then◌else◌
+  unfolding after_bracket with_next_argument If◌then◌else◌
   semicolon_read semicolon few =
       let low : 0x20 ≤ byte = omega (arith, semicolon) in
       let high : byte ≤ 0x7E = omega (arith, semicolon) in
@@ -79,7 +79,7 @@ module _ (arguments : List ℕ) (last byte : ℕ) where
       in_bracket low high ∙ rw (refuted (byte is 0x30 to 0x39) (λ digit. let range = range_holds byte 0x30 0x39 digit in omega (arith, semicolon, range.1)), eq-eqb byte 0x3B semicolon, room)
 
   pub final_read : (byte is 0x40 to 0x7E) ≡ true → advance_of (open_sequence arguments (last + 1)) byte ≡ ends (BracketCommand byte)
-  unfolding after_bracket if◌then◌else◌
+  unfolding after_bracket If◌then◌else◌
   final_read final =
       let range = range_holds byte 0x40 0x7E final in
       let low : 0x20 ≤ byte = omega (arith, range.0) in
@@ -89,7 +89,7 @@ module _ (arguments : List ℕ) (last byte : ℕ) where
 -- Right after ESC [: what the bytes other than > do to it, and that an argument's bytes bring nothing about.
 module _ (byte : ℕ) where
   as_argument : 0x20 ≤ byte → byte ≤ 0x7E → (byte ≡ 0x3E → ⊥) → advance_of bracket_read byte ≡ advance_of argument_read byte
-  unfolding advance_of inside_sequence sequence_read_on right_after_bracket if◌then◌else◌
+  unfolding advance_of inside_sequence sequence_read_on right_after_bracket If◌then◌else◌
   as_argument low high other = rw (no_cancel byte low, ne_eqb byte 0x1B (λ e. absurd (omega (arith, e))), range_is byte 0x20 0x7E low high, ne_eqb byte 0x3E other)
 
   argument_read_lem : (byte is 0x30 to 0x3B) ≡ true → (advance_of bracket_read byte ≡ advance_of argument_read byte) × (is_nothing (advance_of argument_read byte).event ≡ true)
@@ -116,19 +116,19 @@ module _ (byte : ℕ) where
 -- After ESC: the [, and a command.
 module _ (byte : ℕ) where
   in_esc : 0x20 ≤ byte → byte ≤ 0x7E → advance_of esc_read byte ≡ after_esc byte
-  unfolding advance_of inside_sequence sequence_read_on if◌then◌else◌
+  unfolding advance_of inside_sequence sequence_read_on If◌then◌else◌
   in_esc low high = rw (no_cancel byte low, ne_eqb byte 0x1B (λ e. absurd (omega (arith, e))), range_is byte 0x20 0x7E low high)
 
   pub esc_read_lem : (half : HalfRead) → half.kind ≡ 0 → byte ≡ 0x1B → advance_of half byte ≡ reads_on esc_read
-  unfolding advance_of outside_sequence is_control if◌then◌else◌ ◌is◌to◌ ◌and◌ ◌or◌
+  unfolding advance_of outside_sequence is_control If◌then◌else◌ ◌is◌to◌ ◌and◌ ◌or◌
   esc_read_lem half outside esc = rw (outside, esc)
 
   pub bracket_read_lem : byte ≡ 0x5B → advance_of esc_read byte ≡ reads_on bracket_read
-  unfolding advance_of inside_sequence sequence_read_on is_cancel after_esc if◌then◌else◌ ◌is◌to◌ ◌and◌ ◌or◌
+  unfolding advance_of inside_sequence sequence_read_on is_cancel after_esc If◌then◌else◌ ◌is◌to◌ ◌and◌ ◌or◌
   bracket_read_lem bracket = rw bracket
 
   pub command_read : (byte is 0x30 to 0x7E) ≡ true → (byte ≡ 0x5B → ⊥) → advance_of esc_read byte ≡ ends (EscCommand byte)
-  unfolding after_esc if◌then◌else◌
+  unfolding after_esc If◌then◌else◌
   command_read command other =
       let range = range_holds byte 0x30 0x7E command in
       let low : 0x20 ≤ byte = omega (arith, range.0) in

@@ -1,6 +1,6 @@
 -- Host bytes are read on, byte by byte, to the first that brings something about, or to the last of them.
 use Rattle.std.specs.Prelude.{Bool, true, false, List, [], ◌∷◌, ℕ, ◌+◌}
-use Rattle.words.specs.Choice.{if◌then◌else◌}
+use Rattle.words.specs.Choice.{If◌then◌else◌}
 use Rattle.sequence.specs.declared.HalfRead.{HalfRead}
 use Rattle.sequence.specs.declared.Event.{Event}
 use Rattle.sequence.specs.declared.Event.TheVariants.{Nothing, Text, Control, EscCommand}
@@ -28,5 +28,5 @@ read_from half [] at = record { before = half; after = half; event = Nothing; en
 read_from half (byte ∷ []) at = read_to half byte at
 read_from half (byte ∷ next ∷ later) at =
     let further = read_from (advance_of half byte).half (next ∷ later) (at + 1) in
-    if is_nothing (advance_of half byte).event then further
+    If is_nothing (advance_of half byte).event then further
     else read_to half byte at

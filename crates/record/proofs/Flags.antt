@@ -9,7 +9,7 @@ use borrow.Author.Tests.{eqb-true}
 use lib.Dec.{eqb}
 use lib.ListN.{length, get_or, length-append}
 use lib.Seq.{get_or-append-add}
-use Rattle.words.specs.Choice.{if◌then◌else◌, ◌and◌, ◌or◌, ◌is◌to◌}
+use Rattle.words.specs.Choice.{If◌then◌else◌, ◌and◌, ◌or◌, ◌is◌to◌}
 use Rattle.words.specs.Lists.{exactly}
 use Rattle.words.proofs.Choosing.{one_holds, range_holds, range_is}
 use Rattle.words.proofs.Elements.{exactly_these}
@@ -22,7 +22,7 @@ use Rattle.record.proofs.RoundTrip.{number_again, numbers_again}
 
 -- A record's flags are 0 or 1.
 flag_small : (flag : Bool) → flag_byte flag ≤ 1
-unfolding flag_byte if◌then◌else◌
+unfolding flag_byte If◌then◌else◌
 flag_small true = omega arith
 flag_small false = omega arith
 
@@ -61,7 +61,7 @@ record_flags s place holds =
 
 -- A flag that is 0 or 1 is written again as it was read.
 flag_again : (byte : ℕ) → byte ≤ 1 → flag_byte (eqb byte 1) ≡ byte
-unfolding flag_byte if◌then◌else◌
+unfolding flag_byte If◌then◌else◌
 flag_again zero h = refl
 flag_again (suc zero) h = refl
 flag_again (suc (suc byte)) h = absurd (omega arith)

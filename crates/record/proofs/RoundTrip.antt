@@ -7,7 +7,7 @@ use native.Mathlib.Nat.{add_comm, zero-mul, suc-mul}
 use native.Mathlib.Omega.{arith}
 use lib.ListN.{length, get_or, length-append}
 use lib.Seq.{get_or-append_seam}
-use Rattle.words.specs.Choice.{if◌then◌else◌}
+use Rattle.words.specs.Choice.{If◌then◌else◌}
 use Rattle.record.specs.Bytes.{number_bytes, number_at, AreBytes, flag_byte, flag_bytes, flag_at, read_each}
 use Rattle.record.proofs.Reading.{whole_read, split_read}
 
@@ -31,7 +31,7 @@ number_back (suc width) n fits before after =
     (λ i. here i + 256 * later i) ∙ omega arith
 
 pub flag_back : (flag : Bool) (before after : List ℕ) → flag_at (before ++ (flag_bytes flag ++ after)) (length before) ≡ flag
-unfolding flag_byte if◌then◌else◌
+unfolding flag_byte If◌then◌else◌
 flag_back true before after = rw (get_or-append_seam before 1 after 0)
 flag_back false before after = rw (get_or-append_seam before 0 after 0)
 

@@ -9,7 +9,7 @@ use native.Mathlib.Omega.{arith}
 use borrow.Author.Tests.{leb-true}
 use lib.Dec.{ltb}
 use lib.ListN.{length, replicate, length-append}
-use Rattle.words.specs.Choice.{if◌then◌else◌}
+use Rattle.words.specs.Choice.{If◌then◌else◌}
 use Rattle.words.specs.Lists.{exactly}
 use Rattle.words.proofs.Choosing.{both, either_line}
 use Rattle.words.proofs.Elements.{exactly_these}
@@ -32,7 +32,7 @@ each_argument_fits : (reached i : ℕ) (arguments : List ℕ) → arguments_fit 
 unfolding arguments_fit largest_argument
 each_argument_fits reached i [] fit x among = absurd (Memᴰ.not-nil among)
 each_argument_fits reached i (argument ∷ later) fit x among =
-    let most : (if ltb i reached then 9999 else 0) ≤ 9999 = either_line (λ (n : ℕ). n ≤ 9999) _ _ _ (λ _. omega arith) (λ _. omega arith) in
+    let most : (If ltb i reached then 9999 else 0) ≤ 9999 = either_line (λ (n : ℕ). n ≤ 9999) _ _ _ (λ _. omega arith) (λ _. omega arith) in
     let here = leb-true argument _ (both fit).0 in
     ⊎_elim (λ is. omega arith) (λ after. each_argument_fits reached (i + 1) later (both fit).1 x after) (Memᴰ.cases_cons among)
 
@@ -110,7 +110,7 @@ one_record one other good other-good same = sym good ∙ ap record_of same ∙ o
 
 -- The record of the all-zero state is all zeros.
 pub zeros : record_of zero_state ≡ replicate 195 0
-unfolding record_of first_bytes number_bytes flag_byte exactly flat_map if◌then◌else◌
+unfolding record_of first_bytes number_bytes flag_byte exactly flat_map If◌then◌else◌
 zeros = refl
 
 -- What bytes say has the arrays of the code, whatever they are.

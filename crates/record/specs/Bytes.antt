@@ -1,6 +1,6 @@
 -- Document 02, M-100: how numbers and flags stand in bytes.
 use Rattle.std.specs.Prelude.{Bool, true, false, List, [], ◌∷◌, ℕ, zero, suc, ◌+◌, ◌*◌, ◌/◌, ◌%◌, ◌<◌, eqb, get_or}
-use Rattle.words.specs.Choice.{if◌then◌else◌, ◌and◌}
+use Rattle.words.specs.Choice.{If◌then◌else◌, ◌and◌}
 
 -- A number in so many bytes, the low one first.
 unfoldable pub number_bytes : ℕ → ℕ → List ℕ
@@ -19,7 +19,7 @@ AreBytes bytes = (place : ℕ) → get_or bytes place 0 < 256
 -- A flag is one byte, 0 or 1. Any other byte is read as 0 is.
 unfoldable pub flag_byte : Bool → ℕ
 flag_byte flag =
-    if flag then 1
+    If flag then 1
     else 0
 
 abbrev pub flag_bytes : Bool → List ℕ

@@ -1,7 +1,7 @@
 -- Document 01, "Commands" and "Fields, keys and blocks": what sends, reports and blocks.
 use Rattle.std.specs.Prelude.{Bool, List, [], ◌∷◌, ℕ, eqb}
 use Prim.Native.Char.{code}
-use Rattle.words.specs.Choice.{if◌then◌else◌}
+use Rattle.words.specs.Choice.{If◌then◌else◌}
 use Rattle.page.specs.Page.{page_of, modified_cleared}
 use Rattle.output.specs.Decimal.{place_bytes}
 use Rattle.sequence.specs.declared.Reason.TheVariants.{WrongArguments}
@@ -22,8 +22,8 @@ cursor_report t =
 
 unfoldable pub status_report : ℕ → ℕ → Terminal → Stepped
 status_report final what t =
-    if eqb what 5 then ready_report t
-    else if eqb what 6 then cursor_report t
+    If eqb what 5 then ready_report t
+    else If eqb what 6 then cursor_report t
     else refusing WrongArguments final t
 
 -- M-106: 266 sends a full block where the Unprotected/Modified mode is reset, else a changed one.

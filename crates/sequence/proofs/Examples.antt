@@ -5,7 +5,7 @@ use mathlib.Core.List.{List, [], ◌∷◌, ◌++◌, map}
 use mathlib.Core.Bool.{Bool, true, false}
 use Prim.Native.Char.{code}
 use Prim.Native.Nat.{ℕ}
-use Rattle.words.specs.Choice.{if◌then◌else◌, ◌and◌, ◌or◌, ◌is◌to◌}
+use Rattle.words.specs.Choice.{If◌then◌else◌, ◌and◌, ◌or◌, ◌is◌to◌}
 use Rattle.words.specs.Text.{bytes}
 use Rattle.sequence.specs.declared.HalfRead.{HalfRead}
 use Rattle.sequence.specs.declared.Reason.TheVariants.{UnknownCommand, BrokenSequence, HighByte}
@@ -94,7 +94,7 @@ examples =
 
 -- Each of the examples reads as it says.
 as_worked_out : map (λ (e : Example). reading nothing_read e.stream) examples ≡ map (λ (e : Example). e.read) examples
-unfolding if◌then◌else◌ ◌and◌ ◌or◌ ◌is◌to◌ with_digit with_next_argument is_control is_cancel outside_sequence after_esc after_intermediate after_bracket right_after_bracket after_private_mark sequence_read_on inside_sequence advance_of noted reading gives bracket private examples
+unfolding If◌then◌else◌ ◌and◌ ◌or◌ ◌is◌to◌ with_digit with_next_argument is_control is_cancel outside_sequence after_esc after_intermediate after_bracket right_after_bracket after_private_mark sequence_read_on inside_sequence advance_of noted reading gives bracket private examples
 as_worked_out = refl
 
 -- Records in range: one of each of the first three kinds, eight arguments of 9,999, an argument being read,
@@ -136,9 +136,9 @@ out_of_range =
     ∷ []
 
 pass : map valid_half_read in_range ≡ map (λ (half : HalfRead). true) in_range
-unfolding record_of zeros in_range if◌then◌else◌ ◌and◌ ◌is◌to◌ largest_argument arguments_fit valid_half_read
+unfolding record_of zeros in_range If◌then◌else◌ ◌and◌ ◌is◌to◌ largest_argument arguments_fit valid_half_read
 pass = refl
 
 fail : map valid_half_read out_of_range ≡ map (λ (half : HalfRead). false) out_of_range
-unfolding record_of zeros out_of_range if◌then◌else◌ ◌and◌ ◌is◌to◌ largest_argument arguments_fit valid_half_read
+unfolding record_of zeros out_of_range If◌then◌else◌ ◌and◌ ◌is◌to◌ largest_argument arguments_fit valid_half_read
 fail = refl

@@ -9,7 +9,7 @@ use native.Mathlib.Omega.{arith}
 use borrow.Author.Tests.{lt-ltb, le-leb, eq-eqb, ne_eqb, ltb-true, ltb-false, leb-true, leb-false, eqb-true, eqb-false}
 use lib.Dec.{ltb, leb, eqb}
 use lib.ListN.{set}
-use Rattle.words.specs.Choice.{if◌then◌else◌, ◌and◌, ◌is◌to◌}
+use Rattle.words.specs.Choice.{If◌then◌else◌, ◌and◌, ◌is◌to◌}
 use Rattle.words.proofs.Choosing.{then_case, else_case, either_line, both, both_hold, range_holds, range_is}
 use Rattle.sequence.specs.declared.HalfRead.{HalfRead}
 use Rattle.sequence.specs.declared.Advanced.{Advanced}
@@ -74,31 +74,31 @@ more_fit reached i (argument ∷ rest) p =
 
 -- the records that the rules name
 pub nothing_valid : valid_half_read nothing_read ≡ true
-unfolding valid_half_read if◌then◌else◌ ◌and◌ arguments_fit largest_argument
+unfolding valid_half_read If◌then◌else◌ ◌and◌ arguments_fit largest_argument
 nothing_valid = refl
 
 esc_valid : Valid esc_read
-unfolding valid_half_read if◌then◌else◌ ◌and◌ arguments_fit largest_argument
+unfolding valid_half_read If◌then◌else◌ ◌and◌ arguments_fit largest_argument
 esc_valid = refl
 
 intermediate_valid : Valid intermediate_read
-unfolding valid_half_read if◌then◌else◌ ◌and◌ arguments_fit largest_argument
+unfolding valid_half_read If◌then◌else◌ ◌and◌ arguments_fit largest_argument
 intermediate_valid = refl
 
 argument_valid : Valid argument_read
-unfolding valid_half_read if◌then◌else◌ ◌and◌ ◌is◌to◌ arguments_fit largest_argument
+unfolding valid_half_read If◌then◌else◌ ◌and◌ ◌is◌to◌ arguments_fit largest_argument
 argument_valid = refl
 
 bracket_valid : Valid bracket_read
-unfolding valid_half_read if◌then◌else◌ ◌and◌ arguments_fit largest_argument
+unfolding valid_half_read If◌then◌else◌ ◌and◌ arguments_fit largest_argument
 bracket_valid = refl
 
 private_mark_valid : Valid private_mark_read
-unfolding valid_half_read if◌then◌else◌ ◌and◌ arguments_fit largest_argument
+unfolding valid_half_read If◌then◌else◌ ◌and◌ arguments_fit largest_argument
 private_mark_valid = refl
 
 spoilt_valid : Valid spoilt_read
-unfolding valid_half_read if◌then◌else◌ ◌and◌ arguments_fit largest_argument
+unfolding valid_half_read If◌then◌else◌ ◌and◌ arguments_fit largest_argument
 spoilt_valid = refl
 
 -- after ESC [ and more, and after ESC [ >, not spoilt

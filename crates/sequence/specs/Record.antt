@@ -1,6 +1,6 @@
 -- Document 01, "Reading host bytes", first paragraph, and document 02, M-106: the half-read record.
 use Rattle.std.specs.Prelude.{Bool, true, false, List, [], ◌∷◌, ℕ, ◌+◌, ◌-◌, ◌*◌, get_or, set, replicate, ltb, leb, eqb}
-use Rattle.words.specs.Choice.{if◌then◌else◌, ◌and◌, ◌is◌to◌}
+use Rattle.words.specs.Choice.{If◌then◌else◌, ◌and◌, ◌is◌to◌}
 use Rattle.sequence.specs.declared.HalfRead.{HalfRead}
 
 -- The kinds: 0 none, 1 after ESC, 2 after ESC and an intermediate. These three keep nothing else. After ESC [ the kind
@@ -37,7 +37,7 @@ spoilt_read = record { kind = 3; arguments = replicate 8 0; count = 1; spoilt = 
 -- An argument reached is at most 9,999, and one not reached is 0; the first is numbered 0.
 unfoldable pub largest_argument : ℕ → ℕ → ℕ
 largest_argument i reached =
-    if ltb i reached then 9999
+    If ltb i reached then 9999
     else 0
 
 -- All arguments from number i on fit, where so many are reached.
@@ -49,10 +49,10 @@ arguments_fit reached i (argument ∷ rest) =
 -- A record in range: what number 2 of "Numbers a call gives back" asks of it.
 unfoldable pub valid_half_read : HalfRead → Bool
 valid_half_read half =
-    if half.spoilt then eqb half.kind 3 and eqb half.count 1 and arguments_fit 0 0 half.arguments
-    else if eqb half.kind 3 then half.count is 1 to 8 and arguments_fit half.count 0 half.arguments
-    else if eqb half.kind 4 then eqb half.count 1 and arguments_fit 0 0 half.arguments
-    else if eqb half.kind 5 then eqb half.count 1 and arguments_fit half.count 0 half.arguments
+    If half.spoilt then eqb half.kind 3 and eqb half.count 1 and arguments_fit 0 0 half.arguments
+    else If eqb half.kind 3 then half.count is 1 to 8 and arguments_fit half.count 0 half.arguments
+    else If eqb half.kind 4 then eqb half.count 1 and arguments_fit 0 0 half.arguments
+    else If eqb half.kind 5 then eqb half.count 1 and arguments_fit half.count 0 half.arguments
     else leb half.kind 2 and eqb half.count 0 and arguments_fit 0 0 half.arguments
 
 -- The argument being read, and the record with another value for it.
@@ -71,13 +71,13 @@ with_last_argument half value =
 -- A digit is put at the argument's end; above 9,999 it spoils; nothing adds to a spoilt sequence.
 unfoldable pub with_digit : HalfRead → ℕ → HalfRead
 with_digit half digit =
-    if half.spoilt then half
-    else if ltb 9999 (last_argument half * 10 + digit) then spoilt_read
+    If half.spoilt then half
+    else If ltb 9999 (last_argument half * 10 + digit) then spoilt_read
     else with_last_argument half (last_argument half * 10 + digit)
 
 -- A semicolon starts the next argument; a ninth spoils.
 unfoldable pub with_next_argument : HalfRead → HalfRead
 with_next_argument half =
-    if half.spoilt then half
-    else if leb 8 half.count then spoilt_read
+    If half.spoilt then half
+    else If leb 8 half.count then spoilt_read
     else record { kind = half.kind; arguments = half.arguments; count = half.count + 1; spoilt = half.spoilt }

@@ -9,7 +9,7 @@ use borrow.Author.Tests.{ltb-true, leb-true, eqb-true, not-true}
 use lib.Dec.{eqb}
 use lib.ListN.{set, replicate}
 use lib.Seq.{drop-set-lt}
-use Rattle.words.specs.Choice.{if◌then◌else◌, ◌and◌, ◌or◌}
+use Rattle.words.specs.Choice.{If◌then◌else◌, ◌and◌, ◌or◌}
 use Rattle.words.specs.Lists.{every}
 use Rattle.words.proofs.Choosing.{either_line, both, both_hold, one_holds, range_holds, range_is}
 use Rattle.sequence.specs.declared.HalfRead.{HalfRead}
@@ -63,11 +63,11 @@ size_bounds size p =
 
 -- No message has no byte, and every reason has a message.
 no_message : valid_message no_locks ≡ true
-unfolding valid_message if◌then◌else◌
+unfolding valid_message If◌then◌else◌
 no_message = refl
 
 reason_has_message : (reason : Reason) (manual : Bool) (byte : ℕ) → valid_message (record { manual = manual; soft = true; message = message_of reason; byte = byte }) ≡ true
-unfolding valid_message message_of if◌then◌else◌
+unfolding valid_message message_of If◌then◌else◌
 reason_has_message UnknownCommand manual byte = refl
 reason_has_message WrongArguments manual byte = refl
 reason_has_message BrokenSequence manual byte = refl
@@ -332,7 +332,7 @@ module _ (s : State) (valid : valid_state s ≡ true) where
   enabled_keeps_valid = locks_keep_valid no_locks no_message
 
   pub unlocked_keeps_valid : KeepsValid s (unlocked s)
-  unfolding unlocked valid_message if◌then◌else◌
+  unfolding unlocked valid_message If◌then◌else◌
   unlocked_keeps_valid = locks_keep_valid _ no_message
 
   -- the half-read record

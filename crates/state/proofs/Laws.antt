@@ -5,7 +5,7 @@ use mathlib.Core.List.{List}
 use Prim.Native.Nat.{ℕ, zero, suc, ◌+◌, ◌-◌, ◌<◌, ◌≤◌}
 use native.Mathlib.Omega.{arith}
 use lib.ListN.{length, get_or}
-use Rattle.words.specs.Choice.{if◌then◌else◌, ◌and◌}
+use Rattle.words.specs.Choice.{If◌then◌else◌, ◌and◌}
 use Rattle.words.proofs.Choosing.{either_line}
 use Rattle.page.proofs.Asking.{next_asked, all_asked}
 use Rattle.state.specs.Tabs.{stop_right, stop_left, stops_on, stops_back}
@@ -27,7 +27,7 @@ module _ (stops : List Bool) (i : ℕ) (so_far : Bool) where
 
 module _ (stops : List Bool) where
   -- One column on, and one back.
-  pub right_turn : (last at : ℕ) → at < last → stop_right stops at (last - at) ≡ (if get_or stops at false then at + 1 else stop_right stops (at + 1) (last - (at + 1)))
+  pub right_turn : (last at : ℕ) → at < last → stop_right stops at (last - at) ≡ (If get_or stops at false then at + 1 else stop_right stops (at + 1) (last - (at + 1)))
   unfolding stop_right
   right_turn last at h =
       let more : last - at ≡ suc (last - (at + 1)) = omega arith in
@@ -38,7 +38,7 @@ module _ (stops : List Bool) where
   unfolding stop_right
   right_end last at h = let none : last - at ≡ 0 = omega arith in rw none
 
-  pub left_turn : (at : ℕ) → 1 < at → stop_left stops at ≡ (if get_or stops (at - 1 - 1) false then at - 1 else stop_left stops (at - 1))
+  pub left_turn : (at : ℕ) → 1 < at → stop_left stops at ≡ (If get_or stops (at - 1 - 1) false then at - 1 else stop_left stops (at - 1))
   unfolding stop_left
   left_turn zero h = absurd (omega arith)
   left_turn (suc zero) h = absurd (omega arith)

@@ -1,6 +1,6 @@
 -- Document 01, "Commands": tab stops, one mark for each of 160 columns; column 1 has the first.
 use Rattle.std.specs.Prelude.{Bool, true, false, List, ℕ, zero, suc, ◌+◌, ◌-◌, get_or, set, replicate}
-use Rattle.words.specs.Choice.{if◌then◌else◌}
+use Rattle.words.specs.Choice.{If◌then◌else◌}
 use Rattle.state.specs.declared.State.{State}
 use Rattle.state.specs.State.{with_cursor, cursor_at, with_stops}
 
@@ -22,7 +22,7 @@ unfoldable pub stop_right : List Bool → ℕ → ℕ → ℕ
 stop_right stops column zero = column
 stop_right stops column (suc more) =
     let further = stop_right stops (column + 1) more in
-    if stop_at stops (column + 1) then column + 1
+    If stop_at stops (column + 1) then column + 1
     else further
 
 -- The next stop to the left of a column, else column 1.
@@ -31,7 +31,7 @@ stop_left stops zero = 1
 stop_left stops (suc zero) = 1
 stop_left stops (suc (suc before)) =
     let further = stop_left stops (suc before) in
-    if stop_at stops (suc before) then suc before
+    If stop_at stops (suc before) then suc before
     else further
 
 -- 09, CHT and CBT: so many stops on or back.

@@ -1,7 +1,7 @@
 -- Document 01, "Numbers a call gives back", lines 1 and 2:
 -- what a call asks of the state and the lent page before anything else.
 use Rattle.std.specs.Prelude.{Bool, not, List, ℕ, ◌*◌, leb, eqb, length, drop}
-use Rattle.words.specs.Choice.{if◌then◌else◌, ◌and◌, ◌or◌, ◌is◌to◌}
+use Rattle.words.specs.Choice.{If◌then◌else◌, ◌and◌, ◌or◌, ◌is◌to◌}
 use Rattle.words.specs.Lists.{every}
 use Rattle.page.specs.Page.{Page, cells}
 use Rattle.sequence.specs.Record.{valid_half_read}
@@ -39,7 +39,7 @@ stops_fit columns stops = every not (drop columns stops)
 -- M-102: the message is 0 to 4, and where there is none there is no byte.
 unfoldable pub valid_message : Locks → Bool
 valid_message locks =
-    if eqb locks.message 0 then eqb locks.byte 0
+    If eqb locks.message 0 then eqb locks.byte 0
     else leb locks.message 4
 
 -- The state's own part of line 2 is not given.

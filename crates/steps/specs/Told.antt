@@ -1,7 +1,7 @@
 -- What the code tells of a step: `Stepped`, with the number of its cells and of its bytes in place of these.
 -- `told` is what the code handed back, with the page that it left; `tells` is what it should tell.
 use Rattle.std.specs.Prelude.{Bool, true, false, List, ℕ, ◌-◌, leb, length}
-use Rattle.words.specs.Choice.{if◌then◌else◌}
+use Rattle.words.specs.Choice.{If◌then◌else◌}
 use Rattle.words.specs.Output.{placed}
 use Rattle.page.specs.Page.{Page}
 use Rattle.steps.specs.declared.Step.{Step}
@@ -51,6 +51,6 @@ pub record Written : Type 0 where
 
 unfoldable pub written : ℕ → List ℕ → Terminal → Stepped → Written
 written at output before stepped =
-    if leb (length (bytes_of stepped.transmission)) (length output - at) then
+    If leb (length (bytes_of stepped.transmission)) (length output - at) then
     record { told = tells stepped; output = placed at (bytes_of stepped.transmission) output }
     else record { told = tells_exceeding before; output = output }

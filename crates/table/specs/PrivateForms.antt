@@ -2,7 +2,7 @@
 -- other is a spoilt sequence.
 use Rattle.std.specs.Prelude.{ℕ, true, false, eqb}
 use Prim.Native.Char.{code}
-use Rattle.words.specs.Choice.{if◌then◌else◌, ◌and◌}
+use Rattle.words.specs.Choice.{If◌then◌else◌, ◌and◌}
 use Rattle.state.specs.Pen.{with_full}
 use Rattle.sequence.specs.declared.Reason.TheVariants.{BrokenSequence}
 use Rattle.steps.specs.Steps.{Terminal, Stepped, goes_to, refusing}
@@ -10,6 +10,6 @@ use Rattle.steps.specs.Steps.{Terminal, Stepped, goes_to, refusing}
 -- >6 (source 001, lines 1543 and 1879 to 1885), Unprotected/Modified: set, 266 sends what changed; reset, all.
 unfoldable pub private_step : ℕ → ℕ → Terminal → Stepped
 private_step final argument t =
-    if eqb argument 6 and eqb final (code "h") then goes_to (with_full t.state false) t  -- SM
-    else if eqb argument 6 and eqb final (code "l") then goes_to (with_full t.state true) t  -- RM
+    If eqb argument 6 and eqb final (code "h") then goes_to (with_full t.state false) t  -- SM
+    else If eqb argument 6 and eqb final (code "l") then goes_to (with_full t.state true) t  -- RM
     else refusing BrokenSequence final t

@@ -2,7 +2,7 @@
 -- stands for.
 use Rattle.std.specs.Prelude.{ℕ, eqb, get_or, List}
 use Prim.Native.Char.{code}
-use Rattle.words.specs.Choice.{if◌then◌else◌, ◌or◌, ◌is◌to◌}
+use Rattle.words.specs.Choice.{If◌then◌else◌, ◌or◌, ◌is◌to◌}
 
 pub record Allowed : Type 0 where
   pub most : ℕ
@@ -14,23 +14,23 @@ takes most zero_is = record { most = most; zero_is = zero_is }
 -- 0 stands for a command that isn't listed: a sequence has one argument at least, and a listed one may have one.
 unfoldable pub allowed : ℕ → Allowed
 allowed final =
-    if final is code "A" to code "D" then takes 1 1  -- CUU, CUD, CUF, CUB
-    else if final is code "E" to code "F" then takes 1 1  -- CNL, CPL
-    else if eqb final (code "G") then takes 1 1  -- CHA
-    else if eqb final (code "d") then takes 1 1  -- VPA
-    else if eqb final (code "H") then takes 2 1  -- CUP
-    else if eqb final (code "f") then takes 2 1  -- HVP
-    else if eqb final (code "I") or eqb final (code "Z") then takes 1 1  -- CHT, CBT
-    else if eqb final (code "W") then takes 1 0  -- CTC
-    else if eqb final (code "J") or eqb final (code "K") then takes 1 0  -- ED, EL
-    else if eqb final (code "m") then takes 8 0  -- SGR
-    else if eqb final (code "h") or eqb final (code "l") then takes 8 0  -- SM, RM
-    else if eqb final (code "n") then takes 1 0  -- DSR
-    else if eqb final (code "o") then takes 1 0  -- DAQ (M-103)
+    If final is code "A" to code "D" then takes 1 1  -- CUU, CUD, CUF, CUB
+    else If final is code "E" to code "F" then takes 1 1  -- CNL, CPL
+    else If eqb final (code "G") then takes 1 1  -- CHA
+    else If eqb final (code "d") then takes 1 1  -- VPA
+    else If eqb final (code "H") then takes 2 1  -- CUP
+    else If eqb final (code "f") then takes 2 1  -- HVP
+    else If eqb final (code "I") or eqb final (code "Z") then takes 1 1  -- CHT, CBT
+    else If eqb final (code "W") then takes 1 0  -- CTC
+    else If eqb final (code "J") or eqb final (code "K") then takes 1 0  -- ED, EL
+    else If eqb final (code "m") then takes 8 0  -- SGR
+    else If eqb final (code "h") or eqb final (code "l") then takes 8 0  -- SM, RM
+    else If eqb final (code "n") then takes 1 0  -- DSR
+    else If eqb final (code "o") then takes 1 0  -- DAQ (M-103)
     else takes 0 0
 
 -- The value of argument i, counted from 0.
 unfoldable pub value_of : ℕ → List ℕ → ℕ → ℕ
 value_of final arguments i =
-    if eqb (get_or arguments i 0) 0 then (allowed final).zero_is
+    If eqb (get_or arguments i 0) 0 then (allowed final).zero_is
     else get_or arguments i 0

@@ -7,7 +7,7 @@ use native.Mathlib.Omega.{arith}
 use borrow.Author.Tests.{ltb-false, le-ltb}
 use lib.Dec.{eqb}
 use lib.ListN.{length, length-append}
-use Rattle.words.specs.Choice.{if◌then◌else◌, ◌and◌}
+use Rattle.words.specs.Choice.{If◌then◌else◌, ◌and◌}
 use Rattle.words.proofs.Choosing.{not_both, either_way, less_or_not}
 use Rattle.page.specs.Page.{Page}
 use Rattle.state.specs.declared.Size.{Size}
@@ -30,19 +30,19 @@ use Rattle.terminal.proofs.Exceeding.{line_3, line_3_done}
 -- No two answers have the same number.
 answer_of : ℕ → Answer
 answer_of number =
-    if eqb number 0 then Done
-    else if eqb number 1 then WrongSize
-    else if eqb number 2 then WrongState
-    else if eqb number 3 then NoRoom
-    else if eqb number 4 then UnknownKey
-    else if eqb number 5 then Locked
-    else if eqb number 6 then TooLong
-    else if eqb number 7 then NoCell
-    else if eqb number 8 then NotTaken
+    If eqb number 0 then Done
+    else If eqb number 1 then WrongSize
+    else If eqb number 2 then WrongState
+    else If eqb number 3 then NoRoom
+    else If eqb number 4 then UnknownKey
+    else If eqb number 5 then Locked
+    else If eqb number 6 then TooLong
+    else If eqb number 7 then NoCell
+    else If eqb number 8 then NotTaken
     else RequiredBlank
 
 numbers_differ : (answer : Answer) → answer_of (number_of answer) ≡ answer
-unfolding answer_of number_of if◌then◌else◌
+unfolding answer_of number_of If◌then◌else◌
 numbers_differ Done = refl
 numbers_differ WrongSize = refl
 numbers_differ WrongState = refl

@@ -7,7 +7,7 @@ use Prim.Native.Char.{code}
 use Prim.Native.Nat.{ℕ}
 use Prim.Native.String.{String}
 use lib.ListN.{take, drop, replicate}
-use Rattle.words.specs.Choice.{if◌then◌else◌, ◌and◌, ◌or◌, ◌is◌to◌}
+use Rattle.words.specs.Choice.{If◌then◌else◌, ◌and◌, ◌or◌, ◌is◌to◌}
 use Rattle.words.specs.Lists.{within, every, some, some_from, each_from, numbers_from, selected}
 use Rattle.words.specs.Output.{placed}
 use Rattle.words.specs.Text.{bytes}
@@ -140,7 +140,7 @@ examples =
 
 -- All that is unfolded on the way.
 unfoldable computed : Unit {0}
-unfolding outcome last started seen goes refuses keyed ◌leave◌ sequence if◌then◌else◌ ◌and◌ ◌or◌ ◌is◌to◌ within every some each_from numbers_from selected placed arguments_fit largest_argument valid_half_read with_digit with_next_argument is_control is_cancel outside_sequence after_esc after_intermediate after_bracket right_after_bracket after_private_mark sequence_read_on inside_sequence advance_of valid_mark unprotected valid_page text_stored mark_after_block modified_cleared place_of joined starts_field end_from field_end fields_from fields_of decimal place_bytes entry_bytes encode entry_of some_from is_in_block is_left_blank some_left_blank entries_sent block message_of refused on_by right_by valid_pen listed_rows listed_columns listed_size size_fits cursor_fits stops_fit valid_message valid_state bytes_of block_transmission allowed value_of to_next_cell text_step fresh_step send_block to_column to_row to_place kept_column is_move move_step listed_step bracket_step private_step event_step host_step is_typing is_editing is_field_move is_known is_locked is_locked_out lacks_cell is_not_taken is_held_back taken_step key_step steps_of fitting after bytes_sent_by cells_stored_by count_of refused_by protection_by number_of unchanged after_steps changes_nothing gives first_of exceeds_room passes_line2 start_lines host_refusals key_refusals host_lines key_lines start_step start_call host_call key_call
+unfolding outcome last started seen goes refuses keyed ◌leave◌ sequence If◌then◌else◌ ◌and◌ ◌or◌ ◌is◌to◌ within every some each_from numbers_from selected placed arguments_fit largest_argument valid_half_read with_digit with_next_argument is_control is_cancel outside_sequence after_esc after_intermediate after_bracket right_after_bracket after_private_mark sequence_read_on inside_sequence advance_of valid_mark unprotected valid_page text_stored mark_after_block modified_cleared place_of joined starts_field end_from field_end fields_from fields_of decimal place_bytes entry_bytes encode entry_of some_from is_in_block is_left_blank some_left_blank entries_sent block message_of refused on_by right_by valid_pen listed_rows listed_columns listed_size size_fits cursor_fits stops_fit valid_message valid_state bytes_of block_transmission allowed value_of to_next_cell text_step fresh_step send_block to_column to_row to_place kept_column is_move move_step listed_step bracket_step private_step event_step host_step is_typing is_editing is_field_move is_known is_locked is_locked_out lacks_cell is_not_taken is_held_back taken_step key_step steps_of fitting after bytes_sent_by cells_stored_by count_of refused_by protection_by number_of unchanged after_steps changes_nothing gives first_of exceeds_room passes_line2 start_lines host_refusals key_refusals host_lines key_lines start_step start_call host_call key_call
 computed = tt
 
 -- Each leaves what document 01 says.

@@ -7,7 +7,7 @@ use Prim.Native.Nat.{ℕ, ◌+◌, ◌-◌, ◌<◌, ◌≤◌}
 use native.Mathlib.Omega.{arith}
 use borrow.Author.Tests.{eqb-true, eqb-false, not-true, eq-eqb, ne_eqb}
 use lib.Dec.{eqb}
-use Rattle.words.specs.Choice.{if◌then◌else◌, ◌and◌, ◌or◌, ◌is◌to◌}
+use Rattle.words.specs.Choice.{If◌then◌else◌, ◌and◌, ◌or◌, ◌is◌to◌}
 use Rattle.words.proofs.Choosing.{true_is_not_false, not_both, either_way, then_case, else_case, both, both_hold, neither, one_fails, one_holds, first_holds, second_decides, range_holds, range_is, refuted}
 use Rattle.words.proofs.Elements.{some_passes, none_passes}
 use Rattle.words.proofs.Ranges.{in_range, all_places_hold, some_place_fails, some_place_holds, at_no_place}
@@ -108,11 +108,11 @@ module _ (t : Terminal) where
   cursor = cursor_cell t.state
 
   on_the_left : is_not_taken 264 t ≡ not (takes_from_right (seen t) cursor (carried t))
-  unfolding is_not_taken is_typing ◌is◌to◌ ◌and◌ if◌then◌else◌
+  unfolding is_not_taken is_typing ◌is◌to◌ ◌and◌ If◌then◌else◌
   on_the_left = refl
 
   on_the_right : is_not_taken 265 t ≡ not (takes_from_left (seen t) cursor (carried t))
-  unfolding is_not_taken is_typing ◌is◌to◌ ◌and◌ if◌then◌else◌
+  unfolding is_not_taken is_typing ◌is◌to◌ ◌and◌ If◌then◌else◌
   on_the_right = refl
 
   some_on_the_left : takes_from_right (seen t) cursor (carried t) ≡ false → (cell : ℕ) × (cursor < cell) × (cell < end_here t) × (takes_at t (cell - 1) (character_at t cell) ≡ false)

@@ -1,6 +1,6 @@
 -- Document 01, "Numbers a call gives back": for each answer its number, and what its line gives and leaves.
 use Rattle.std.specs.Prelude.{Bool, true, false, List, ℕ, length, take}
-use Rattle.words.specs.Choice.{if◌then◌else◌}
+use Rattle.words.specs.Choice.{If◌then◌else◌}
 use Rattle.words.specs.Output.{placed}
 use Rattle.page.specs.Page.{Page}
 use Rattle.steps.specs.Steps.{Terminal, Stepped}
@@ -96,5 +96,5 @@ changes_nothing RequiredBlank = true
 -- A call that may do these steps: those before the one that lacks room, or all.
 unfoldable pub gives : Answer → ℕ → Terminal → List ℕ → List Stepped → Outcome
 gives answer taken t output steps =
-    if changes_nothing answer then unchanged answer t output
+    If changes_nothing answer then unchanged answer t output
     else after_steps answer taken t output steps

@@ -1,6 +1,6 @@
 -- A call is the steps of its bytes, or of its key, as far as the output has room for their transmissions.
 use Rattle.std.specs.Prelude.{Bool, true, false, List, [], ◌∷◌, ◌++◌, ℕ, ◌+◌, ◌-◌, leb, length}
-use Rattle.words.specs.Choice.{if◌then◌else◌, ◌or◌}
+use Rattle.words.specs.Choice.{If◌then◌else◌, ◌or◌}
 use Rattle.steps.specs.Steps.{Terminal, Stepped, bytes_of}
 use Rattle.commands.specs.Host.{host_step}
 
@@ -14,7 +14,7 @@ unfoldable pub fitting : ℕ → List Stepped → List Stepped
 fitting room [] = []
 fitting room (step ∷ later) =
     let further = fitting (room - length (bytes_of step.transmission)) later in
-    if leb (length (bytes_of step.transmission)) room then step ∷ further
+    If leb (length (bytes_of step.transmission)) room then step ∷ further
     else []
 
 -- What steps leave of a terminal; their transmissions' bytes, joined in order; the cells that they name, joined in

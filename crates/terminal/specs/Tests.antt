@@ -1,7 +1,7 @@
 -- Document 01, "Numbers a call gives back", as tests that run: the refusals of each call in one ordered list, of which
 -- the first that holds decides. Lines.antt has the same lines in the table's words.
 use Rattle.std.specs.Prelude.{◌≡◌, Bool, true, false, not, List, [], ◌∷◌, ◌++◌, ℕ, ltb, length}
-use Rattle.words.specs.Choice.{if◌then◌else◌, ◌and◌}
+use Rattle.words.specs.Choice.{If◌then◌else◌, ◌and◌}
 use Rattle.page.specs.Page.{Page, valid_page}
 use Rattle.state.specs.declared.Size.{Size}
 use Rattle.state.specs.Tests.{size_fits, valid_state}
@@ -26,7 +26,7 @@ unfoldable pub first_of : List LineTest → Answer
 first_of [] = Done
 first_of (line ∷ later) =
     let further = first_of later in
-    if line.holds then line.answer
+    If line.holds then line.answer
     else further
 
 -- A step is left out, since its transmission exceeds the room left.

@@ -6,7 +6,7 @@ use Prim.Native.Nat.{ℕ, ◌≤◌, ◌<◌}
 use native.Mathlib.Omega.{arith}
 use lib.Dec.{ltb}
 use borrow.Author.Tests.{lt-ltb, le-ltb, le-leb, lt-leb, eq-eqb, ne_eqb, leb-true, leb-false, ltb-true, ltb-false}
-use Rattle.words.specs.Choice.{if◌then◌else◌, ◌and◌, ◌or◌, ◌is◌to◌}
+use Rattle.words.specs.Choice.{If◌then◌else◌, ◌and◌, ◌or◌, ◌is◌to◌}
 
 pub true_is_not_false : true ≡ false → ⊥
 true_is_not_false p = let z : ◌≡◌ {A = ℕ} 0 1 = cc in omega arith
@@ -15,19 +15,19 @@ pub not_both : {t : Bool} → t ≡ true → t ≡ false → ⊥
 not_both p q = true_is_not_false (sym p ∙ q)
 
 module _ {A : Type 0} where
-  pub then_case : (t : Bool) (a b : A) → t ≡ true → (if t then a else b) ≡ a
-  unfolding if◌then◌else◌
+  pub then_case : (t : Bool) (a b : A) → t ≡ true → (If t then a else b) ≡ a
+  unfolding If◌then◌else◌
   then_case true a b p = refl
   then_case false a b p = absurd (true_is_not_false (sym p))
 
-  pub else_case : (t : Bool) (a b : A) → t ≡ false → (if t then a else b) ≡ b
-  unfolding if◌then◌else◌
+  pub else_case : (t : Bool) (a b : A) → t ≡ false → (If t then a else b) ≡ b
+  unfolding If◌then◌else◌
   else_case true a b p = absurd (true_is_not_false p)
   else_case false a b p = refl
 
 -- What holds of both lines of a choice holds of the choice.
-pub either_line : {A : Type 0} (P : A → Type 0) (t : Bool) (a b : A) → (t ≡ true → P a) → (t ≡ false → P b) → P (if t then a else b)
-unfolding if◌then◌else◌
+pub either_line : {A : Type 0} (P : A → Type 0) (t : Bool) (a b : A) → (t ≡ true → P a) → (t ≡ false → P b) → P (If t then a else b)
+unfolding If◌then◌else◌
 either_line P true a b f g = f refl
 either_line P false a b f g = g refl
 

@@ -2,10 +2,10 @@
 use Rattle.std.specs.Prelude.{Bool, true, false, ℕ, leb}
 
 -- A table: the first line whose test holds decides.
-infixr 10 if◌then◌else◌
-unfoldable pub if◌then◌else◌ : {A : Type 0} → Bool → A → A → A
-if◌then◌else◌ true a b = a
-if◌then◌else◌ false a b = b
+infixr 10 If◌then◌else◌
+unfoldable pub If◌then◌else◌ : {A : Type 0} → Bool → A → A → A
+If◌then◌else◌ true a b = a
+If◌then◌else◌ false a b = b
 
 -- Both tests hold; at least one of them does. (These stay shut in goals, where the library's `&&` and `||` would open.)
 infixr 16 ◌and◌

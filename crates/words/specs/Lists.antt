@@ -1,6 +1,6 @@
 -- What the definitions say of lists. Places are counted from 0.
 use Rattle.std.specs.Prelude.{Bool, true, false, List, [], ◌∷◌, ◌++◌, ℕ, zero, suc, ◌+◌, ◌-◌, leb, ltb, take, drop}
-use Rattle.words.specs.Choice.{if◌then◌else◌, ◌and◌, ◌or◌}
+use Rattle.words.specs.Choice.{If◌then◌else◌, ◌and◌, ◌or◌}
 
 -- A place from `from` on and before `to`.
 unfoldable pub within : ℕ → ℕ → ℕ → Bool
@@ -37,7 +37,7 @@ unfoldable pub numbers_from : (ℕ → Bool) → ℕ → ℕ → List ℕ
 numbers_from test i zero = []
 numbers_from test i (suc n) =
     let rest = numbers_from test (i + 1) n in
-    if test i then i ∷ rest
+    If test i then i ∷ rest
     else rest
 
 -- The list with a change of its part from `from` to before `to` in the place of that part.
@@ -49,7 +49,7 @@ unfoldable pub selected : {A : Type 0} → (A → Bool) → List A → List A
 selected test [] = []
 selected test (x ∷ rest) =
     let later = selected test rest in
-    if test x then x ∷ later
+    If test x then x ∷ later
     else later
 
 -- Exactly so many elements: a longer list is cut, a shorter one filled up. A state's lists have these lengths, but only

@@ -8,7 +8,7 @@ use native.Mathlib.Omega.{arith}
 use borrow.Author.Tests.{eqb-false, eq-eqb}
 use lib.Dec.{ltb}
 use lib.ListN.{length, get_or, set, replicate}
-use Rattle.words.specs.Choice.{if◌then◌else◌}
+use Rattle.words.specs.Choice.{If◌then◌else◌}
 use Rattle.words.specs.Output.{placed}
 use Rattle.words.specs.Lists.{exactly}
 use Rattle.words.proofs.Choosing.{true_is_not_false, not_both, both, then_case, else_case}
@@ -118,8 +118,8 @@ bad_is_bad good = eqb-false 0 2 refl (ap (λ (bytes : List ℕ). get_or bytes 10
 -- What the wrong one gives, by the page that is read.
 abbrev taken_with : Page → Left
 taken_with page =
-    if ltb 0 (wrong_length bad_lent.packed bad_lent.result) then untouched (wrong_length bad_lent.packed bad_lent.result) bad_lent
-    else if not (size_fits bad_size page) then refused_with 1 bad_lent
+    If ltb 0 (wrong_length bad_lent.packed bad_lent.result) then untouched (wrong_length bad_lent.packed bad_lent.result) bad_lent
+    else If not (size_fits bad_size page) then refused_with 1 bad_lent
     else left_by bad_lent (host_call (record { state = state_in bad_lent.packed; page = page }) [] [])
 
 right_lengths : wrong_length bad_lent.packed bad_lent.result ≡ 0

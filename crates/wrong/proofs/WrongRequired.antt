@@ -9,7 +9,7 @@ use native.Mathlib.Omega.{arith}
 use borrow.Author.Tests.{eqb-false}
 use lib.Dec.{eqb}
 use lib.ListN.{take, get_or}
-use Rattle.words.specs.Choice.{if◌then◌else◌, ◌and◌}
+use Rattle.words.specs.Choice.{If◌then◌else◌, ◌and◌}
 use Rattle.words.specs.Lists.{some}
 use Rattle.words.specs.Text.{bytes}
 use Rattle.words.proofs.Choosing.{true_is_not_false, then_case}
@@ -49,7 +49,7 @@ one_cell = sheet_fields (bytes "     ") (512 ∷ 1 ∷ 1 ∷ 1 ∷ 1 ∷ []) ref
 -- A changed block omits it, and is sent.
 sends_without : (looks_at_what_it_sends.on_key 266 blank_field).transmission ≡ changed_block (block false 80 blank_field.page)
 unfolding key_steps blank_fields block_bytes some_sent_blank
-sends_without = ap (λ (fields : List Field). (if some_sent_blank blank_field fields then goes_to blank_field.state blank_field else taken_step 266 blank_field).transmission) one_cell
+sends_without = ap (λ (fields : List Field). (If some_sent_blank blank_field fields then goes_to blank_field.state blank_field else taken_step 266 blank_field).transmission) one_cell
 
 pub looks_at_what_it_sends_breaks_required : Required looks_at_what_it_sends looks_at_what_it_sends_calls → ⊥
 unfolding block_transmission

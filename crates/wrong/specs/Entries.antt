@@ -2,7 +2,7 @@
 use Rattle.std.specs.Prelude.{Bool, true, false, List, [], ◌∷◌, reverse, length, take, get_or, set, replicate}
 use Rattle.std.specs.Prelude.{ℕ, ◌+◌, ltb, eqb}
 use Prim.Native.Char.{code}
-use Rattle.words.specs.Choice.{if◌then◌else◌, ◌and◌, ◌or◌}
+use Rattle.words.specs.Choice.{If◌then◌else◌, ◌and◌, ◌or◌}
 use Rattle.words.specs.Output.{placed}
 use Rattle.sequence.specs.Record.{nothing_read}
 use Rattle.page.specs.Page.{Page, page_of, typed, blanked, part_stored, modified_cleared}
@@ -84,10 +84,10 @@ abbrev pub without_half_read : Outcome → Outcome
 without_half_read o = leaving (with_nothing_read o.terminal) o
 
 abbrev on0 : (Outcome → Outcome) → Outcome → Outcome
-on0 change o = if eqb o.number 0 then change o else o
+on0 change o = If eqb o.number 0 then change o else o
 
 abbrev on3 : (Outcome → Outcome) → Outcome → Outcome
-on3 change o = if eqb o.number 3 then change o else o
+on3 change o = If eqb o.number 3 then change o else o
 
 -- Ours with what every host call gives and leaves changed.
 abbrev changing_host : (Outcome → Outcome) → Entries
@@ -101,7 +101,7 @@ always_refuses = with_host (λ t bytes output. unchanged TooLong t output)
 abbrev pub locked_before_unknown : Entries
 locked_before_unknown = with_key (λ t key output.
     let outcome = key_call t key output in
-    if eqb outcome.number 4 and is_locked t.state then unchanged Locked t output
+    If eqb outcome.number 4 and is_locked t.state then unchanged Locked t output
     else outcome)
 
 -- Demand 1, refusals. A start given 1 blanks the page that it was lent.
@@ -109,7 +109,7 @@ abbrev pub blanks_refused_start : Entries
 blanks_refused_start = with_start (λ size page.
     let outcome = start_call size page in
     let blank = page_of (replicate (length page.characters) 0x20) page.marks in
-    if eqb outcome.number 0 then outcome
+    If eqb outcome.number 0 then outcome
     else leaving (with_page blank outcome.terminal) outcome)
 
 -- 266 given 3 clears modified all the same.
@@ -133,7 +133,7 @@ paints_start = with_start (λ size page. on0 inventing (start_call size page))
 -- A start of another size, with as many cells: 24 by 160 for 48 by 80.
 abbrev pub starts_other_size : Entries
 starts_other_size = with_start (λ size page.
-    if eqb size.rows 48 and eqb size.columns 80 then start_call (record { rows = 24; columns = 160 }) page
+    If eqb size.rows 48 and eqb size.columns 80 then start_call (record { rows = 24; columns = 160 }) page
     else start_call size page)
 
 -- The field that a start leaves. A start clears the characters and keeps the marks that it was lent,
@@ -165,7 +165,7 @@ abbrev muting : (ℕ → Terminal → Bool) → Entries
 muting which = record {
   start = paints_start.start;
   host = host_call;
-  key = λ t key output. if which key t then on0 (feigned t key) (key_call t key output) else key_call t key output;
+  key = λ t key output. If which key t then on0 (feigned t key) (key_call t key output) else key_call t key output;
 }
 
 -- a character that the cell already holds;
@@ -212,7 +212,7 @@ fixed_answer = with_host (λ t bytes output. taking (length bytes) (unchanged Do
 -- It gives 6 to more than 16 host bytes in a call.
 abbrev pub refuses_long_reads : Entries
 refuses_long_reads = with_host (λ t bytes output.
-    if ltb 16 (length bytes) then unchanged TooLong t output
+    If ltb 16 (length bytes) then unchanged TooLong t output
     else host_call t bytes output)
 
 -- Demand 2, keys. 263 makes the cursor's whole row 20s, protected cells too.
@@ -225,7 +225,7 @@ row_blanked t =
 abbrev pub blanks_row : Entries
 blanks_row = with_key (λ t key output.
     let outcome = key_call t key output in
-    if eqb key 263 and eqb outcome.number 0 then after_steps Done 0 t output (row_blanked t ∷ [])
+    If eqb key 263 and eqb outcome.number 0 then after_steps Done 0 t output (row_blanked t ∷ [])
     else outcome)
 
 -- A typed character is stored on a protected cell too.
@@ -233,7 +233,7 @@ abbrev pub types_on_protected : Entries
 types_on_protected = with_key (λ t key output.
     let outcome = key_call t key output in
     let cell = cursor_cell t.state in
-    if is_typing key and eqb outcome.number 7 then
+    If is_typing key and eqb outcome.number 7 then
     after_steps Done 0 t output (stores (cell ∷ []) false t.state (typed cell key t.page) ∷ [])
     else outcome)
 
@@ -258,7 +258,7 @@ sets_message5 = with_key (λ t key output. messaging 5 0 (key_call t key output)
 abbrev pub leaves_byte : Entries
 leaves_byte = with_key (λ t key output.
     let outcome = key_call t key output in
-    if eqb key 268 then messaging 0 t.state.locks.byte outcome
+    If eqb key 268 then messaging 0 t.state.locks.byte outcome
     else outcome)
 
 -- Continuing. A call given 3 tells of no cells stored, though commands before it were done.

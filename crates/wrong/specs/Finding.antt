@@ -1,6 +1,6 @@
 -- Wrong ways for a host to find the blocks in the bytes it gets.
 use Rattle.std.specs.Prelude.{List, [], ◌∷◌, ◌++◌, ℕ, eqb}
-use Rattle.words.specs.Choice.{if◌then◌else◌}
+use Rattle.words.specs.Choice.{If◌then◌else◌}
 use Rattle.blocks.specs.Finding.{blocks_in}
 
 -- By 03 alone: all bytes up to it are the block, a report before it too.
@@ -10,7 +10,7 @@ pub record UpTo03 : Type 0 where
 
 abbrev taking03 : ℕ → List ℕ → UpTo03
 taking03 byte held =
-    if eqb byte 0x03 then record { held = []; ended = (held ++ (byte ∷ [])) ∷ [] }
+    If eqb byte 0x03 then record { held = []; ended = (held ++ (byte ∷ [])) ∷ [] }
     else record { held = held ++ (byte ∷ []); ended = [] }
 
 unfoldable pub up_to03 : List ℕ → List ℕ → List (List ℕ)

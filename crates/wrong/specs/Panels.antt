@@ -1,6 +1,6 @@
 -- M-100: wrong codings of the state and wrong panels, each ours with a fault, under the promise that it breaks.
 use Rattle.std.specs.Prelude.{not, List, ◌++◌, reverse, ℕ, eqb, ltb, length, take, drop, get_or, set, replicate}
-use Rattle.words.specs.Choice.{if◌then◌else◌}
+use Rattle.words.specs.Choice.{If◌then◌else◌}
 use Rattle.page.specs.Page.{page_of}
 use Rattle.state.specs.Tests.{size_fits}
 use Rattle.terminal.specs.Calls.{host_call}
@@ -66,29 +66,29 @@ high_byte_first = record { write = λ s. first_two_swapped (record_of s); read =
 abbrev pub takes_bad_content : Panel
 takes_bad_content = with_host (λ lent bytes.
     let wrong = own_number lent in
-    if ltb 0 wrong then untouched wrong lent
-    else if not (size_fits (state_in lent.packed).size (page_in lent)) then refused_with 1 lent
+    If ltb 0 wrong then untouched wrong lent
+    else If not (size_fits (state_in lent.packed).size (page_in lent)) then refused_with 1 lent
     else left_by lent (host_call (terminal_in lent) bytes lent.output))
 
 -- The record's length is tested before the result slice's.
 abbrev pub record_before_result : Panel
 record_before_result = with_host (λ lent bytes.
-    if not (eqb (length lent.packed) record_length) then untouched 2 lent
+    If not (eqb (length lent.packed) record_length) then untouched 2 lent
     else panel_host lent bytes)
 
 -- Bad content gives 2 though the size is not listed.
 abbrev pub content_before_size : Panel
 content_before_size = with_host (λ lent bytes.
     let wrong = own_number lent in
-    if ltb 0 wrong then untouched wrong lent
-    else if not (is_good lent.packed) then refused_with 2 lent
+    If ltb 0 wrong then untouched wrong lent
+    else If not (is_good lent.packed) then refused_with 2 lent
     else panel_host lent bytes)
 
 -- Marks of one byte a cell are taken as they are.
 abbrev pub takes_one_byte_marks : Panel
 takes_one_byte_marks = with_host (λ lent bytes.
     let page = page_of lent.characters lent.marks in
-    if eqb (length lent.marks) (length lent.characters)
+    If eqb (length lent.marks) (length lent.characters)
     then left_by lent (host_call (record { state = state_in lent.packed; page = page }) bytes lent.output)
     else panel_host lent bytes)
 
@@ -96,14 +96,14 @@ takes_one_byte_marks = with_host (λ lent bytes.
 abbrev pub zeroes_results : Panel
 zeroes_results = with_host (λ lent bytes.
     let left = panel_host lent bytes in
-    if ltb 0 (own_number lent) then with_result (replicate (length lent.result) 0) left
+    If ltb 0 (own_number lent) then with_result (replicate (length lent.result) 0) left
     else left)
 
 -- A start that is refused for its size leaves the record as it was.
 abbrev pub refused_start_keeps_record : Panel
 refused_start_keeps_record = with_start (λ rows columns lent.
     let left = panel_start rows columns lent in
-    if ltb 0 left.number then with_record lent.packed left
+    If ltb 0 left.number then with_record lent.packed left
     else left)
 
 -- As called. Host bytes leave the record as it was: half a sequence is lost between two reads.
@@ -127,19 +127,19 @@ counts_reversed result =
 abbrev pub counts_high_byte_first : Panel
 counts_high_byte_first = with_host (λ lent bytes.
     let left = panel_host lent bytes in
-    if ltb 0 (own_number lent) then left
+    If ltb 0 (own_number lent) then left
     else with_result (counts_reversed left.lent.result) left)
 
 -- Validity. The record that host bytes leave has 2 in the erasure mode's flag.
 abbrev pub leaves_flag2 : Panel
 leaves_flag2 = with_host (λ lent bytes.
     let left = panel_host lent bytes in
-    if eqb left.number 0 then with_record (set left.lent.packed 10 2) left
+    If eqb left.number 0 then with_record (set left.lent.packed 10 2) left
     else left)
 
 -- A key leaves a record of zeros.
 abbrev pub leaves_no_size : Panel
 leaves_no_size = with_key (λ lent key.
     let left = panel_key lent key in
-    if eqb left.number 0 then with_record (replicate record_length 0) left
+    If eqb left.number 0 then with_record (replicate record_length 0) left
     else left)

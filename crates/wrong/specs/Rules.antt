@@ -4,7 +4,7 @@ use Rattle.std.specs.Prelude.{Bool, true, false, not, length, take, drop, get_or
 use Rattle.std.specs.Prelude.{ℕ, ◌+◌, ◌-◌, ◌%◌, eqb, leb}
 use mathlib.Core.List.{List, [], ◌∷◌, ◌++◌, map, flat_map}
 use Prim.Native.Char.{code}
-use Rattle.words.specs.Choice.{if◌then◌else◌, ◌and◌, ◌or◌, ◌is◌to◌}
+use Rattle.words.specs.Choice.{If◌then◌else◌, ◌and◌, ◌or◌, ◌is◌to◌}
 use Rattle.words.specs.Lists.{some, all_from, some_from, selected}
 use Rattle.sequence.specs.declared.Reason.TheVariants.{UnknownCommand}
 use Rattle.sequence.specs.Range.{argument_of}
@@ -56,7 +56,7 @@ sends_changed s = not (sends_full s)
 
 abbrev sending_where : (State → Bool) → (Terminal → Transmission) → Rules
 sending_where mode transmission = with_on_key (λ key t.
-    if eqb key 266 and mode t.state and not (is_held_back key t) then
+    If eqb key 266 and mode t.state and not (is_held_back key t) then
     sends (transmission t) t.state (with_tags_cleared t).page
     else key_step key t)
 
@@ -80,7 +80,7 @@ is_block (changed_block bytes) = true
 
 abbrev page_after_block : (Page → Page) → Stepped → Stepped
 page_after_block change step =
-    if is_block step.transmission then
+    If is_block step.transmission then
     leaving_terminal (with_page (change step.terminal.page) step.terminal) step
     else step
 
@@ -93,7 +93,7 @@ clears_all_tags = with_on_key (λ key t.
 -- Sending takes the visual marks from unprotected cells.
 abbrev pub clears_looks : Rules
 clears_looks = with_on_key (λ key t.
-    let plain = map (λ mark. if is_protected mark then mark else 0) in
+    let plain = map (λ mark. If is_protected mark then mark else 0) in
     page_after_block (λ page. page_of page.characters (plain page.marks)) (key_step key t))
 
 -- ESC S unprotects the first cell.
@@ -108,7 +108,7 @@ withholds_changed = sending_where sends_changed (λ t. silent)
 -- or ESC S sends by the mode of 266.
 abbrev pub esc_sby_mode : Rules
 esc_sby_mode = with_on_byte (λ b t.
-    if eqb t.state.half.kind 1 and eqb b (code "S") then send_block (sends_full t.state) (with_nothing_read t)
+    If eqb t.state.half.kind 1 and eqb b (code "S") then send_block (sends_full t.state) (with_nothing_read t)
     else host_step b t)
 
 -- Blocks asked for, and the bound. A full block by 266 ends with 03 twice,
@@ -122,15 +122,15 @@ sends_fixed_block = sending_where sends_changed (λ t. changed_block (replicate 
 -- or ESC S is held back where 266 is.
 abbrev pub holds_esc_sback : Rules
 holds_esc_sback = with_on_byte (λ b t.
-    if eqb t.state.half.kind 1 and eqb b (code "S") and some_left_blank (seen t) then
+    If eqb t.state.half.kind 1 and eqb b (code "S") and some_left_blank (seen t) then
     goes_to t.state (with_nothing_read t)
     else host_step b t)
 
 -- Required fields. 266 is held back by another test,
 abbrev holding_back_where : (Terminal → Bool) → Rules
 holding_back_where test = with_on_key (λ key t.
-    if eqb key 266 and test t then goes_to t.state t
-    else if eqb key 266 then taken_step key t
+    If eqb key 266 and test t then goes_to t.state t
+    else If eqb key 266 then taken_step key t
     else key_step key t)
 
 -- and 9 is given by it.
@@ -173,7 +173,7 @@ cut_at_row_end columns field =
     let room = columns - field.start % columns in
     let begun : Field = record { start = field.start; length = room } in
     let rest : Field = record { start = field.start + room; length = field.length - room } in
-    if leb field.length room then field ∷ []
+    If leb field.length room then field ∷ []
     else begun ∷ rest ∷ []
 
 abbrev pub cuts_at_row_end : Rules
@@ -184,12 +184,12 @@ cuts_at_row_end = sending_where sends_full (λ t.
 abbrev pub joins_last_to_first : Rules
 joins_last_to_first = sending_where sends_full (λ t.
     let both = unprotected_at t 0 and unprotected_at t (cells_here t - 1) in
-    full_block (encode (map (entry_here t) (drop (if both then 1 else 0) (fields_here t)))))
+    full_block (encode (map (entry_here t) (drop (If both then 1 else 0) (fields_here t)))))
 
 -- Why a command is refused. A spoilt sequence is first looked up in the table: an unknown final byte is given 1.
 abbrev pub unknown_before_spoilt : Rules
 unknown_before_spoilt = with_on_byte (λ b t.
-    if t.state.half.spoilt and b is 0x40 to 0x7E and eqb (allowed b).most 0 then
+    If t.state.half.spoilt and b is 0x40 to 0x7E and eqb (allowed b).most 0 then
     refusing UnknownCommand b (with_nothing_read t)
     else host_step b t)
 
@@ -206,15 +206,15 @@ leaving_byte byte step =
 abbrev pub keeps_spoiling_byte : Rules
 keeps_spoiling_byte = with_on_byte (λ b t.
     let step = host_step b t in
-    if t.state.half.spoilt and step.was_refused then leaving_byte t.state.locks.byte step
-    else if step.terminal.state.half.spoilt then leaving_byte b step
+    If t.state.half.spoilt and step.was_refused then leaving_byte t.state.locks.byte step
+    else If step.terminal.state.half.spoilt then leaving_byte b step
     else step)
 
 -- A command refused while a message stands leaves that message's byte.
 abbrev pub keeps_first_byte : Rules
 keeps_first_byte = with_on_byte (λ b t.
     let step = host_step b t in
-    if step.was_refused and not (eqb t.state.locks.message 0) then leaving_byte t.state.locks.byte step
+    If step.was_refused and not (eqb t.state.locks.message 0) then leaving_byte t.state.locks.byte step
     else step)
 
 -- A refused command tells its message and byte and locks nothing.
@@ -224,16 +224,16 @@ locks_nothing = with_on_byte (λ b t.
     let left = step.terminal.state.locks in
     let soft = t.state.locks.soft in
     let unlocked : Locks = record { manual = left.manual; soft = soft; message = left.message; byte = left.byte } in
-    if step.was_refused then leaving_locks unlocked step
+    If step.was_refused then leaving_locks unlocked step
     else step)
 
 -- Keys take. A character is typed into any unprotected cell,
 abbrev pub types_anything : Rules
-types_anything = with_on_key (λ key t. if is_typing key then taken_step key t else key_step key t)
+types_anything = with_on_key (λ key t. If is_typing key then taken_step key t else key_step key t)
 
 -- 264 carries characters without asking the cells that they come to,
 abbrev pub carries_anything : Rules
-carries_anything = with_on_key (λ key t. if eqb key 264 then taken_step key t else key_step key t)
+carries_anything = with_on_key (λ key t. If eqb key 264 then taken_step key t else key_step key t)
 
 -- or a typed character takes bits from n to before m off its cell:
 abbrev typing_clears : ℕ → ℕ → Rules
@@ -242,7 +242,7 @@ typing_clears n m = with_on_key (λ key t.
     let marks = step.terminal.page.marks in
     let cell = cursor_cell t.state in
     let page = page_of step.terminal.page.characters (set marks cell (without_bits n m (get_or marks cell 0))) in
-    if is_typing key then stores step.cells step.protection step.terminal.state page
+    If is_typing key then stores step.cells step.protection step.terminal.state page
     else step)
 
 -- it makes its cell plain, or no longer required.
@@ -255,7 +255,7 @@ takes_required_off = typing_clears 9 10
 -- Message and byte. Text clears them,
 abbrev pub text_clears : Rules
 text_clears = with_on_byte (λ b t.
-    if eqb t.state.half.kind 0 and b is 0x20 to 0x7E then leaving_locks no_locks (host_step b t)
+    If eqb t.state.half.kind 0 and b is 0x20 to 0x7E then leaving_locks no_locks (host_step b t)
     else host_step b t)
 
 -- or 268 takes the soft lock off and leaves them.
@@ -263,7 +263,7 @@ abbrev pub unlocks_only : Rules
 unlocks_only = with_on_key (λ key t.
     let was = t.state.locks in
     let locks : Locks = record { manual = was.manual; soft = false; message = was.message; byte = was.byte } in
-    if eqb key 268 then leaving_locks locks (key_step key t)
+    If eqb key 268 then leaving_locks locks (key_step key t)
     else key_step key t)
 
 -- A step that leaves the mode of 266 at full blocks, or at changed ones.
@@ -274,26 +274,26 @@ leaving_mode full step = leaving_terminal (with_state step.terminal (with_full s
 abbrev pub swaps_set_and_reset : Rules
 swaps_set_and_reset = with_on_byte (λ b t.
     let half = t.state.half in
-    let swapped = if eqb b (code "h") then code "l" else if eqb b (code "l") then code "h" else b in
-    if eqb half.kind 5 and eqb (argument_of half 0) 6 then host_step swapped t
+    let swapped = If eqb b (code "h") then code "l" else If eqb b (code "l") then code "h" else b in
+    If eqb half.kind 5 and eqb (argument_of half 0) 6 then host_step swapped t
     else host_step b t)
 
 -- or ESC c keeps the mode,
 abbrev pub esc_ckeeps_mode : Rules
 esc_ckeeps_mode = with_on_byte (λ b t.
-    if eqb t.state.half.kind 1 and eqb b (code "c") then leaving_mode (sends_full t.state) (host_step b t)
+    If eqb t.state.half.kind 1 and eqb b (code "c") then leaving_mode (sends_full t.state) (host_step b t)
     else host_step b t)
 
 -- or mode 6, without the >, resets it too: ESC [ 6 l,
 abbrev pub resets_without_mark : Rules
 resets_without_mark = with_on_byte (λ b t.
     let step = host_step b t in
-    if eqb t.state.half.kind 3 and eqb b (code "l") and not step.was_refused then leaving_mode true step
+    If eqb t.state.half.kind 3 and eqb b (code "l") and not step.was_refused then leaving_mode true step
     else step)
 
 -- or 266 sends all once, and from there on what changed.
 abbrev pub sends_all_once : Rules
-sends_all_once = with_on_key (λ key t. if eqb key 266 then leaving_mode false (key_step key t) else key_step key t)
+sends_all_once = with_on_key (λ key t. If eqb key 266 then leaving_mode false (key_step key t) else key_step key t)
 
 -- The copy. A changed block has those fields whose first cell is modified.
 unfoldable pub first_cell_block : Terminal → List ℕ
@@ -314,12 +314,12 @@ untagged t step =
     stores step.cells step.protection step.terminal.state page
 
 abbrev pub never_tags : Rules
-never_tags = with_on_key (λ key t. if is_typing key then untagged t (key_step key t) else key_step key t)
+never_tags = with_on_key (λ key t. If is_typing key then untagged t (key_step key t) else key_step key t)
 
 -- or when it stores the same character.
 abbrev pub tags_only_changes : Rules
 tags_only_changes = with_on_key (λ key t.
-    if is_typing key and eqb key (character_at t (cursor_cell t.state)) then untagged t (key_step key t)
+    If is_typing key and eqb key (character_at t (cursor_cell t.state)) then untagged t (key_step key t)
     else key_step key t)
 
 -- Sending doesn't clear modified.

@@ -1,12 +1,12 @@
 use borrow.Author.Tests.{ne_eqb}
-use Rattle.words.specs.Choice.{if◌then◌else◌}
+use Rattle.words.specs.Choice.{If◌then◌else◌}
 use Rattle.commands.specs.Commands.{esc_step}
 use Rattle.steps.proofs.Writing.{told_silent}
 use Rattle.commands.proofs.Silent.{esc_silent}
 use Rattle.commands.proofs.esc_step.Goals as goal
 
 pub returns-then-byte-eq83 : goal.returns-then-byte-eq83
-unfolding esc_step if◌then◌else◌
+unfolding esc_step If◌then◌else◌
 returns-then-byte-eq83 c = rw c.if-byte-eq83.true (rw c.with_half-before.ensures at c.send_block.ensures)
 
 pub silent_esc_step-requires : goal.silent_esc_step-requires

@@ -1,5 +1,5 @@
 use borrow.Author.Tests.{le-ltb}
-use Rattle.words.specs.Choice.{if◌then◌else◌}
+use Rattle.words.specs.Choice.{If◌then◌else◌}
 use Rattle.words.proofs.Choosing.{tests}
 use Rattle.page.specs.Page.{page_of}
 use Rattle.steps.specs.Steps.{all_cells}
@@ -21,7 +21,7 @@ scroll_up-requires c =
     (known.row_fits, known.as_many)
 
 pub returns : goal.returns
-unfolding line_down if◌then◌else◌
+unfolding line_down If◌then◌else◌
 returns c =
     let page = page_of c.args.characters.now c.args.marks.now in
     rw (le-ltb _ _ c.if-state.false, c.stored.ensures (all_cells page) _ (all_cells_count page), c.scroll_up.ensures)

@@ -1,5 +1,5 @@
 use borrow.Author.Tests.{le-ltb}
-use Rattle.words.specs.Choice.{if◌then◌else◌}
+use Rattle.words.specs.Choice.{If◌then◌else◌}
 use Rattle.words.proofs.Choosing.{tests}
 use Rattle.page.specs.Page.{page_of}
 use Rattle.steps.specs.Steps.{all_cells}
@@ -18,7 +18,7 @@ scroll_down-requires c =
     (known.row_fits, known.as_many)
 
 pub returns : goal.returns
-unfolding line_up if◌then◌else◌
+unfolding line_up If◌then◌else◌
 returns c =
     let page = page_of c.args.characters.now c.args.marks.now in
     rw (le-ltb _ _ c.if-state-gt1.false, c.stored.ensures (all_cells page) _ (all_cells_count page), c.scroll_down.ensures)

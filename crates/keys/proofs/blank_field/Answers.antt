@@ -1,5 +1,5 @@
 use native.Mathlib.Omega.{arith}
-use Rattle.words.specs.Choice.{if◌then◌else◌}
+use Rattle.words.specs.Choice.{If◌then◌else◌}
 use Rattle.page.specs.Page.{page_of}
 use Rattle.places.specs.Places.{place_of}
 use Rattle.places.proofs.Counting.{cell_is}
@@ -43,7 +43,7 @@ overflow_sub-end c =
     omega (arith, here.cell, left, right.some, ends)
 
 pub returns : goal.returns
-unfolding field_blanked gone_to place_of if◌then◌else◌
+unfolding field_blanked gone_to place_of If◌then◌else◌
 returns c =
     let here = found c.requires c.place-place.ensures in
     let cell-unprotected = is_unprotected c.stands_unprotected.ensures c.if-not-stands_unprotected.false-raw in

@@ -1,7 +1,7 @@
 use mathlib.Core.Path.{refl}
 use mathlib.Core.List.{[], ◌∷◌}
 use native.Mathlib.Omega.{arith}
-use Rattle.words.specs.Choice.{if◌then◌else◌}
+use Rattle.words.specs.Choice.{If◌then◌else◌}
 use Rattle.steps.specs.Steps.{cursor_cell}
 use Rattle.keys.specs.Keys.{typed_step}
 use Rattle.steps.proofs.Measuring.{measured}
@@ -24,7 +24,7 @@ store_typed-requires c =
     (omega arith, here.as_many)
 
 pub returns : goal.returns
-unfolding typed_step if◌then◌else◌
+unfolding typed_step If◌then◌else◌
 returns c =
     let here = found c.requires c.place-place.ensures in
     let cell-unprotected = is_unprotected c.stands_unprotected.ensures c.if-not-stands_unprotected.false-raw in
