@@ -75,18 +75,18 @@ module _ (t : Terminal) where
     event_left byte Nothing _ _ = mode_left (event_leaves t half Nothing tt)
     event_left byte (Text character) _ _ = mode_left (event_leaves t half (Text character) tt)
     event_left byte (Control control) _ _ = mode_left (event_leaves t half (Control control) tt)
-    event_left byte (EscCommand command) came not-Chosen =
-        esc_leaves command (λ c. not-Chosen false (subst (Chooses t.state.half false) (sym (came.1 ∙ c)) (fresh_by_esc_c came.0)))
+    event_left byte (EscCommand command) came not_chosen =
+        esc_leaves command (λ c. not_chosen false (subst (Chooses t.state.half false) (sym (came.1 ∙ c)) (fresh_by_esc_c came.0)))
     event_left byte (BracketCommand final) _ _ = mode_left (event_leaves t half (BracketCommand final) tt)
-    event_left byte (PrivateCommand final) came not-Chosen =
+    event_left byte (PrivateCommand final) came not_chosen =
         private_leaves final (argument_of t.state.half 0)
-        (λ six h. not-Chosen false (subst (Chooses t.state.half false) (sym (came.1 ∙ h)) (set_by_h came.0 six)))
-        (λ six l. not-Chosen true (subst (Chooses t.state.half true) (sym (came.1 ∙ l)) (reset_by_l came.0 six)))
+        (λ six h. not_chosen false (subst (Chooses t.state.half false) (sym (came.1 ∙ h)) (set_by_h came.0 six)))
+        (λ six l. not_chosen true (subst (Chooses t.state.half true) (sym (came.1 ∙ l)) (reset_by_l came.0 six)))
     event_left byte (Refused reason at) _ _ = mode_left (event_leaves t half (Refused reason at) tt)
 
   left : (byte : ℕ) → ((full : Bool) → Chooses t.state.half full byte → ⊥) → SameMode t (host_step byte t)
   unfolding host_step
-  left byte not-Chosen = event_left _ byte _ (event_tells t.state.half byte) not-Chosen
+  left byte not_chosen = event_left _ byte _ (event_tells t.state.half byte) not_chosen
 
 pub our_send_mode_stays : Keeps our_rules our_entries → SendModeStays our_rules our_entries
 our_send_mode_stays kept = record {

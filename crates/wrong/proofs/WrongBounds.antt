@@ -68,8 +68,8 @@ pub ends_twice_breaks_sends_blocks : SendsBlocks ends_twice → ⊥
 unfolding key_steps streams each_from first_and_even place_of
 ends_twice_breaks_sends_blocks kept =
     let longest = block true 160 many_fields.page in
-    let is_Block = ((kept many_in_full many_in_full_valid (press 266) true (longest ++ (0x03 ∷ []))).0 refl).1 in
-    omega (arith, ap length is_Block, length-append longest (0x03 ∷ []))
+    let block_is = ((kept many_in_full many_in_full_valid (press 266) true (longest ++ (0x03 ∷ []))).0 refl).1 in
+    omega (arith, ap length block_is, length-append longest (0x03 ∷ []))
 
 many_not_required : some_left_blank (seen many_fields) ≡ false
 unfolding key_steps each_from first_and_even place_of

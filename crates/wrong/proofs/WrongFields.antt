@@ -42,8 +42,8 @@ pub cuts_at_row_end_breaks_sends_blocks : SendsBlocks cuts_at_row_end → ⊥
 unfolding key_steps streams
 cuts_at_row_end_breaks_sends_blocks kept =
     let sent = encode (map (entry_here sender) (flat_map (cut_at_row_end 80) (fields_here sender))) in
-    let is_Block = ((kept (in_full sender) (in_full_valid sender_valid) (press 266) true sent).0 refl).1 in
-    omega (arith, ap length (sym cut_block ∙ is_Block ∙ full_block))
+    let block_is = ((kept (in_full sender) (in_full_valid sender_valid) (press 266) true sent).0 refl).1 in
+    omega (arith, ap length (sym cut_block ∙ block_is ∙ full_block))
 
 -- The field at 1;1 is left out: by its bytes the block is too short.
 abbrev first_field : Field
@@ -60,8 +60,8 @@ pub joins_last_to_first_breaks_sends_blocks : SendsBlocks joins_last_to_first �
 unfolding validity each_from first_and_even place_of unprotected key_steps streams block encode entry_bytes place_bytes
 joins_last_to_first_breaks_sends_blocks kept =
     let sent : List Field → List ℕ = λ fields. encode (map (entry_here many_fields) (drop 1 fields)) in
-    let is_Block = ((kept many_in_full many_in_full_valid (press 266) true (sent (fields_here many_fields))).0 refl).1 in
-    let whole = is_Block ∙ ap encode (all_sent 160 many_fields.page ∙ ap (map (entry_here many_fields)) many_listed) in
+    let block_is = ((kept many_in_full many_in_full_valid (press 266) true (sent (fields_here many_fields))).0 refl).1 in
+    let whole = block_is ∙ ap encode (all_sent 160 many_fields.page ∙ ap (map (entry_here many_fields)) many_listed) in
     omega (arith, ap length (ap sent (sym many_listed) ∙ whole), length-append (entry_bytes (entry_here many_fields first_field)) (encode (map (entry_here many_fields) other_fields)))
 
 -- A start whose page is one field leaves the first cell unprotected.
