@@ -2,7 +2,8 @@
 // Its lines, in and out, are those of second/FORMATS.md, section "calls".
 #![tactic(auto)]
 
-ghost use Rattle.std.specs.Prelude.{◌≡◌, ◌+◌, ◌%◌, ◌<◌, ◌≤◌, min, length};
+ghost use Rattle.std.specs.Prelude.{◌≡◌, ◌+◌, ◌%◌, ◌<◌, ◌≤◌, min, length, OnOk, IsErr};
+ghost use Rattle.std.specs.Io.KnownBytes.{Appends};
 ghost use Rattle.calls.specs.Frames.{two_at, four_at, Lendable};
 
 use page::Mark;
@@ -87,7 +88,12 @@ struct Printing<W> {
     done: io::Result<()>,
 }
 
-fn print<W: Write>(printing: &mut Printing<W>, text: &[u8]) {
+// The text, where all before it was written.
+fn print<W: Write>(printing: &mut Printing<W>, text: &[u8])
+    ensures written { OnOk printing.new.done
+        (Appends (W.contents printing.old.to) (W.contents printing.new.to) text.now) }
+    ensures stopped { IsErr printing.old.done → printing.new ≡ printing.old }
+{
     if printing.done.is_ok() {
         printing.done = printing.to.write_all(text);
     }
@@ -639,6 +645,7 @@ fn read_all<R: Read, W: Write>(
     marks: &mut [Mark],
 ) -> io::Result<()>
     requires { (length line.old ≡ 512) × (length characters.old ≡ 8192) × (length marks.old ≡ 8192) }
+    ensures { (length line.new ≡ 512) × (length characters.new ≡ 8192) × (length marks.new ≡ 8192) }
 {
     let held = Held {
         state: State::zero(),

@@ -3,7 +3,8 @@
 // crates/frames; here bytes are read, and the text of each call is written.
 #![tactic(auto)]
 
-ghost use Rattle.std.specs.Prelude.{◌≡◌, ◌≤◌, length};
+ghost use Rattle.std.specs.Prelude.{◌≡◌, ◌≤◌, length, OnOk, IsErr};
+ghost use Rattle.std.specs.Io.KnownBytes.{Appends};
 ghost use Rattle.frames.specs.Sessions.{line_done};
 ghost use Rattle.frames.specs.Transcript.{SoFar, after_byte, after_bytes};
 ghost use Rattle.frames.specs.Held.{line_in, session_in, lent, Enough, Holds};
@@ -38,7 +39,12 @@ struct Printing<W> {
     done: io::Result<()>,
 }
 
-fn print<W: Write>(printing: &mut Printing<W>, text: &[u8]) {
+// The text, where all before it was written.
+fn print<W: Write>(printing: &mut Printing<W>, text: &[u8])
+    ensures written { OnOk printing.new.done
+        (Appends (W.contents printing.old.to) (W.contents printing.new.to) text.now) }
+    ensures stopped { IsErr printing.old.done → printing.new ≡ printing.old }
+{
     if printing.done.is_ok() {
         printing.done = printing.to.write_all(text);
     }
@@ -227,6 +233,7 @@ fn read_all<R: Read, W: Write>(
     dumping: bool,
 ) -> io::Result<()>
     requires { (length line.old ≡ 512) × Enough (lent characters.old marks.old out.old text.old) }
+    ensures { (length line.new ≡ 512) × Enough (lent characters.new marks.new out.new text.new) }
 {
     let held = Held {
         going: false,
