@@ -2,6 +2,9 @@
 -- marks.
 use Rattle.std.specs.Prelude.{Bool, true, not, List, ℕ, ◌+◌, ◌*◌, ◌/◌, ◌%◌, ◌^◌, ltb, eqb, get_or}
 use Prim.Native.Char.{code}
+use Rattle.page.specs.declared.Attribute.{Attribute}
+use Rattle.page.specs.declared.Attribute.TheVariants.{Protected, Modified, Bold, Underlined, Blinking, Reversed}
+use Rattle.page.specs.declared.Attribute.TheVariants.{Concealed, Numeric, Alphabetic, Required}
 use Rattle.words.specs.Choice.{If◌then◌else◌, ◌and◌, ◌or◌, ◌is◌to◌}
 
 -- `mark` is all marks of a cell. Bit n of it, the lowest being 0: read, set; the other bits stay.
@@ -18,7 +21,30 @@ without_bits n m mark = mark / 2 ^ m * 2 ^ m + mark % 2 ^ n
 abbrev pub without_bit : ℕ → ℕ → ℕ
 without_bit n = without_bits n (1 + n)
 
--- A question for each mark.
+-- The attributes of a cell by the bit of its marks that says so.
+abbrev pub bit_of : Attribute → ℕ
+bit_of Protected = 0
+bit_of Modified = 1
+bit_of Bold = 2
+bit_of Underlined = 3
+bit_of Blinking = 4
+bit_of Reversed = 5
+bit_of Concealed = 6
+bit_of Numeric = 7
+bit_of Alphabetic = 8
+bit_of Required = 9
+
+abbrev pub has_attribute : Attribute → ℕ → Bool
+has_attribute attribute = has_bit (bit_of attribute)
+
+-- The marks with an attribute, and without it; the others stay.
+abbrev pub with_attribute : Attribute → ℕ → ℕ
+with_attribute attribute = with_bit (bit_of attribute)
+
+abbrev pub without_attribute : Attribute → ℕ → ℕ
+without_attribute attribute = without_bit (bit_of attribute)
+
+-- A question for each attribute.
 abbrev pub is_protected : ℕ → Bool
 is_protected = has_bit 0
 

@@ -2,7 +2,8 @@
 ghost use Rattle.std.specs.Prelude.{◌≡◌, ◌<◌, ◌≤◌, length};
 ghost use Rattle.page.specs.Page.{page_of, tagged, blanked, closed_up, moved_right, part_stored};
 
-use crate::marks::{Mark, mark_at, set_mark, with_modified};
+use crate::Attribute;
+use crate::marks::{Mark, mark_at, set_mark, with_attribute};
 
 // Each cell that an editing key stores becomes modified.
 fn tag(marks: &mut [Mark], from: usize, to: usize)
@@ -12,7 +13,7 @@ fn tag(marks: &mut [Mark], from: usize, to: usize)
     let mut cell = from;
     while cell < to {
         let mark = mark_at(marks, cell);
-        set_mark(marks, cell, with_modified(mark));
+        set_mark(marks, cell, with_attribute(mark, Attribute::Modified));
         cell += 1;
     }
 }

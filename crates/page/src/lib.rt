@@ -2,6 +2,25 @@
 // What each function leaves in them is defined in specs/Page.antt.
 #![tactic(auto)]
 
+// What a mark says of its cell: bit 0 of the mark, bit 1, and so on.
+#[derive(Clone, Copy)]
+pub enum Attribute {
+    Protected,
+    // Changed by a key since the last block.
+    Modified,
+    // The visual ones, bits 2 to 6.
+    Bold,
+    Underlined,
+    Blinking,
+    Reversed,
+    Concealed,
+    // Of M-103.
+    Numeric,
+    Alphabetic,
+    // Of M-107.
+    Required,
+}
+
 mod editing;
 mod erasing;
 mod marks;
@@ -12,9 +31,8 @@ mod tests;
 pub use editing::{blank_cells, delete_character, insert_blank};
 pub use erasing::erase;
 pub use marks::{
-    Mark, is_alphabetic, is_blinking, is_bold, is_concealed, is_modified, is_numeric, is_protected,
-    is_required, is_reversed, is_underlined, is_unprotected, is_valid_mark, mark_at, set_mark,
-    takes, with_modified, without_modified,
+    Mark, has_attribute, is_unprotected, is_valid_mark, mark_at, set_mark, takes, with_attribute,
+    without_attribute,
 };
 pub use scrolling::{scroll_down, scroll_up};
 pub use storing::{clear_modified, store_text, store_typed};

@@ -1,81 +1,51 @@
 // The marks of a cell, a bit for each; see specs/Marks.antt.
-ghost use Rattle.std.specs.Prelude.{◌≡◌, ◌<◌, length, get_or, set};
+ghost use Rattle.std.specs.Prelude.{◌≡◌, ◌^◌, ◌<◌, length, get_or, set};
 ghost use Rattle.words.specs.Choice.{If◌then◌else◌};
-ghost use Rattle.page.specs.Marks.{is_protected, is_modified, is_bold, is_underlined, is_blinking, is_reversed};
-ghost use Rattle.page.specs.Marks.{is_concealed, is_numeric, is_alphabetic, is_required, with_modified, without_modified};
+ghost use Rattle.page.specs.Marks.{bit_of, has_attribute, with_attribute, without_attribute};
 ghost use Rattle.page.specs.Marks.{valid_mark, numeric_takes, alphabetic_takes, takes, unprotected};
+
+use crate::Attribute;
 
 // What a cell has beside its character, a bit for each mark; bits 10 to 15 are zero.
 pub type Mark = u16;
 
-// Bit 0: protected.
-pub fn is_protected(mark: Mark) -> bool
-    ensures { result ≡ is_protected mark }
+// The mark that has this attribute and no other.
+fn mark_of(attribute: Attribute) -> Mark
+    ensures { result ≡ 2 ^ bit_of attribute }
 {
-    mark % 2 == 1
+    match attribute {
+        Attribute::Protected => 1,
+        Attribute::Modified => 2,
+        Attribute::Bold => 4,
+        Attribute::Underlined => 8,
+        Attribute::Blinking => 0x10,
+        Attribute::Reversed => 0x20,
+        Attribute::Concealed => 0x40,
+        Attribute::Numeric => 0x80,
+        Attribute::Alphabetic => 0x100,
+        Attribute::Required => 0x200,
+    }
 }
 
-// Bit 1: modified, that is, changed by a key since the last block.
-pub fn is_modified(mark: Mark) -> bool
-    ensures { result ≡ is_modified mark }
+// Whether a cell with these marks is protected, modified, ..
+pub fn has_attribute(mark: Mark, attribute: Attribute) -> bool
+    ensures { result ≡ has_attribute attribute mark }
 {
-    mark / 2 % 2 == 1
+    mark & mark_of(attribute) != 0
 }
 
-// Bits 2 to 6, the visual marks: bold.
-pub fn is_bold(mark: Mark) -> bool
-    ensures { result ≡ is_bold mark }
+// The mark with this attribute; the others stay.
+pub fn with_attribute(mark: Mark, attribute: Attribute) -> Mark
+    ensures { result ≡ with_attribute attribute mark }
 {
-    mark / 4 % 2 == 1
+    mark | mark_of(attribute)
 }
 
-// Underlined.
-pub fn is_underlined(mark: Mark) -> bool
-    ensures { result ≡ is_underlined mark }
+// The mark without it.
+pub fn without_attribute(mark: Mark, attribute: Attribute) -> Mark
+    ensures { result ≡ without_attribute attribute mark }
 {
-    mark / 8 % 2 == 1
-}
-
-// Blinking.
-pub fn is_blinking(mark: Mark) -> bool
-    ensures { result ≡ is_blinking mark }
-{
-    mark / 16 % 2 == 1
-}
-
-// Reversed.
-pub fn is_reversed(mark: Mark) -> bool
-    ensures { result ≡ is_reversed mark }
-{
-    mark / 32 % 2 == 1
-}
-
-// Concealed.
-pub fn is_concealed(mark: Mark) -> bool
-    ensures { result ≡ is_concealed mark }
-{
-    mark / 64 % 2 == 1
-}
-
-// Bit 7: numeric, of M-103.
-pub fn is_numeric(mark: Mark) -> bool
-    ensures { result ≡ is_numeric mark }
-{
-    mark / 128 % 2 == 1
-}
-
-// Bit 8: alphabetic.
-pub fn is_alphabetic(mark: Mark) -> bool
-    ensures { result ≡ is_alphabetic mark }
-{
-    mark / 256 % 2 == 1
-}
-
-// Bit 9: required, of M-107.
-pub fn is_required(mark: Mark) -> bool
-    ensures { result ≡ is_required mark }
-{
-    mark / 512 % 2 == 1
+    mark & !mark_of(attribute)
 }
 
 // A protected cell has no bit above the visual ones. Another one may have bit 9, and is not numeric and alphabetic: the
@@ -83,7 +53,7 @@ pub fn is_required(mark: Mark) -> bool
 pub fn is_valid_mark(mark: Mark) -> bool
     ensures { result ≡ valid_mark mark }
 {
-    if is_protected(mark) {
+    if has_attribute(mark, Attribute::Protected) {
         return mark < 0x80;
     }
     mark / 1024 * 1024 + mark % 512 < 0x180
@@ -137,10 +107,10 @@ pub fn takes(mark: Mark, character: u8) -> bool
     if character == 0x20 {
         return true;
     }
-    if is_numeric(mark) {
+    if has_attribute(mark, Attribute::Numeric) {
         return numeric_takes(character);
     }
-    if is_alphabetic(mark) {
+    if has_attribute(mark, Attribute::Alphabetic) {
         return alphabetic_takes(character);
     }
     true
@@ -154,20 +124,6 @@ pub fn chosen(first: bool, one: Mark, other: Mark) -> Mark
         return one;
     }
     other
-}
-
-// The mark of a cell that a key has stored.
-pub fn with_modified(mark: Mark) -> Mark
-    ensures { result ≡ with_modified mark }
-{
-    mark / 4 * 4 + 2 + mark % 2
-}
-
-// The mark of a cell that a block has sent.
-pub fn without_modified(mark: Mark) -> Mark
-    ensures { result ≡ without_modified mark }
-{
-    mark / 4 * 4 + mark % 2
 }
 
 // The one function that reads a mark: nothing else indexes the marks.
@@ -191,5 +147,5 @@ pub fn is_unprotected(marks: &[Mark], cell: usize) -> bool
     requires { cell < length marks.now }
     ensures { result ≡ unprotected marks.now cell }
 {
-    !is_protected(mark_at(marks, cell))
+    !has_attribute(mark_at(marks, cell), Attribute::Protected)
 }

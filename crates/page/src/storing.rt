@@ -2,8 +2,9 @@
 ghost use Rattle.std.specs.Prelude.{◌≡◌, ◌<◌, length};
 ghost use Rattle.page.specs.Page.{page_of, text_stored, typed, modified_cleared};
 
+use crate::Attribute;
 use crate::marks::{
-    Mark, chosen, is_protected, mark_at, set_mark, with_modified, without_modified,
+    Mark, chosen, has_attribute, mark_at, set_mark, with_attribute, without_attribute,
 };
 
 // Text from the host: the character, and the pen for its marks.
@@ -24,7 +25,7 @@ pub fn store_typed(characters: &mut [u8], marks: &mut [Mark], cell: usize, chara
 {
     characters[cell] = character;
     let mark = mark_at(marks, cell);
-    set_mark(marks, cell, with_modified(mark));
+    set_mark(marks, cell, with_attribute(mark, Attribute::Modified));
 }
 
 // Sending clears modified on all unprotected cells.
@@ -34,7 +35,11 @@ pub fn clear_modified(marks: &mut [Mark])
     let mut cell = 0;
     while cell < marks.len() {
         let mark = mark_at(marks, cell);
-        let sent = chosen(is_protected(mark), mark, without_modified(mark));
+        let sent = chosen(
+            has_attribute(mark, Attribute::Protected),
+            mark,
+            without_attribute(mark, Attribute::Modified),
+        );
         set_mark(marks, cell, sent);
         cell += 1;
     }

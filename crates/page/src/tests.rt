@@ -5,7 +5,8 @@ ghost use Rattle.words.specs.Lists.{every};
 ghost use Rattle.page.specs.Marks.{is_protected, valid_character, valid_mark};
 ghost use Rattle.page.specs.Page.{page_of, valid_page, takes_from_right, takes_from_left, some_required, all_blank};
 
-use crate::marks::{Mark, is_protected, is_required, is_valid_mark, mark_at, takes};
+use crate::Attribute;
+use crate::marks::{Mark, has_attribute, is_valid_mark, mark_at, takes};
 
 // The larger of two bytes, and the smaller.
 fn larger(a: u8, b: u8) -> u8
@@ -74,7 +75,10 @@ pub fn is_all_protected(marks: &[Mark]) -> bool
     let mut all = true;
     let mut cell = 0;
     while cell < marks.len() {
-        all = both(all, is_protected(mark_at(marks, cell)));
+        all = both(
+            all,
+            has_attribute(mark_at(marks, cell), Attribute::Protected),
+        );
         cell += 1;
     }
     all
@@ -119,7 +123,7 @@ pub fn has_required(marks: &[Mark], from: usize, to: usize) -> bool
 {
     let mut cell = from;
     while cell < to {
-        if is_required(mark_at(marks, cell)) {
+        if has_attribute(mark_at(marks, cell), Attribute::Required) {
             return true;
         }
         cell += 1;
