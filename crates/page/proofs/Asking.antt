@@ -1,74 +1,74 @@
--- Loops that ask every element, whatever was found before: what is known so far, and what is still to be asked.
-use mathlib.Core.Path.{◌≡◌, refl, sym, ◌∙◌}
-use mathlib.Core.Bool.{Bool, true, false}
+-- Loops and chains that ask every element of a list, or of a part of it, in the terms of the code.
+use mathlib.Core.Path.{◌≡◌, refl, sym, ap, ◌∙◌}
+use mathlib.Core.Bool.{Bool, true, false, ◌&&◌, ◌||◌}
 use mathlib.Core.List.{List}
-use Prim.Native.Nat.{ℕ, ◌+◌, ◌<◌, ◌≤◌}
+use Prim.Native.Nat.{ℕ, zero, suc, ◌+◌, ◌<◌, ◌≤◌}
 use native.Mathlib.Omega.{arith}
-use borrow.Author.Tests.{le-leb, ltb-true, ltb-false, leb-true}
-use lib.Dec.{ltb, leb}
-use lib.ListN.{length, drop, get_or}
-use Rattle.words.specs.Choice.{If◌then◌else◌, ◌and◌}
-use Rattle.words.specs.Lists.{every}
-use Rattle.words.proofs.Choosing.{then_case, else_case, either_way, first_fails, second_fails, both_hold}
+use lib.Dec.{leb}
+use lib.ListN.{length, take, drop, get_or}
+use Rattle.std.specs.Ordering.{nat_cmp, ord_min, ord_max}
+use Rattle.std.specs.List.{list_any, list_all, zip}
+use Rattle.std.proofs.lemmas.Bool.Decides.{nat_tests}
+use Rattle.words.specs.Choice.{◌and◌, ◌or◌, ◌is◌to◌}
+use Rattle.words.specs.Lists.{every, all_from, some_from}
 use Rattle.words.proofs.Walking.{next_element}
 use Rattle.words.proofs.Passing.{all_pass}
+use Rattle.page.specs.Marks.{valid_character, takes}
 
-and_grouped : (a b c : Bool) → (a and (b and c)) ≡ ((a and b) and c)
+also : (a b c : Bool) → (a && (b and c)) ≡ ((a && b) && c)
 unfolding ◌and◌
-and_grouped true b c = refl
-and_grouped false b c = refl
+also true true c = refl
+also true false c = refl
+also false b c = refl
 
-pub and_crossed : (a b c d : Bool) → ((a and b) and (c and d)) ≡ ((a and c) and (b and d))
-unfolding ◌and◌
-and_crossed true true c d = refl
-and_crossed true false true d = refl
-and_crossed true false false d = refl
-and_crossed false b c d = refl
+nothing_more : (a : Bool) → (a && true) ≡ a
+nothing_more true = refl
+nothing_more false = refl
 
-pub and_nothing_more : (a : Bool) → (a and true) ≡ a
-unfolding ◌and◌
-and_nothing_more true = refl
-and_nothing_more false = refl
-
--- One of two numbers that passes only if the other does tells of both.
-module _ (test : ℕ → Bool) (a b : ℕ) where
-  tells_of_both : (test b ≡ true → test a ≡ true) → test b ≡ (test a and test b)
-  tells_of_both follows =
-      either_way (test b)
-      (λ p. p ∙ sym (both_hold _ _ (follows p) p))
-      (λ p. p ∙ sym (second_fails _ _ p))
-
-  tells_too : (test a ≡ true → test b ≡ true) → test a ≡ (test a and test b)
-  tells_too follows =
-      either_way (test a)
-      (λ p. p ∙ sym (both_hold _ _ p (follows p)))
-      (λ p. p ∙ sym (first_fails _ _ p))
-
-  one_tells : (t : Bool) → (t ≡ true → test b ≡ true → test a ≡ true) → (t ≡ false → test a ≡ true → test b ≡ true) → test (If t then b else a) ≡ (test a and test b)
-  one_tells t taken left =
-      either_way t
-      (λ p. rw (then_case t b a p) (tells_of_both (taken p)))
-      (λ p. rw (else_case t b a p) (tells_too (left p)))
-
--- The larger of two numbers is no more than a limit if both are; the smaller one reaches it if both do.
-module _ (a b limit : ℕ) where
-  pub larger_within : leb (If ltb a b then b else a) limit ≡ (leb a limit and leb b limit)
-  larger_within =
-      one_tells (λ n. leb n limit) a b (ltb a b)
-      (λ t p. le-leb a limit (omega (arith, ltb-true a b t, leb-true b limit p)))
-      (λ t p. le-leb b limit (omega (arith, ltb-false a b t, leb-true a limit p)))
-
-  pub smaller_reaches : leb limit (If ltb b a then b else a) ≡ (leb limit a and leb limit b)
-  smaller_reaches =
-      one_tells (λ n. leb limit n) a b (ltb b a)
-      (λ t p. le-leb limit a (omega (arith, ltb-true b a t, leb-true limit b p)))
-      (λ t p. le-leb limit b (omega (arith, ltb-false b a t, leb-true limit a p)))
-
--- A loop that has come to i and knows of the elements before it whether all pass.
+-- A loop that asks to the end, has come to i and knows of the elements before it whether all pass.
 module _ {A : Type 0} (test : A → Bool) (other : A) (list : List A) (i : ℕ) (so_far : Bool) where
-  pub next_asked : i < length list → (so_far and every test (drop i list)) ≡ ((so_far and test (get_or list i other)) and every test (drop (i + 1) list))
+  pub next_asked : i < length list → (so_far && every test (drop i list)) ≡ ((so_far && test (get_or list i other)) && every test (drop (i + 1) list))
   unfolding every
-  next_asked h = rw (next_element list i other h) (and_grouped so_far (test (get_or list i other)) (every test (drop (i + 1) list)))
+  next_asked h = rw (next_element list i other h) (also so_far (test (get_or list i other)) (every test (drop (i + 1) list)))
 
-  pub all_asked : length list ≤ i → (so_far and every test (drop i list)) ≡ so_far
-  all_asked h = rw (all_pass test other list i h) (and_nothing_more so_far)
+  pub all_asked : length list ≤ i → (so_far && every test (drop i list)) ≡ so_far
+  all_asked h = rw (all_pass test other list i h) (nothing_more so_far)
+
+-- Characters are valid if the least and the most of them are.
+pub next_within : (least most character : ℕ) → ((leb 0x20 least && leb most 0x7E) && valid_character character) ≡ (leb 0x20 (ord_min nat_cmp least character) && leb (ord_max nat_cmp most character) 0x7E)
+unfolding ◌and◌ ◌is◌to◌
+next_within least most character = grind (arith, nat_tests)
+
+-- A part of a list asked by the library: the same of the places.
+module _ (test : ℕ → Bool) (list : List ℕ) where
+  pub some_of_part : (from n : ℕ) → from + n ≤ length list → list_any test (take n (drop from list)) ≡ some_from (λ k. test (get_or list k 0)) from n
+  unfolding some_from ◌or◌
+  some_of_part from zero fits = refl
+  some_of_part from (suc n) fits = rw (next_element list from 0 (omega arith), some_of_part (from + 1) n (omega arith)) (same (test (get_or list from 0)) _)
+    where
+      same : (a b : Bool) → (a || b) ≡ (a or b)
+      same true b = refl
+      same false b = refl
+
+  pub all_of_part : (from n : ℕ) → from + n ≤ length list → list_all test (take n (drop from list)) ≡ all_from (λ k. test (get_or list k 0)) from n
+  unfolding all_from ◌and◌
+  all_of_part from zero fits = refl
+  all_of_part from (suc n) fits = rw (next_element list from 0 (omega arith), all_of_part (from + 1) n (omega arith)) (same (test (get_or list from 0)) _)
+    where
+      same : (a b : Bool) → (a && b) ≡ (a and b)
+      same true b = refl
+      same false b = refl
+
+-- The same of the pairs of two parts.
+pub pairs_take : (test : ℕ → Bool) (marks characters : List ℕ) (a b from n : ℕ) → ((k : ℕ) → test k ≡ takes (get_or marks (k + a) 0) (get_or characters (k + b) 0)) → from + a + n ≤ length marks → from + b + n ≤ length characters → list_all (λ (p : ℕ × ℕ). takes p.0 p.1) (zip (take n (drop (from + a) marks)) (take n (drop (from + b) characters))) ≡ all_from test from n
+unfolding all_from ◌and◌
+pairs_take test marks characters a b from zero same h l = refl
+pairs_take test marks characters a b from (suc n) same h l =
+    let next_mark : from + a + 1 ≡ from + 1 + a = omega arith in
+    let next_character : from + b + 1 ≡ from + 1 + b = omega arith in
+    rw (next_element marks (from + a) 0 (omega arith), next_element characters (from + b) 0 (omega arith), next_mark, next_character, pairs_take test marks characters a b (from + 1) n same (omega arith) (omega arith), ← same from)
+    (also_so (test from) _)
+  where
+    also_so : (a b : Bool) → (a && b) ≡ (a and b)
+    also_so true b = refl
+    also_so false b = refl

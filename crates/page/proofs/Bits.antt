@@ -1,17 +1,23 @@
 -- Bits of a number, over any bit n: setting and clearing it, clearing many, the bits beside them, and how large the
 -- number gets.
-use mathlib.Core.Path.{◌≡◌, sym, ap, ◌∙◌}
-use mathlib.Core.Bool.{true, false}
+use mathlib.Core.Path.{◌≡◌, refl, sym, ap, ◌∙◌}
+use mathlib.Core.Bool.{true, false, not}
 use mathlib.Core.Logic.{⊎_elim}
-use Prim.Native.Nat.{ℕ, ◌+◌, ◌-◌, ◌*◌, ◌/◌, ◌%◌, ◌^◌, ◌<◌, ◌≤◌}
-use native.Mathlib.Nat.{div-eq_of_lt, div-lt_iff_lt-mul, lt_of_lt_of_le, mod-lt, mod-mod}
+use Prim.Native.Nat.{ℕ, zero, suc, ◌+◌, ◌-◌, ◌*◌, ◌/◌, ◌%◌, ◌^◌, ◌<◌, ◌≤◌}
+use native.Mathlib.Nat.{zero-mul, div-eq_of_lt, div-lt_iff_lt-mul, lt_of_lt_of_le, mod-lt, mod-mod}
 use native.Mathlib.Omega.{arith}
 use borrow.Author.Tests.{eq-eqb, ne_eqb}
 use lib.Arith.{digits_lt}
 use lib.Dec.{eqb}
-use lib.Pow.{pow_pos, pow_mono, pow-add, high, low, shr-shr, field, mod-mod-pow}
+use lib.Pow.{pow_pos, pow_mono, pow-add, high, low, shr-shr, field, mod-mod-pow, split}
+use Rattle.std.specs.Int.Bits.{bit_and, bit_or, or_add_and}
+use Rattle.std.proofs.lemmas.Nat.{and_comm, and-not, mod-pow-add, pow_below}
+use Rattle.std.proofs.lemmas.Nat.Bits.{and_pow}
 use Rattle.words.proofs.Choosing.{le_or_lt}
-use Rattle.page.specs.Marks.{has_bit, with_bit, without_bits, without_bit}
+use Rattle.page.specs.declared.Attribute.{Attribute}
+use Rattle.page.specs.declared.Attribute.TheVariants.{Protected, Modified, Bold, Underlined, Blinking, Reversed}
+use Rattle.page.specs.declared.Attribute.TheVariants.{Concealed, Numeric, Alphabetic, Required}
+use Rattle.page.specs.Marks.{has_bit, with_bit, without_bits, without_bit, bit_of}
 
 -- All bits but those from n to before m are as they were: those below, and those above.
 pub record StayOutside (n m before after : ℕ) : Type 0 where
@@ -116,3 +122,36 @@ module _ (n mark : ℕ) where
 
   pub cleared_bit : has_bit n (without_bit n mark) ≡ false
   cleared_bit = cleared_inside n (1 + n) mark (omega arith) n (omega arith) (omega arith)
+
+-- The same by masks: bit n asked, set and cleared.
+module _ (n mark : ℕ) where
+  by_parts : mark / 2 ^ (1 + n) * 2 ^ (1 + n) + ((mark / 2 ^ n % 2) * 2 ^ n + mark % 2 ^ n) ≡ mark
+  by_parts = rw (mod-pow-add mark 1 n) at (split mark (1 + n))
+
+  pub asked_by_mask : not (eqb (bit_and mark (2 ^ n)) 0) ≡ has_bit n mark
+  asked_by_mask = rw (and_pow mark n) (same_test (mark / 2 ^ n % 2) (omega arith))
+    where
+      same_test : (bit : ℕ) → bit < 2 → not (eqb (bit * 2 ^ n) 0) ≡ eqb bit 1
+      same_test zero less = rw zero-mul
+      same_test (suc zero) less = ap not (ne_eqb _ 0 (omega (arith, pow_pos n)))
+      same_test (suc (suc bit)) less = absurd (omega arith)
+
+  pub set_by_mask : bit_or mark (2 ^ n) ≡ with_bit n mark
+  set_by_mask = omega (arith, by_parts, or_add_and mark (2 ^ n), and_pow mark n)
+
+  pub cleared_by_mask : (w : ℕ) → mark < 2 ^ w → n < w → bit_and mark (2 ^ w - 1 - 2 ^ n) ≡ without_bit n mark
+  cleared_by_mask w fits inside =
+      omega (arith, by_parts, and-not w (2 ^ n) mark (pow_below n w inside) fits, and_comm mark (2 ^ w - 1 - 2 ^ n), and_comm mark (2 ^ n), and_pow mark n)
+
+-- Every attribute is a bit of a mark.
+pub bit-lt : (attribute : Attribute) → bit_of attribute < 16
+bit-lt Protected = omega arith
+bit-lt Modified = omega arith
+bit-lt Bold = omega arith
+bit-lt Underlined = omega arith
+bit-lt Blinking = omega arith
+bit-lt Reversed = omega arith
+bit-lt Concealed = omega arith
+bit-lt Numeric = omega arith
+bit-lt Alphabetic = omega arith
+bit-lt Required = omega arith

@@ -3,30 +3,24 @@ ghost use Rattle.std.specs.Prelude.{◌≡◌, ◌<◌, ◌≤◌, length};
 ghost use Rattle.page.specs.Page.{page_of, tagged, blanked, closed_up, moved_right, part_stored};
 
 use crate::Attribute;
-use crate::marks::{Mark, mark_at, set_mark, with_attribute};
+use crate::marks::{Mark, with_attribute};
 
 // Each cell that an editing key stores becomes modified.
 fn tag(marks: &mut [Mark], from: usize, to: usize)
     requires { (from ≤ to) × (to ≤ length marks.old) }
     ensures { marks.new ≡ tagged from to marks.old }
 {
-    let mut cell = from;
-    while cell < to {
-        let mark = mark_at(marks, cell);
-        set_mark(marks, cell, with_attribute(mark, Attribute::Modified));
-        cell += 1;
+    for mark in marks[from..to].iter_mut() {
+        *mark = with_attribute(*mark, Attribute::Modified);
     }
 }
 
 // The part becomes 20s.
+#[tactic(auto, unfolding(crate::specs::Page::blanked))]
 fn blank(part: &mut [u8])
     ensures { part.new ≡ blanked part.old }
 {
-    let mut i = 0;
-    while i < part.len() {
-        part[i] = 0x20;
-        i += 1;
-    }
+    part.fill(0x20);
 }
 
 // The part closes up, with a 20 at its end.
@@ -35,11 +29,7 @@ fn close_up(part: &mut [u8])
     ensures { part.new ≡ closed_up part.old }
 {
     let last = part.len() - 1;
-    let mut i = 0;
-    while i < last {
-        part[i] = part[i + 1];
-        i += 1;
-    }
+    part.copy_within(1.., 0);
     part[last] = 0x20;
 }
 
@@ -48,11 +38,8 @@ fn move_right(part: &mut [u8])
     requires { 0 < length part.old }
     ensures { part.new ≡ moved_right part.old }
 {
-    let mut i = part.len();
-    while 1 < i {
-        i -= 1;
-        part[i] = part[i - 1];
-    }
+    let last = part.len() - 1;
+    part.copy_within(..last, 1);
     part[0] = 0x20;
 }
 

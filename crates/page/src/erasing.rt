@@ -9,10 +9,7 @@ fn is_erasable(marks: &[Mark], cell: usize, mode: bool) -> bool
     requires { cell < length marks.now }
     ensures { result ≡ erasable mode marks.now cell }
 {
-    if mode {
-        return true;
-    }
-    is_unprotected(marks, cell)
+    mode || is_unprotected(marks, cell)
 }
 
 // Erases the cells from `from` to before `to`, and counts them.
@@ -23,13 +20,10 @@ pub fn erase(characters: &mut [u8], marks: &mut [Mark], from: usize, to: usize, 
         (page_of characters.new marks.new) result }
 {
     let mut count = 0;
-    let mut cell = from;
-    while cell < to {
-        let at = cell;
-        cell += 1;
-        if is_erasable(marks, at, mode) {
-            characters[at] = 0x20;
-            set_mark(marks, at, 0);
+    for cell in from..to {
+        if is_erasable(marks, cell, mode) {
+            characters[cell] = 0x20;
+            set_mark(marks, cell, 0);
             count += 1;
         }
     }

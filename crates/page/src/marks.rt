@@ -1,6 +1,5 @@
 // The marks of a cell, a bit for each; see specs/Marks.antt.
 ghost use Rattle.std.specs.Prelude.{◌≡◌, ◌^◌, ◌<◌, length, get_or, set};
-ghost use Rattle.words.specs.Choice.{If◌then◌else◌};
 ghost use Rattle.page.specs.Marks.{bit_of, has_attribute, with_attribute, without_attribute};
 ghost use Rattle.page.specs.Marks.{valid_mark, numeric_takes, alphabetic_takes, takes, unprotected};
 
@@ -56,48 +55,23 @@ pub fn is_valid_mark(mark: Mark) -> bool
     if has_attribute(mark, Attribute::Protected) {
         return mark < 0x80;
     }
-    mark / 1024 * 1024 + mark % 512 < 0x180
+    without_attribute(mark, Attribute::Required) < 0x180
 }
 
 // Whether a numeric cell takes a character other than 20.
+#[tactic(auto, using(crate::proofs::Taking::taking))]
 fn numeric_takes(character: u8) -> bool
     ensures { result ≡ numeric_takes character }
 {
-    if character == 0x2D {
-        return true;
-    }
-    if character == 0x2E {
-        return true;
-    }
-    if character < 0x30 {
-        return false;
-    }
-    character <= 0x39
+    matches!(character, b'-' | b'.' | b'0'..=b'9')
 }
 
 // Whether an alphabetic cell does.
+#[tactic(auto, using(crate::proofs::Taking::taking))]
 fn alphabetic_takes(character: u8) -> bool
     ensures { result ≡ alphabetic_takes character }
 {
-    if character == 0x20 {
-        return true;
-    }
-    if character == 0x2D {
-        return true;
-    }
-    if character == 0x2E {
-        return true;
-    }
-    if character < 0x41 {
-        return false;
-    }
-    if character <= 0x5A {
-        return true;
-    }
-    if character < 0x61 {
-        return false;
-    }
-    character <= 0x7A
+    matches!(character, b' ' | b'-' | b'.' | b'A'..=b'Z' | b'a'..=b'z')
 }
 
 // Whether a cell with these marks takes a character that a key brings.
@@ -114,16 +88,6 @@ pub fn takes(mark: Mark, character: u8) -> bool
         return alphabetic_takes(character);
     }
     true
-}
-
-// One mark or the other, without a branch: so a loop that stores it takes many cells at a time.
-pub fn chosen(first: bool, one: Mark, other: Mark) -> Mark
-    ensures { result ≡ (If first then one else other) }
-{
-    if first {
-        return one;
-    }
-    other
 }
 
 // The one function that reads a mark: nothing else indexes the marks.
@@ -143,6 +107,7 @@ pub fn set_mark(marks: &mut [Mark], cell: usize, mark: Mark)
 }
 
 // The one function that says whether a cell is unprotected.
+#[tactic(auto, unfolding(crate::specs::Marks::unprotected))]
 pub fn is_unprotected(marks: &[Mark], cell: usize) -> bool
     requires { cell < length marks.now }
     ensures { result ≡ unprotected marks.now cell }

@@ -1,11 +1,9 @@
 // One cell stored, by text or by a key; and what a block that was sent leaves of the marks.
 ghost use Rattle.std.specs.Prelude.{◌≡◌, ◌<◌, length};
-ghost use Rattle.page.specs.Page.{page_of, text_stored, typed, modified_cleared};
+ghost use Rattle.page.specs.Page.{page_of, text_stored, typed, mark_after_block, modified_cleared};
 
 use crate::Attribute;
-use crate::marks::{
-    Mark, chosen, has_attribute, mark_at, set_mark, with_attribute, without_attribute,
-};
+use crate::marks::{Mark, has_attribute, mark_at, set_mark, with_attribute, without_attribute};
 
 // Text from the host: the character, and the pen for its marks.
 pub fn store_text(characters: &mut [u8], marks: &mut [Mark], cell: usize, character: u8, pen: Mark)
@@ -28,19 +26,21 @@ pub fn store_typed(characters: &mut [u8], marks: &mut [Mark], cell: usize, chara
     set_mark(marks, cell, with_attribute(mark, Attribute::Modified));
 }
 
+// A block that was sent clears modified, but not of a protected cell.
+fn after_block(mark: Mark) -> Mark
+    ensures { result ≡ mark_after_block mark }
+{
+    if has_attribute(mark, Attribute::Protected) {
+        return mark;
+    }
+    without_attribute(mark, Attribute::Modified)
+}
+
 // Sending clears modified on all unprotected cells.
 pub fn clear_modified(marks: &mut [Mark])
     ensures { marks.new ≡ modified_cleared marks.old }
 {
-    let mut cell = 0;
-    while cell < marks.len() {
-        let mark = mark_at(marks, cell);
-        let sent = chosen(
-            has_attribute(mark, Attribute::Protected),
-            mark,
-            without_attribute(mark, Attribute::Modified),
-        );
-        set_mark(marks, cell, sent);
-        cell += 1;
+    for mark in marks.iter_mut() {
+        *mark = after_block(*mark);
     }
 }

@@ -7,7 +7,7 @@ use native.Mathlib.Nat.{le_of_suc-le-suc, not-suc-le-zero, add_comm}
 use native.Mathlib.Numerals.{add-one}
 use native.Mathlib.Omega.{arith}
 use borrow.Author.Tests.{lt-ltb, le-ltb, le-leb, lt-leb}
-use lib.ListN.{length, take, drop, get_or, set, replicate, length-append, length-take, length-drop, drop_of_length-le, get_or-append, get_or-eq_default}
+use lib.ListN.{length, take, drop, get_or, set, replicate, length-append, length-take, length-drop, drop_of_length-le, take-append-drop, get_or-append, get_or-eq_default}
 use lib.Seq.{set-get_or, set_at, take-suc, drop-cons, append_snoc, take_all, get_or-take, get_or-drop, get_or-append-add, drop_at, length-take-le}
 use Rattle.words.specs.Lists.{within, each_from, each, on_part}
 use Rattle.words.proofs.Choosing.{both_hold, first_fails, second_fails, less_or_not}
@@ -144,6 +144,24 @@ module _ (f : ℕ → ℕ → ℕ) where
   stays zero i start same = sym (each_same i start (λ k x h l. same k x (omega arith)))
   stays (suc to) i [] same = refl
   stays (suc to) i (x ∷ rest) same = ap (λ (list : List ℕ). f i x ∷ list) (stays to (i + 1) rest (λ k y h. same k y (omega arith)))
+
+  -- A loop over a part of n elements: what it makes of them is what f makes of the list, if f leaves the others.
+  each_like : (g : ℕ → ℕ) (i j : ℕ) (list : List ℕ) → ((k x : ℕ) → i ≤ k → k < i + length list → f k x ≡ g x) → each_from (λ k x. g x) j list ≡ each_from f i list
+  unfolding each_from
+  each_like g i j [] like = refl
+  each_like g i j (x ∷ rest) like = λ m. sym (like i x (omega arith) (omega arith)) m ∷ each_like g (i + 1) (j + 1) rest (λ k y h l. like k y (omega arith) (omega arith)) m
+
+  pub each_part : (g : ℕ → ℕ) (from n : ℕ) (list : List ℕ) → from + n ≤ length list → ((k x : ℕ) → from ≤ k → k < from + n → f k x ≡ g x) → ((k x : ℕ) → (from ≤ k → k < from + n → ⊥) → f k x ≡ x) → take from list ++ (each (λ k x. g x) (take n (drop from list)) ++ drop n (drop from list)) ≡ each f list
+  each_part g from n list fits inside outside =
+      let before = take from list in
+      let part = take n (drop from list) in
+      let after = drop n (drop from list) in
+      let b : length before ≡ from = length-take-le from list (omega arith) in
+      let p : length part ≡ n = length-take-le n (drop from list) (simp length-drop (omega arith)) in
+      (λ m. sym (each_same 0 before (λ k x h l. outside k x (λ q r. omega arith))) m ++ (each_like g (0 + length before) 0 part (λ k x h l. inside k x (omega arith) (omega arith)) m ++ sym (each_same (0 + length before + length part) after (λ k x h l. outside k x (λ q r. omega arith))) m))
+      ∙ ap (λ (rest : List ℕ). each f before ++ rest) (sym (each_append (0 + length before) part after))
+      ∙ sym (each_append 0 before (part ++ after))
+      ∙ ap (each f) (ap (λ (rest : List ℕ). before ++ rest) (take-append-drop n (drop from list)) ∙ take-append-drop from list)
 
 -- The element at a place, on the list or past its end: what is seen of it stays, if f leaves that.
 module _ (f : ℕ → ℕ → ℕ) (list : List ℕ) (k : ℕ) where

@@ -1,14 +1,9 @@
 use mathlib.Core.Path.{◌≡◌}
-use Prim.Native.Nat.{◌≤◌, ◌-◌}
-use lib.ListN.{length}
+use Rattle.words.specs.Lists.{each}
 use Rattle.words.proofs.Writing.{up_to}
-use Rattle.page.specs.Page.{tagged}
+use Rattle.page.specs.Marks.{with_modified}
 use Rattle.page.proofs.editing.tag.Given as goal
 
--- the marks are tagged up to `cell`
-abbrev pub invariant-loop-cell : goal.invariant-loop-cell
-invariant-loop-cell l =
-    (l.from ≤ l.cell) × (l.cell ≤ l.to) × (length l.marks ≡ length l.initial.marks) × (l.marks ≡ up_to l.cell (tagged l.from l.to l.initial.marks) l.initial.marks)
-
-abbrev pub decreases-loop-cell : goal.decreases-loop-cell
-decreases-loop-cell l = l.to - l.cell
+-- the marks of the part are tagged up to this one
+abbrev pub invariant-loop-mark : goal.invariant-loop-mark
+invariant-loop-mark l = l.mark-items ≡ up_to l.mark-index (each (λ cell mark. with_modified mark) l.initial.mark-items) l.initial.mark-items

@@ -6,6 +6,6 @@ pub returns-then-mode : goal.returns-then-mode
 unfolding erasable ◌or◌
 returns-then-mode c = rw c.if-mode.true
 
-pub returns : goal.returns
+pub returns-else-mode : goal.returns-else-mode
 unfolding erasable ◌or◌
-returns c = rw c.if-mode.false c.is_unprotected.ensures
+returns-else-mode c = rw c.if-mode.false c.is_unprotected.ensures

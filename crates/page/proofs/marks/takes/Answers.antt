@@ -9,18 +9,18 @@ pub returns-then-character-eq32 : goal.returns-then-character-eq32
 unfolding takes
 returns-then-character-eq32 c = sym (then_case _ _ _ (eq-eqb _ _ c.if-character-eq32.true))
 
-pub returns-then-is_numeric : goal.returns-then-is_numeric
+pub returns-then-has_attribute : goal.returns-then-has_attribute
 unfolding takes If◌then◌else◌
-returns-then-is_numeric c =
-    rw (ne_eqb _ 0x20 c.if-character-eq32.false, sym c.is_numeric.ensures ∙ c.if-is_numeric.true) c.numeric_takes.ensures
+returns-then-has_attribute c =
+    rw (ne_eqb _ 0x20 c.if-character-eq32.false, sym c.has_attribute.ensures ∙ c.if-has_attribute.true) c.numeric_takes.ensures
 
-pub returns-then-is_alphabetic : goal.returns-then-is_alphabetic
+pub returns-then-has_attribute-2 : goal.returns-then-has_attribute-2
 unfolding takes If◌then◌else◌
-returns-then-is_alphabetic c =
-    rw (ne_eqb _ 0x20 c.if-character-eq32.false, sym c.is_numeric.ensures ∙ c.if-is_numeric.false, sym c.is_alphabetic.ensures ∙ c.if-is_alphabetic.true)
+returns-then-has_attribute-2 c =
+    rw (ne_eqb _ 0x20 c.if-character-eq32.false, sym c.has_attribute.ensures ∙ c.if-has_attribute.false, sym c.has_attribute-2.ensures ∙ c.if-has_attribute-2.true)
     c.alphabetic_takes.ensures
 
 pub returns : goal.returns
 unfolding takes If◌then◌else◌
 returns c =
-    rw (ne_eqb _ 0x20 c.if-character-eq32.false, sym c.is_numeric.ensures ∙ c.if-is_numeric.false, sym c.is_alphabetic.ensures ∙ c.if-is_alphabetic.false)
+    rw (ne_eqb _ 0x20 c.if-character-eq32.false, sym c.has_attribute.ensures ∙ c.if-has_attribute.false, sym c.has_attribute-2.ensures ∙ c.if-has_attribute-2.false)

@@ -1,8 +1,16 @@
-use Rattle.page.specs.Page.{page_of}
-use Rattle.page.proofs.Laws.{scrolls_down}
+use native.Mathlib.Omega.{arith}
+use borrow.Author.Rules.{rules}
+use lib.ListN.{length}
+use Prim.Native.Nat.{◌-◌}
+use Rattle.page.specs.Page.{page_of, scrolled_down}
+use Rattle.page.proofs.Laws.{row_above}
 use Rattle.page.proofs.scrolling.scroll_down.Goals as goal
 
 pub returns : goal.returns
+unfolding scrolled_down
 returns c =
-    let page = page_of c.args.characters.now c.args.marks.now in
-    scrolls_down _ page _ _ c.requires.0 c.requires.1 c.push_down.ensures c.erase.ensures.page
+    let args = c.args in
+    let kept = length args.characters.now - args.columns in
+    λ i. page_of
+    (row_above args.characters.now args.columns kept (omega arith) 0x20 _ _ c.copy_within.ensures.after (c.fill.ensures.after (λ y h. search rules)) i)
+    (row_above args.marks.now args.columns kept (omega arith) 0 _ _ c.copy_within-2.ensures.after (c.fill-2.ensures.after (λ y h. search rules)) i)

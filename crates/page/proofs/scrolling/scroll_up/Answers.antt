@@ -1,8 +1,16 @@
-use Rattle.page.specs.Page.{page_of}
-use Rattle.page.proofs.Laws.{scrolls_up}
+use native.Mathlib.Omega.{arith}
+use borrow.Author.Rules.{rules}
+use lib.ListN.{length}
+use Prim.Native.Nat.{◌-◌}
+use Rattle.page.specs.Page.{page_of, scrolled_up}
+use Rattle.page.proofs.Laws.{row_below}
 use Rattle.page.proofs.scrolling.scroll_up.Goals as goal
 
 pub returns : goal.returns
+unfolding scrolled_up
 returns c =
-    let page = page_of c.args.characters.now c.args.marks.now in
-    scrolls_up _ page _ _ c.requires.0 c.requires.1 c.pull_up.ensures c.erase.ensures.page
+    let args = c.args in
+    let kept = length args.characters.now - args.columns in
+    λ i. page_of
+    (row_below args.characters.now args.columns kept (omega arith) 0x20 _ _ c.copy_within.ensures.after (c.fill.ensures.after (λ y h. search rules)) i)
+    (row_below args.marks.now args.columns kept (omega arith) 0 _ _ c.copy_within-2.ensures.after (c.fill-2.ensures.after (λ y h. search rules)) i)

@@ -1,28 +1,17 @@
-use mathlib.Core.Path.{refl, ◌∙◌}
-use Prim.Native.Nat.{◌≤◌, ◌<◌}
+use mathlib.Core.Path.{◌∙◌}
+use Prim.Native.Nat.{◌<◌, ◌≤◌}
 use native.Mathlib.Omega.{arith}
-use borrow.Author.Rules.{rules}
 use lib.ListN.{length}
 use Rattle.words.proofs.Writing.{length-each, next_changed, all_written}
-use Rattle.page.specs.Page.{mark_after_block, modified_cleared}
+use Rattle.page.specs.Page.{modified_cleared}
 use Rattle.page.proofs.storing.clear_modified.Goals as goal
 
-pub loop-cell-init : goal.loop-cell-init
-loop-cell-init c = (search rules, refl, refl)
-
-pub loop-cell-preserved : goal.loop-cell-preserved
-unfolding modified_cleared mark_after_block
-loop-cell-preserved c =
-    let here : c.loop-cell.cell < length c.args.marks.now = omega arith in (
-      search rules,
-      search rules,
-      c.set_mark.ensures
-          ∙ next_changed _ _ _ _ c.loop-cell.invariant.2 here _
-          (rw (c.chosen-sent.ensures, c.without_modified.ensures, c.is_protected.ensures, c.mark_at-mark.ensures)),
-    )
+pub loop-mark-preserved : goal.loop-mark-preserved
+unfolding modified_cleared
+loop-mark-preserved c = next_changed _ _ _ _ c.loop-mark.invariant (omega arith) _ c.after_block.ensures
 
 pub returns : goal.returns
 unfolding modified_cleared
 returns c =
-    let over : length c.args.marks.now ≤ c.loop-cell.cell = omega arith in
-    c.loop-cell.invariant.2 ∙ all_written _ _ _ (length-each _ _ _) over
+    let over : length c.args.marks.now ≤ c.loop-mark.mark-index = omega arith in
+    c.loop-mark.invariant ∙ all_written _ _ _ (length-each _ _ _) over

@@ -3,4 +3,4 @@ use Rattle.page.proofs.storing.store_typed.Goals as goal
 
 pub returns : goal.returns
 unfolding typed
-returns c = rw (c.set_mark.ensures, c.with_modified.ensures, c.mark_at-mark.ensures)
+returns c = rw (c.set_mark.ensures, c.with_attribute.ensures, c.mark_at-mark.ensures)

@@ -1,26 +1,25 @@
-use mathlib.Core.Path.{refl, sym, ◌∙◌}
-use borrow.Author.Rules.{rules}
-use Rattle.words.specs.Choice.{◌and◌, ◌is◌to◌}
-use Rattle.words.proofs.Choosing.{tests}
-use Rattle.page.proofs.Asking.{larger_within, smaller_reaches, and_crossed, next_asked, all_asked}
+use mathlib.Core.Path.{sym, ap, ◌∙◌}
+use mathlib.Core.Bool.{Bool, ◌&&◌}
+use lib.ListN.{drop}
+use Prim.Native.Nat.{◌+◌}
+use Rattle.std.proofs.Common.{arith}
+use Rattle.std.proofs.lemmas.Bool.Decides.{nat_tests}
+use Rattle.words.specs.Lists.{every}
+use Rattle.page.specs.Marks.{valid_character}
+use Rattle.page.proofs.Asking.{next_asked, all_asked, next_within}
 use Rattle.page.proofs.tests.characters_are_valid.Goals as goal
 
-pub loop-cell-init : goal.loop-cell-init
-unfolding ◌and◌
-loop-cell-init c = (search rules, refl)
+pub loop-character-preserved : goal.loop-character-preserved
+loop-character-preserved c =
+    rw (c.max-most.ensures, c.min-least.ensures, ← next_within)
+    (c.loop-character.invariant ∙ next_asked _ 0 _ _ _ c.loop-character-test.true)
 
-pub loop-cell-preserved : goal.loop-cell-preserved
-unfolding ◌is◌to◌
-loop-cell-preserved c = (
-  search rules,
-  rw (c.larger-most.ensures, c.smaller-least.ensures, larger_within, smaller_reaches, and_crossed)
-      (c.loop-cell.invariant.1 ∙ next_asked _ 0 _ _ _ c.loop-cell-test.true),
-)
+pub returns-then-least-ge32 : goal.returns-then-least-ge32
+returns-then-least-ge32 c =
+    let asked = c.loop-character.invariant ∙ all_asked _ 0 _ _ _ c.loop-character-test.false in
+    grind (arith, nat_tests)
 
-pub returns-then-least-lt32 : goal.returns-then-least-lt32
-returns-then-least-lt32 c =
-    sym (c.loop-cell.invariant.1 ∙ all_asked _ 0 _ _ _ c.loop-cell-test.false ∙ search tests)
-
-pub returns : goal.returns
-returns c =
-    sym (c.loop-cell.invariant.1 ∙ all_asked _ 0 _ _ _ c.loop-cell-test.false ∙ search tests)
+pub returns-else-least-ge32 : goal.returns-else-least-ge32
+returns-else-least-ge32 c =
+    let asked = c.loop-character.invariant ∙ all_asked _ 0 _ _ _ c.loop-character-test.false in
+    grind (arith, nat_tests)

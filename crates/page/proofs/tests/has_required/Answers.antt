@@ -1,18 +1,15 @@
-use mathlib.Core.Path.{sym, ap, ◌∙◌}
-use borrow.Author.Rules.{rules}
-use Rattle.words.proofs.Ranges.{place_holds, later_places, no_more_places}
+use mathlib.Core.Path.{◌∙◌}
+use Prim.Native.Nat.{◌-◌}
+use native.Mathlib.Omega.{arith}
+use lib.ListN.{take, drop}
+use Rattle.std.proofs.Common.{rules, tests}
+use Rattle.std.proofs.lemmas.Iterator.{YieldsList-from_slice}
+use Rattle.std.proofs.lemmas.Iterator.Search.{any_from_yields_List}
 use Rattle.page.specs.Marks.{is_required}
+use Rattle.page.proofs.Asking.{some_of_part}
 use Rattle.page.proofs.tests.has_required.Goals as goal
 
-pub returns-then-is_required : goal.returns-then-is_required
-returns-then-is_required c =
-    let found = ap is_required (sym c.mark_at.ensures) ∙ sym c.is_required.ensures ∙ c.if-is_required.true in
-    sym (c.loop-cell.invariant.2 ∙ place_holds _ _ _ c.loop-cell-test.true found)
-
-pub loop-cell-preserved : goal.loop-cell-preserved
-loop-cell-preserved c =
-    let not-here = ap is_required (sym c.mark_at.ensures) ∙ sym c.is_required.ensures ∙ c.if-is_required.false in
-    (search rules, search rules, c.loop-cell.invariant.2 ∙ later_places _ _ _ c.loop-cell-test.true not-here)
-
 pub returns : goal.returns
-returns c = sym (c.loop-cell.invariant.2 ∙ no_more_places _ _ _ c.loop-cell-test.false)
+returns c =
+    any_from_yields_List is_required _ _ _ c.any.ensures.ran (YieldsList-from_slice (take (c.args.to - c.args.from) (drop c.args.from c.args.marks.now)) cc) (λ x b q k. search (rules, tests))
+    ∙ some_of_part is_required c.args.marks.now c.args.from (c.args.to - c.args.from) (omega arith)

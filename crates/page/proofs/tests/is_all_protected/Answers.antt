@@ -1,19 +1,9 @@
-use mathlib.Core.Path.{refl, sym, ◌∙◌}
-use borrow.Author.Rules.{rules}
-use Rattle.words.specs.Choice.{◌and◌}
+use mathlib.Core.Path.{sym, ◌∙◌}
 use Rattle.page.proofs.Asking.{next_asked, all_asked}
 use Rattle.page.proofs.tests.is_all_protected.Goals as goal
 
-pub loop-cell-init : goal.loop-cell-init
-unfolding ◌and◌
-loop-cell-init c = (search rules, refl)
-
-pub loop-cell-preserved : goal.loop-cell-preserved
-loop-cell-preserved c = (
-  search rules,
-  rw (c.both-all.ensures, c.is_protected.ensures, c.mark_at.ensures)
-      (c.loop-cell.invariant.1 ∙ next_asked _ 0 _ _ _ c.loop-cell-test.true),
-)
+pub loop-mark-preserved : goal.loop-mark-preserved
+loop-mark-preserved c = rw c.has_attribute-all.ensures (c.loop-mark.invariant ∙ next_asked _ 0 _ _ _ c.loop-mark-test.true)
 
 pub returns : goal.returns
-returns c = sym (c.loop-cell.invariant.1 ∙ all_asked _ 0 _ _ _ c.loop-cell-test.false)
+returns c = sym (c.loop-mark.invariant ∙ all_asked _ 0 _ _ _ c.loop-mark-test.false)

@@ -7,6 +7,6 @@ pub returns-then-characters_are_valid : goal.returns-then-characters_are_valid
 unfolding valid_page
 returns-then-characters_are_valid c = c.marks_are_valid.ensures ∙ sym (first_decides _ _ (sym c.characters_are_valid.ensures ∙ c.if-characters_are_valid.true))
 
-pub returns : goal.returns
+pub returns-else-characters_are_valid : goal.returns-else-characters_are_valid
 unfolding valid_page
-returns c = sym (first_fails _ _ (sym c.characters_are_valid.ensures ∙ c.if-characters_are_valid.false))
+returns-else-characters_are_valid c = c.if-characters_are_valid.false ∙ sym (first_fails _ _ (sym c.characters_are_valid.ensures ∙ c.if-characters_are_valid.false))

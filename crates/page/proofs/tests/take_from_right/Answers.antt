@@ -1,33 +1,21 @@
-use mathlib.Core.Path.{◌≡◌, refl, sym, ap, ◌∙◌}
+use mathlib.Core.Path.{◌≡◌, ◌∙◌}
 use Prim.Native.Nat.{◌+◌, ◌-◌}
 use native.Mathlib.Omega.{arith}
-use borrow.Author.Rules.{rules}
-use Rattle.words.specs.Lists.{all_from}
-use Rattle.words.proofs.Ranges.{next_place, place_fails}
+use lib.ListN.{get_or}
+use Rattle.page.specs.Marks.{takes}
 use Rattle.page.specs.Page.{takes_from_right}
+use Rattle.page.proofs.Asking.{pairs_take}
 use Rattle.page.proofs.tests.take_from_right.Goals as goal
 
-pub loop-cell-init : goal.loop-cell-init
-loop-cell-init c = (search rules, search rules, refl)
-
-pub returns-then-not-takes : goal.returns-then-not-takes
-unfolding takes_from_right
-returns-then-not-takes c =
-    let cell = c.loop-cell.cell in
-    let failed = rw c.mark_at.ensures at (sym c.takes.ensures ∙ c.if-not-takes.true) in
-    sym (c.loop-cell.invariant.2 ∙ place_fails _ cell _ failed (omega arith))
-
-pub loop-cell-preserved : goal.loop-cell-preserved
-unfolding takes_from_right
-loop-cell-preserved c =
-    let to = c.args.to in
-    let cell = c.loop-cell.cell in
-    let passed = rw c.mark_at.ensures at (sym c.takes.ensures ∙ c.if-not-takes.false) in
-    let fewer : to - cell - 1 - 1 ≡ to - (cell + 1) - 1 = omega arith in
-    (search rules, search rules, c.loop-cell.invariant.2 ∙ next_place _ cell _ passed (omega arith) ∙ ap (all_from _ (cell + 1)) fewer)
-
 pub returns : goal.returns
-unfolding takes_from_right all_from
+unfolding takes_from_right
 returns c =
-    let none : c.args.to - c.loop-cell.cell - 1 ≡ 0 = omega arith in
-    sym (c.loop-cell.invariant.2 ∙ ap (all_from _ c.loop-cell.cell) none)
+    let from = c.args.from in
+    let marks = c.args.marks.now in
+    let characters = c.args.characters.now in
+    let n = c.args.to - from - 1 in
+    let up_to_last : c.args.to - 1 - from ≡ n = omega arith in
+    let after_first : c.args.to - (from + 1) ≡ n = omega arith in
+    let start : from + 0 ≡ from = omega arith in
+    let pairs = pairs_take (λ here. takes (get_or marks here 0) (get_or characters (here + 1) 0)) marks characters 0 1 from n (λ k. let same : k + 0 ≡ k = omega arith in rw same) (omega arith) (omega arith) in
+    rw (up_to_last, after_first) at c.all_take.ensures ∙ rw start at pairs
