@@ -17,7 +17,7 @@ use Rattle.words.proofs.Choosing.{le_or_lt}
 use Rattle.page.specs.declared.Attribute.{Attribute}
 use Rattle.page.specs.declared.Attribute.TheVariants.{Protected, Modified, Bold, Underlined, Blinking, Reversed}
 use Rattle.page.specs.declared.Attribute.TheVariants.{Concealed, Numeric, Alphabetic, Required}
-use Rattle.page.specs.Marks.{has_bit, with_bit, without_bits, without_bit, bit_of}
+use Rattle.page.specs.Marks.{has_bit, with_bit, without_bits, without_bit, bit_of, has_attribute}
 
 -- All bits but those from n to before m are as they were: those below, and those above.
 pub record StayOutside (n m before after : ℕ) : Type 0 where
@@ -143,7 +143,7 @@ module _ (n mark : ℕ) where
   cleared_by_mask w fits inside =
       omega (arith, by_parts, and-not w (2 ^ n) mark (pow_below n w inside) fits, and_comm mark (2 ^ w - 1 - 2 ^ n), and_comm mark (2 ^ n), and_pow mark n)
 
--- Every attribute is a bit of a mark.
+-- Every attribute is a bit of a mark, the one that its question asks.
 pub bit-lt : (attribute : Attribute) → bit_of attribute < 16
 bit-lt Protected = omega arith
 bit-lt Modified = omega arith
@@ -155,3 +155,15 @@ bit-lt Concealed = omega arith
 bit-lt Numeric = omega arith
 bit-lt Alphabetic = omega arith
 bit-lt Required = omega arith
+
+pub attribute_bit : (attribute : Attribute) (mark : ℕ) → has_bit (bit_of attribute) mark ≡ has_attribute attribute mark
+attribute_bit Protected mark = refl
+attribute_bit Modified mark = refl
+attribute_bit Bold mark = refl
+attribute_bit Underlined mark = refl
+attribute_bit Blinking mark = refl
+attribute_bit Reversed mark = refl
+attribute_bit Concealed mark = refl
+attribute_bit Numeric mark = refl
+attribute_bit Alphabetic mark = refl
+attribute_bit Required mark = refl

@@ -21,30 +21,7 @@ without_bits n m mark = mark / 2 ^ m * 2 ^ m + mark % 2 ^ n
 abbrev pub without_bit : ℕ → ℕ → ℕ
 without_bit n = without_bits n (1 + n)
 
--- The attributes of a cell by the bit of its marks that says so.
-abbrev pub bit_of : Attribute → ℕ
-bit_of Protected = 0
-bit_of Modified = 1
-bit_of Bold = 2
-bit_of Underlined = 3
-bit_of Blinking = 4
-bit_of Reversed = 5
-bit_of Concealed = 6
-bit_of Numeric = 7
-bit_of Alphabetic = 8
-bit_of Required = 9
-
-abbrev pub has_attribute : Attribute → ℕ → Bool
-has_attribute attribute = has_bit (bit_of attribute)
-
--- The marks with an attribute, and without it; the others stay.
-abbrev pub with_attribute : Attribute → ℕ → ℕ
-with_attribute attribute = with_bit (bit_of attribute)
-
-abbrev pub without_attribute : Attribute → ℕ → ℕ
-without_attribute attribute = without_bit (bit_of attribute)
-
--- A question for each attribute.
+-- A question for each mark.
 abbrev pub is_protected : ℕ → Bool
 is_protected = has_bit 0
 
@@ -83,6 +60,38 @@ with_modified = with_bit 1
 
 abbrev pub without_modified : ℕ → ℕ
 without_modified = without_bit 1
+
+-- An attribute by its name: whether a cell has it, and the bit of the mark that says so.
+abbrev pub has_attribute : Attribute → ℕ → Bool
+has_attribute Protected = is_protected
+has_attribute Modified = is_modified
+has_attribute Bold = is_bold
+has_attribute Underlined = is_underlined
+has_attribute Blinking = is_blinking
+has_attribute Reversed = is_reversed
+has_attribute Concealed = is_concealed
+has_attribute Numeric = is_numeric
+has_attribute Alphabetic = is_alphabetic
+has_attribute Required = is_required
+
+abbrev pub bit_of : Attribute → ℕ
+bit_of Protected = 0
+bit_of Modified = 1
+bit_of Bold = 2
+bit_of Underlined = 3
+bit_of Blinking = 4
+bit_of Reversed = 5
+bit_of Concealed = 6
+bit_of Numeric = 7
+bit_of Alphabetic = 8
+bit_of Required = 9
+
+-- The marks with an attribute, and without it; the others stay.
+abbrev pub with_attribute : Attribute → ℕ → ℕ
+with_attribute attribute = with_bit (bit_of attribute)
+
+abbrev pub without_attribute : Attribute → ℕ → ℕ
+without_attribute attribute = without_bit (bit_of attribute)
 
 -- A character is 20 to 7E.
 abbrev pub valid_character : ℕ → Bool

@@ -57,7 +57,10 @@ pub fn is_all_protected(marks: &[Mark]) -> bool
 fn all_take(marks: &[Mark], characters: &[u8]) -> bool
     ensures { result ≡ list_all (λ p. takes p.0 p.1) (zip marks.now characters.now) }
 {
-    marks.iter().zip(characters).all(|(mark, character)| takes(*mark, *character))
+    marks
+        .iter()
+        .zip(characters)
+        .all(|(mark, character)| takes(*mark, *character))
 }
 
 // Key 264: whether the cells from `from` to before `to`, but the last, take what closes up into them.
