@@ -55,9 +55,10 @@ fn store_part<F: FnOnce(&mut [u8])>(
 )
     ghost changed: { List ℕ → List ℕ }
     requires part { (from ≤ to) × (to ≤ length characters.old) × (length marks.old ≡ length characters.old) }
-    requires takes { (part : MutBor (List ℕ)) → part.now ≡ slice_range characters.old from to → length part.now ≡ to - from →
-        F.pre change part }
-    requires changes { (left : List ℕ) → FnOnceReturnsAtMut F.FnOnce change (slice_range characters.old from to) tt left →
+    requires takes { (part : MutBor (List ℕ)) → part.now ≡ slice_range characters.old from to →
+        length part.now ≡ to - from → F.pre change part }
+    requires changes { (left : List ℕ) →
+        FnOnceReturnsAtMut F.FnOnce change (slice_range characters.old from to) tt left →
         left ≡ changed (slice_range characters.old from to) }
     ensures { page_of characters.new marks.new
         ≡ part_stored changed from to (page_of characters.old marks.old) }
