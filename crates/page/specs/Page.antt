@@ -71,21 +71,6 @@ scrolled_down columns page =
       marks = replicate columns 0 ++ take (cells page - columns) page.marks;
     }
 
--- A scroll without the new row: the last row, or the first, stays as it is. (Steps on the way to the two above.)
-abbrev pub pulled_up : ℕ → Page → Page
-pulled_up columns page =
-    record {
-      characters = drop columns page.characters ++ drop (length page.characters - columns) page.characters;
-      marks = drop columns page.marks ++ drop (length page.marks - columns) page.marks;
-    }
-
-abbrev pub pushed_down : ℕ → Page → Page
-pushed_down columns page =
-    record {
-      characters = take columns page.characters ++ take (length page.characters - columns) page.characters;
-      marks = take columns page.marks ++ take (length page.marks - columns) page.marks;
-    }
-
 -- "Fields, keys and blocks", 263 to 265: each cell stored, from `from` to before `to`, becomes modified.
 unfoldable pub tagged : ℕ → ℕ → List ℕ → List ℕ
 tagged from to marks = each (λ cell mark. If within from to cell then with_modified mark else mark) marks
