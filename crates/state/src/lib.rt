@@ -46,6 +46,7 @@ pub struct Modes {
 pub struct Locks {
     pub manual: bool,
     pub soft: bool,
+    // a number, since C keeps any byte there, and calls answer 2 to one out of range (`valid_message`, `state_in`)
     pub message: u8,
     // at which it was refused; 0 without a message
     pub byte: u8,
@@ -84,7 +85,7 @@ const UNLOCKED: Locks = Locks {
     byte: 0,
 };
 
-// The message that tells a reason.
+// The message that tells a reason. (No `From`: neither type is of this crate.)
 fn message_of(reason: Reason) -> u8
     ensures { result ≡ message_of reason }
 {
@@ -138,9 +139,7 @@ impl State {
     fn with_locks(self, locks: Locks) -> Self
         ensures { result ≡ with_locks self locks }
     {
-        let mut next = self;
-        next.locks = locks;
-        next
+        State { locks, ..self }
     }
 
     // A refused command: the soft lock, the reason's message and the byte, in place of those of one before.
@@ -148,10 +147,10 @@ impl State {
         ensures { result ≡ refused reason byte self }
     {
         self.with_locks(Locks {
-            manual: self.locks.manual,
             soft: true,
             message: message_of(reason),
             byte,
+            ..self.locks
         })
     }
 
@@ -161,9 +160,7 @@ impl State {
     {
         self.with_locks(Locks {
             manual: true,
-            soft: self.locks.soft,
-            message: self.locks.message,
-            byte: self.locks.byte,
+            ..self.locks
         })
     }
 
@@ -180,9 +177,7 @@ impl State {
     {
         self.with_locks(Locks {
             manual: self.locks.manual,
-            soft: false,
-            message: 0,
-            byte: 0,
+            ..UNLOCKED
         })
     }
 
@@ -190,8 +185,6 @@ impl State {
     pub fn with_half(self, half: HalfRead) -> Self
         ensures { result ≡ with_half self half }
     {
-        let mut next = self;
-        next.half = half;
-        next
+        State { half, ..self }
     }
 }

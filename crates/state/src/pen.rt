@@ -94,20 +94,14 @@ impl State {
     fn with_modes(self, modes: Modes) -> Self
         ensures { result ≡ with_modes self modes }
     {
-        let mut next = self;
-        next.modes = modes;
-        next
+        State { modes, ..self }
     }
 
     // Another pen.
     pub fn with_pen(self, pen: Mark) -> Self
         ensures { result ≡ with_pen self pen }
     {
-        self.with_modes(Modes {
-            pen,
-            erasure: self.modes.erasure,
-            full: self.modes.full,
-        })
+        self.with_modes(Modes { pen, ..self.modes })
     }
 
     // Mode 6, erasure, set or reset.
@@ -115,9 +109,8 @@ impl State {
         ensures { result ≡ with_erasure self erasure }
     {
         self.with_modes(Modes {
-            pen: self.modes.pen,
             erasure,
-            full: self.modes.full,
+            ..self.modes
         })
     }
 
@@ -125,10 +118,6 @@ impl State {
     pub fn with_full(self, full: bool) -> Self
         ensures { result ≡ with_full self full }
     {
-        self.with_modes(Modes {
-            pen: self.modes.pen,
-            erasure: self.modes.erasure,
-            full,
-        })
+        self.with_modes(Modes { full, ..self.modes })
     }
 }

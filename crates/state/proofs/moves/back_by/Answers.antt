@@ -1,11 +1,14 @@
-use Rattle.words.proofs.Choosing.{tests}
+use mathlib.Core.Path.{◌≡◌, sym, ◌∙◌}
+use Prim.Native.Nat.{◌-◌}
+use native.Mathlib.Omega.{arith}
+use borrow.Author.Tests.{lt-ltb, le-ltb}
+use Rattle.words.proofs.Choosing.{less_or_not, then_case, else_case}
 use Rattle.state.specs.Moves.{back_by}
 use Rattle.state.proofs.moves.back_by.Goals as goal
 
-pub returns-then-n-at : goal.returns-then-n-at
-unfolding back_by
-returns-then-n-at c = search tests
-
 pub returns : goal.returns
 unfolding back_by
-returns c = search tests
+returns c =
+    less_or_not c.args.n c.args.at
+    (λ h. let left : c.max.result ≡ c.args.at - c.args.n = omega arith in left ∙ sym (then_case _ _ _ (lt-ltb _ _ h)))
+    (λ h. let first : c.max.result ≡ 1 = omega arith in first ∙ sym (else_case _ _ _ (le-ltb _ _ h)))
