@@ -1,6 +1,6 @@
 -- The loops over tab stops, a turn at a time, and the columns that they end at.
 use mathlib.Core.Path.{◌≡◌, refl, sym, ap, ◌∙◌}
-use mathlib.Core.Bool.{Bool, true, false, not, ◌&&◌}
+use mathlib.Core.Bool.{Bool, true, false, not, ◌&&◌, ◌||◌}
 use mathlib.Core.List.{List}
 use Prim.Native.Nat.{ℕ, zero, suc, ◌+◌, ◌-◌, ◌<◌, ◌≤◌, min}
 use native.Mathlib.Nat.{add-zero}
@@ -8,7 +8,7 @@ use native.Mathlib.Numerals.{add-one}
 use native.Mathlib.Omega.{arith}
 use lib.ListN.{length, get_or, take, drop, length-drop}
 use Rattle.std.proofs.lemmas.List.{take_all, drop_min}
-use Rattle.words.specs.Choice.{If◌then◌else◌, ◌and◌}
+use Rattle.words.specs.Choice.{If◌then◌else◌, ◌and◌, ◌or◌}
 use Rattle.words.specs.Lists.{every}
 use Rattle.words.proofs.Choosing.{either_line, less_or_not, then_case, else_case}
 use Rattle.page.proofs.Asking.{next_asked, all_asked}
@@ -19,11 +19,16 @@ use Rattle.state.specs.Tests.{stops_fit}
 abbrev pub OneTo : ℕ → ℕ → Type 0
 OneTo last at = (1 ≤ at) × (at ≤ last)
 
--- The code asks by the library's `&&`, the definitions by their own word.
+-- The code asks by the library's `&&` and `||`, the definitions by their own words.
 pub both_tests : (a b : Bool) → (a and b) ≡ (a && b)
 unfolding ◌and◌
 both_tests true b = refl
 both_tests false b = refl
+
+pub either_tests : (a b : Bool) → (a or b) ≡ (a || b)
+unfolding ◌or◌
+either_tests true b = refl
+either_tests false b = refl
 
 -- The stops past the last column, asked one by one, with what is known of those before them.
 pub stops_past : (columns : ℕ) (stops : List Bool) → length stops ≡ 160 → stops_fit columns stops ≡ every not (take (160 - min columns 160) (drop (min columns 160) stops))

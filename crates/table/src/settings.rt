@@ -1,5 +1,6 @@
 // Document 01, "Commands": the commands of ESC [ that set tab stops, the pen and the mode.
-ghost use Rattle.std.specs.Prelude.{◌≡◌, ◌≤◌, eqb, take};
+ghost use Rattle.std.specs.Prelude.{◌≡◌};
+ghost use Rattle.words.specs.Choice.{If◌then◌else◌};
 ghost use Rattle.words.specs.Lists.{every};
 ghost use Rattle.page.specs.Page.{Page};
 ghost use Rattle.state.specs.State.{OnPage};
@@ -27,102 +28,51 @@ pub fn tab_control(state: State, letter: u8, what: usize) -> Step
     }
 }
 
-// Whether SGR lists a value.
-fn is_visual(value: u16) -> bool
-    ensures { result ≡ is_visual value }
+// What one value of SGR does to the pen, if SGR lists it.
+fn pen_after(value: u16, pen: Mark) -> Option<Mark>
+    ensures { result ≡ (If is_visual value then Some (pen_after value pen) else None) }
 {
     match value {
-        0 => true,
-        1 => true,
-        4 => true,
-        5 => true,
-        7 => true,
-        8 => true,
-        _ => false,
+        0 => Some(state::pen_plain(pen)),
+        1 => Some(state::pen_bold(pen)),
+        4 => Some(state::pen_underlined(pen)),
+        5 => Some(state::pen_blinking(pen)),
+        7 => Some(state::pen_reversed(pen)),
+        8 => Some(state::pen_concealed(pen)),
+        _ => None,
     }
 }
 
-// Whether it lists them all.
-fn all_visual(values: [u16; 8], count: usize) -> bool
-    requires { count ≤ 8 }
-    ensures { result ≡ every is_visual (take count values) }
-{
-    let mut i = 0;
-    while i < count {
-        if !is_visual(values[i]) {
-            return false;
-        }
-        i += 1;
-    }
-    true
-}
-
-// Whether every mode is 6, erasure.
-fn all_six(values: [u16; 8], count: usize) -> bool
-    requires { count ≤ 8 }
-    ensures { result ≡ every (λ value. eqb value 6) (take count values) }
-{
-    let mut i = 0;
-    while i < count {
-        if values[i] != 6 {
-            return false;
-        }
-        i += 1;
-    }
-    true
-}
-
-// What one value of SGR does to the pen.
-fn pen_after(value: u16, pen: Mark) -> Mark
-    ensures { result ≡ pen_after value pen }
-{
-    match value {
-        0 => state::pen_plain(pen),
-        1 => state::pen_bold(pen),
-        4 => state::pen_underlined(pen),
-        5 => state::pen_blinking(pen),
-        7 => state::pen_reversed(pen),
-        _ => state::pen_concealed(pen),
-    }
-}
-
-// The pen after all of them, in order.
-fn pen_after_all(values: [u16; 8], count: usize, pen: Mark) -> Mark
-    requires { count ≤ 8 }
-    ensures { result ≡ pen_after_all (take count values) pen }
+// The pen after all of them, in order, if SGR lists them all.
+fn pen_after_all(values: &[u16], pen: Mark) -> Option<Mark>
+    ensures { result ≡ (If every is_visual values.now then Some (pen_after_all values.now pen) else None) }
 {
     let mut here = pen;
-    let mut i = 0;
-    while i < count {
-        here = pen_after(values[i], here);
-        i += 1;
+    for value in values {
+        here = pen_after(*value, here)?;
     }
-    here
+    Some(here)
 }
 
-// SGR: all values are tested before any acts.
-pub fn rendition(state: State, letter: u8, values: [u16; 8], count: usize) -> Light
-    requires { count ≤ 8 }
+// SGR: one value that it doesn't list, and none acts.
+pub fn rendition(state: State, letter: u8, values: &[u16]) -> Light
     ensures { (page : Page) →
         light_step result (record { state = state; page = page })
-        ≡ rendition letter (take count values) (record { state = state; page = page }) }
+        ≡ rendition letter values.now (record { state = state; page = page }) }
 {
-    if all_visual(values, count) {
-        let pen = pen_after_all(values, count, state.modes.pen);
-        return steps::sets(state.with_pen(pen));
+    match pen_after_all(values, state.modes.pen) {
+        Some(pen) => steps::sets(state.with_pen(pen)),
+        None => Light::Refused(Reason::WrongArguments, letter),
     }
-    Light::Refused(Reason::WrongArguments, letter)
 }
 
 // Whether a pen takes a value of DAQ.
+#[tactic(auto, using(crate::proofs::Walking::area_tests), unfolding(crate::specs::Settings::is_area))]
 fn is_area(pen: Mark, value: usize) -> bool
     ensures { result ≡ is_area pen value }
 {
     match value {
-        0 => true,
-        1 => true,
-        3 => true,
-        4 => true,
+        0 | 1 | 3 | 4 => true,
         20 => !page::is_protected(pen),
         _ => false,
     }
@@ -163,13 +113,12 @@ pub fn qualify_area(state: State, letter: u8, value: usize) -> Light
 }
 
 // SM and RM: mode 6.
-pub fn set_mode(state: State, letter: u8, on: bool, values: [u16; 8], count: usize) -> Light
-    requires { count ≤ 8 }
+pub fn set_mode(state: State, letter: u8, on: bool, values: &[u16]) -> Light
     ensures { (page : Page) →
         light_step result (record { state = state; page = page })
-        ≡ set_mode letter on (take count values) (record { state = state; page = page }) }
+        ≡ set_mode letter on values.now (record { state = state; page = page }) }
 {
-    if all_six(values, count) {
+    if values.iter().all(|value| *value == 6) {
         return steps::sets(state.with_erasure(on));
     }
     Light::Refused(Reason::WrongArguments, letter)
