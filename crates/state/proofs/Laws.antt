@@ -11,7 +11,6 @@ use Rattle.std.proofs.lemmas.List.{take_all, drop_min}
 use Rattle.words.specs.Choice.{If◌then◌else◌, ◌and◌, ◌or◌}
 use Rattle.words.specs.Lists.{every}
 use Rattle.words.proofs.Choosing.{either_line, less_or_not, then_case, else_case}
-use Rattle.page.proofs.Asking.{next_asked, all_asked}
 use Rattle.state.specs.Tabs.{stop_right, stop_left, stops_on, stops_back}
 use Rattle.state.specs.Tests.{stops_fit}
 
@@ -30,19 +29,12 @@ unfolding ◌or◌
 either_tests true b = refl
 either_tests false b = refl
 
--- The stops past the last column, asked one by one, with what is known of those before them.
+-- The stops past the last column.
 pub stops_past : (columns : ℕ) (stops : List Bool) → length stops ≡ 160 → stops_fit columns stops ≡ every not (take (160 - min columns 160) (drop (min columns 160) stops))
 unfolding stops_fit
 stops_past columns stops all =
     let whole : length (drop (min columns 160) stops) ≤ 160 - min columns 160 = omega (arith, length-drop (min columns 160) stops) in
     sym (ap (every not) (take_all (160 - min columns 160) (drop (min columns 160) stops) whole ∙ rw all at (drop_min columns stops)))
-
-module _ (stops : List Bool) (i : ℕ) (so_far : Bool) where
-  pub next_stop_asked : i < length stops → (so_far and every not (drop i stops)) ≡ ((so_far && not (get_or stops i false)) and every not (drop (i + 1) stops))
-  next_stop_asked here = rw (← both_tests so_far (not (get_or stops i false))) (next_asked not false stops i so_far here)
-
-  pub stops_asked : length stops ≤ i → (so_far and every not (drop i stops)) ≡ so_far
-  stops_asked h = all_asked not false stops i so_far h
 
 module _ (stops : List Bool) where
   -- One column on, and one back.

@@ -12,10 +12,7 @@ ghost use Rattle.state.specs.State.{OnPage, with_locks, with_half, fresh_state, 
 ghost use Rattle.state.specs.State.{message_of, refused, input_disabled, input_enabled, unlocked};
 
 use page::Mark;
-pub use pen::{
-    pen_alphabetic, pen_blinking, pen_bold, pen_concealed, pen_numeric, pen_plain, pen_protected,
-    pen_required, pen_reversed, pen_underlined, pen_unprotected,
-};
+pub use pen::{pen_plain, pen_unprotected};
 use places::Place;
 use sequence::{HalfRead, Reason};
 

@@ -6,7 +6,7 @@ ghost use Rattle.state.specs.Tests.{listed_rows, listed_columns, listed_size, si
 ghost use Rattle.state.specs.Tests.{stops_fit, valid_message, valid_state};
 
 use crate::{Cursor, Locks, Size, State};
-use page::Mark;
+use page::{Attribute, Mark};
 
 // A page may have 24, 27 or 48 rows.
 fn is_listed_rows(rows: usize) -> bool
@@ -44,7 +44,7 @@ fn stops_fit(columns: usize, stops: [bool; 160]) -> bool
 fn is_valid_pen(pen: Mark) -> bool
     ensures { result ≡ valid_pen pen }
 {
-    page::is_valid_mark(pen) && !page::is_modified(pen)
+    page::is_valid_mark(pen) && !page::has_attribute(pen, Attribute::Modified)
 }
 
 // A message in range, 0 to 4, and no byte where there is none.

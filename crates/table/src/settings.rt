@@ -9,7 +9,7 @@ ghost use Rattle.steps.specs.Light.{light_step};
 ghost use Rattle.table.specs.Settings.{tab_control, is_visual, pen_after, pen_after_all, rendition, set_mode};
 ghost use Rattle.table.specs.Settings.{is_area, pen_of_area, area_set, area_qualified};
 
-use page::Mark;
+use page::{Attribute, Mark};
 use sequence::Reason;
 use state::State;
 use steps::{Light, Step};
@@ -34,11 +34,11 @@ fn pen_after(value: u16, pen: Mark) -> Option<Mark>
 {
     match value {
         0 => Some(state::pen_plain(pen)),
-        1 => Some(state::pen_bold(pen)),
-        4 => Some(state::pen_underlined(pen)),
-        5 => Some(state::pen_blinking(pen)),
-        7 => Some(state::pen_reversed(pen)),
-        8 => Some(state::pen_concealed(pen)),
+        1 => Some(page::with_attribute(pen, Attribute::Bold)),
+        4 => Some(page::with_attribute(pen, Attribute::Underlined)),
+        5 => Some(page::with_attribute(pen, Attribute::Blinking)),
+        7 => Some(page::with_attribute(pen, Attribute::Reversed)),
+        8 => Some(page::with_attribute(pen, Attribute::Concealed)),
         _ => None,
     }
 }
@@ -73,21 +73,22 @@ fn is_area(pen: Mark, value: usize) -> bool
 {
     match value {
         0 | 1 | 3 | 4 => true,
-        20 => !page::is_protected(pen),
+        20 => !page::has_attribute(pen, Attribute::Protected),
         _ => false,
     }
 }
 
-// The pen that one of them leaves.
+// The pen that one of them leaves. (A pen, not an `Option`: `set_area` promises `area_set` of any value.)
 fn pen_of_area(value: usize, pen: Mark) -> Mark
     ensures { result ≡ pen_of_area value pen }
 {
+    let open = state::pen_unprotected(pen);
     match value {
-        0 => state::pen_unprotected(pen),
-        1 => state::pen_protected(pen),
-        3 => state::pen_numeric(pen),
-        4 => state::pen_alphabetic(pen),
-        _ => state::pen_required(pen),
+        0 => open,
+        1 => page::with_attribute(open, Attribute::Protected),
+        3 => page::with_attribute(open, Attribute::Numeric),
+        4 => page::with_attribute(open, Attribute::Alphabetic),
+        _ => page::with_attribute(pen, Attribute::Required),
     }
 }
 

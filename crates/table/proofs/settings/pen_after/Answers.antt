@@ -9,23 +9,23 @@ returns-in-0 c = rw (c.pen_plain.ensures, c.in-0.is)
 
 pub returns-in-1 : goal.returns-in-1
 unfolding is_visual pen_after If◌then◌else◌ ◌or◌
-returns-in-1 c = rw (c.pen_bold.ensures, c.in-1.is)
+returns-in-1 c = rw (c.with_attribute.ensures, c.in-1.is)
 
 pub returns-in-4 : goal.returns-in-4
 unfolding is_visual pen_after If◌then◌else◌ ◌or◌
-returns-in-4 c = rw (c.pen_underlined.ensures, c.in-4.is)
+returns-in-4 c = rw (c.with_attribute-in-4.ensures, c.in-4.is)
 
 pub returns-in-5 : goal.returns-in-5
 unfolding is_visual pen_after If◌then◌else◌ ◌or◌
-returns-in-5 c = rw (c.pen_blinking.ensures, c.in-5.is)
+returns-in-5 c = rw (c.with_attribute-in-5.ensures, c.in-5.is)
 
 pub returns-in-7 : goal.returns-in-7
 unfolding is_visual pen_after If◌then◌else◌ ◌or◌
-returns-in-7 c = rw (c.pen_reversed.ensures, c.in-7.is)
+returns-in-7 c = rw (c.with_attribute-in-7.ensures, c.in-7.is)
 
 pub returns-in-8 : goal.returns-in-8
 unfolding is_visual pen_after If◌then◌else◌ ◌or◌
-returns-in-8 c = rw (c.pen_concealed.ensures, c.in-8.is)
+returns-in-8 c = rw (c.with_attribute-in-8.ensures, c.in-8.is)
 
 pub returns-in_default : goal.returns-in_default
 unfolding is_visual pen_after If◌then◌else◌ ◌or◌
