@@ -1,13 +1,13 @@
 -- The loops over tab stops, a turn at a time, and the columns that they end at.
 use mathlib.Core.Path.{◌≡◌, refl, sym, ap, ◌∙◌}
-use mathlib.Core.Bool.{Bool, true, false, not, ◌&&◌, ◌||◌}
+use mathlib.Core.Bool.{Bool, true, false, not, cond, ◌&&◌, ◌||◌}
 use mathlib.Core.List.{List}
 use Prim.Native.Nat.{ℕ, zero, suc, ◌+◌, ◌-◌, ◌<◌, ◌≤◌, min}
 use native.Mathlib.Nat.{add-zero}
-use native.Mathlib.Numerals.{add-one}
 use native.Mathlib.Omega.{arith}
 use lib.ListN.{length, get_or, take, drop, length-drop}
 use Rattle.std.proofs.lemmas.List.{take_all, drop_min}
+use Rattle.std.proofs.lemmas.Bool.Decides.{nat_tests}
 use Rattle.words.specs.Choice.{If◌then◌else◌, ◌and◌, ◌or◌}
 use Rattle.words.specs.Lists.{every}
 use Rattle.words.proofs.Choosing.{either_line, less_or_not, then_case, else_case}
@@ -28,6 +28,14 @@ pub either_tests : (a b : Bool) → (a or b) ≡ (a || b)
 unfolding ◌or◌
 either_tests true b = refl
 either_tests false b = refl
+
+pub choices : {A : Type 0} (test : Bool) (a b : A) → (If test then a else b) ≡ cond test a b
+unfolding If◌then◌else◌
+choices true a b = refl
+choices false a b = refl
+
+-- What `grind` is handed where a function asks what a definition asks.
+pub ruleset code_tests = (nat_tests, both_tests, either_tests, choices)
 
 -- The stops past the last column.
 pub stops_past : (columns : ℕ) (stops : List Bool) → length stops ≡ 160 → stops_fit columns stops ≡ every not (take (160 - min columns 160) (drop (min columns 160) stops))

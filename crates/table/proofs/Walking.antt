@@ -6,11 +6,10 @@ use Prim.Native.Nat.{ℕ, ◌+◌, ◌<◌, ◌≤◌}
 use lib.ListN.{length, drop, get_or, drop_of_length-le}
 use Rattle.std.specs.Prelude.{Some, None}
 use Rattle.std.specs.List.{list_all}
-use Rattle.std.proofs.lemmas.Bool.Decides.{nat_tests}
 use Rattle.words.specs.Choice.{If◌then◌else◌}
 use Rattle.words.specs.Lists.{every}
 use Rattle.words.proofs.Walking.{next_element}
-use Rattle.state.proofs.Laws.{both_tests, either_tests}
+use Rattle.state.proofs.Laws.{both_tests}
 use Rattle.table.specs.Settings.{pen_after, pen_after_all}
 
 -- The library's word for the definitions' own.
@@ -39,6 +38,3 @@ module _ (values : List ℕ) (i pen : ℕ) where
   pub all_values : length values ≤ i → pen_after_all (drop i values) pen ≡ pen
   unfolding pen_after_all
   all_values h = rw (drop_of_length-le values h)
-
--- What `grind` is handed where a function asks what a definition asks.
-pub ruleset area_tests = (nat_tests, both_tests, either_tests)

@@ -67,7 +67,6 @@ pub fn rendition(state: State, letter: u8, values: &[u16]) -> Light
 }
 
 // Whether a pen takes a value of DAQ.
-#[tactic(auto, using(crate::proofs::Walking::area_tests), unfolding(crate::specs::Settings::is_area))]
 fn is_area(pen: Mark, value: usize) -> bool
     ensures { result ≡ is_area pen value }
 {

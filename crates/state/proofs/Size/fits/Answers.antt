@@ -1,15 +1,14 @@
 use mathlib.Core.Path.{sym, ◌∙◌}
 use native.Mathlib.Nat.{mul-le-mul}
 use native.Mathlib.Omega.{arith}
-use Rattle.std.proofs.lemmas.Bool.Decides.{nat_tests}
 use Rattle.state.specs.Tests.{size_fits}
 use Rattle.state.proofs.Keeping.{size_bounds}
-use Rattle.state.proofs.Laws.{both_tests}
+use Rattle.state.proofs.Laws.{code_tests}
 use Rattle.state.proofs.Size.fits.Goals as goal
 
 pub returns-then-not-is_listed : goal.returns-then-not-is_listed
 unfolding size_fits
-returns-then-not-is_listed c = grind (arith, nat_tests, both_tests)
+returns-then-not-is_listed c = grind (arith, code_tests)
 
 -- a listed size has at most 48 x 160 cells
 pub overflow_mul-cells : goal.overflow_mul-cells
@@ -19,8 +18,8 @@ overflow_mul-cells c =
 
 pub returns-then-characters-cells : goal.returns-then-characters-cells
 unfolding size_fits
-returns-then-characters-cells c = grind (arith, nat_tests, both_tests)
+returns-then-characters-cells c = grind (arith, code_tests)
 
 pub returns-else-characters-cells : goal.returns-else-characters-cells
 unfolding size_fits
-returns-else-characters-cells c = grind (arith, nat_tests, both_tests)
+returns-else-characters-cells c = grind (arith, code_tests)

@@ -1,13 +1,12 @@
 use native.Mathlib.Omega.{arith}
-use Rattle.std.proofs.lemmas.Bool.Decides.{nat_tests}
 use Rattle.state.specs.Tests.{valid_state}
-use Rattle.state.proofs.Laws.{both_tests}
+use Rattle.state.proofs.Laws.{code_tests}
 use Rattle.state.proofs.State.is_valid.Goals as goal
 
 pub returns-then-is_valid_message : goal.returns-then-is_valid_message
 unfolding valid_state
-returns-then-is_valid_message c = grind (arith, nat_tests, both_tests)
+returns-then-is_valid_message c = grind (arith, code_tests)
 
 pub returns-else-is_valid_message : goal.returns-else-is_valid_message
 unfolding valid_state
-returns-else-is_valid_message c = grind (arith, nat_tests, both_tests)
+returns-else-is_valid_message c = grind (arith, code_tests)

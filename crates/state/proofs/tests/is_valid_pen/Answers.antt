@@ -1,13 +1,12 @@
 use native.Mathlib.Omega.{arith}
-use Rattle.std.proofs.lemmas.Bool.Decides.{nat_tests}
 use Rattle.state.specs.Pen.{valid_pen}
-use Rattle.state.proofs.Laws.{both_tests}
+use Rattle.state.proofs.Laws.{code_tests}
 use Rattle.state.proofs.tests.is_valid_pen.Goals as goal
 
 pub returns-then-is_valid_mark : goal.returns-then-is_valid_mark
 unfolding valid_pen
-returns-then-is_valid_mark c = grind (arith, nat_tests, both_tests)
+returns-then-is_valid_mark c = grind (arith, code_tests)
 
 pub returns-else-is_valid_mark : goal.returns-else-is_valid_mark
 unfolding valid_pen
-returns-else-is_valid_mark c = grind (arith, nat_tests, both_tests)
+returns-else-is_valid_mark c = grind (arith, code_tests)

@@ -1,4 +1,4 @@
-use mathlib.Core.Path.{◌≡◌, sym, ap, ◌∙◌}
+use mathlib.Core.Path.{sym, ap, ◌∙◌}
 use Rattle.std.specs.Prelude.{Some}
 use Rattle.words.proofs.Choosing.{then_case, else_case}
 use Rattle.words.proofs.Passing.{next_passes, next_fails, all_pass}

@@ -1,10 +1,9 @@
-use mathlib.Core.Path.{◌≡◌, sym, ◌∙◌}
+use mathlib.Core.Path.{sym, ◌∙◌}
 use borrow.Author.Rules.{rules}
 use lib.Dec.{eqb}
 use Rattle.std.proofs.Common.{tests}
 use Rattle.std.proofs.lemmas.Iterator.{YieldsList-from_slice}
 use Rattle.std.proofs.lemmas.Iterator.Search.{all_from_yields_List}
-use Rattle.words.specs.Lists.{every}
 use Rattle.words.proofs.Choosing.{then_case, else_case}
 use Rattle.steps.specs.Light.{light_step}
 use Rattle.table.specs.Settings.{set_mode}
