@@ -40,7 +40,7 @@ fn has_modified(marks: &[Mark], from: usize, to: usize) -> bool
 {
     let mut cell = from;
     while cell < to {
-        if page::is_modified(page::mark_at(marks, cell)) {
+        if page::has_attribute(page::mark_at(marks, cell), page::Attribute::Modified) {
             return true;
         }
         cell += 1;

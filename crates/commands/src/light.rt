@@ -114,11 +114,12 @@ fn light_final(state: State, half: HalfRead, letter: u8) -> Light
     if table::most_arguments(letter) < count {
         return Light::Refused(Reason::WrongArguments, letter);
     }
+    let values = &arguments[..count as usize];
     match letter {
         b'o' => table::settings::qualify_area(state, letter, table::value(letter, arguments, 0)), // DAQ
-        b'm' => table::settings::rendition(state, letter, arguments, count as usize), // SGR
-        b'h' => table::settings::set_mode(state, letter, true, arguments, count as usize), // SM
-        b'l' => table::settings::set_mode(state, letter, false, arguments, count as usize), // RM
+        b'm' => table::settings::rendition(state, letter, values), // SGR
+        b'h' => table::settings::set_mode(state, letter, true, values), // SM
+        b'l' => table::settings::set_mode(state, letter, false, values), // RM
         _ => table::moves::move_command(state, letter, arguments),
     }
 }

@@ -1,13 +1,16 @@
 -- The loops over tab stops, a turn at a time, and the columns that they end at.
-use mathlib.Core.Path.{◌≡◌, refl, ap}
-use mathlib.Core.Bool.{Bool, false, not}
+use mathlib.Core.Path.{◌≡◌, refl, sym, ap, ◌∙◌}
+use mathlib.Core.Bool.{Bool, true, false, not, cond, ◌&&◌, ◌||◌}
 use mathlib.Core.List.{List}
-use Prim.Native.Nat.{ℕ, zero, suc, ◌+◌, ◌-◌, ◌<◌, ◌≤◌}
+use Prim.Native.Nat.{ℕ, zero, suc, ◌+◌, ◌-◌, ◌<◌, ◌≤◌, min}
+use native.Mathlib.Nat.{add-zero}
 use native.Mathlib.Omega.{arith}
-use lib.ListN.{length, get_or}
-use Rattle.words.specs.Choice.{If◌then◌else◌, ◌and◌}
-use Rattle.words.proofs.Choosing.{either_line}
-use Rattle.page.proofs.Asking.{next_asked, all_asked}
+use lib.ListN.{length, get_or, take, drop, length-drop}
+use Rattle.std.proofs.lemmas.List.{take_all, drop_min}
+use Rattle.std.proofs.lemmas.Bool.Decides.{nat_tests}
+use Rattle.words.specs.Choice.{If◌then◌else◌, ◌and◌, ◌or◌}
+use Rattle.words.specs.Lists.{every}
+use Rattle.words.proofs.Choosing.{either_line, less_or_not, then_case, else_case}
 use Rattle.state.specs.Tabs.{stop_right, stop_left, stops_on, stops_back}
 use Rattle.state.specs.Tests.{stops_fit}
 
@@ -15,55 +18,102 @@ use Rattle.state.specs.Tests.{stops_fit}
 abbrev pub OneTo : ℕ → ℕ → Type 0
 OneTo last at = (1 ≤ at) × (at ≤ last)
 
--- The stops after the first i columns, asked one by one, with what is known of those before them.
-module _ (stops : List Bool) (i : ℕ) (so_far : Bool) where
-  pub next_stop_asked : i < length stops → (so_far and stops_fit i stops) ≡ ((so_far and not (get_or stops i false)) and stops_fit (i + 1) stops)
-  unfolding stops_fit
-  next_stop_asked here = next_asked not false stops i so_far here
+-- The code asks by the library's `&&` and `||`, the definitions by their own words.
+pub both_tests : (a b : Bool) → (a and b) ≡ (a && b)
+unfolding ◌and◌
+both_tests true b = refl
+both_tests false b = refl
 
-  pub stops_asked : length stops ≤ i → (so_far and stops_fit i stops) ≡ so_far
-  unfolding stops_fit
-  stops_asked h = all_asked not false stops i so_far h
+pub either_tests : (a b : Bool) → (a or b) ≡ (a || b)
+unfolding ◌or◌
+either_tests true b = refl
+either_tests false b = refl
+
+pub choices : {A : Type 0} (test : Bool) (a b : A) → (If test then a else b) ≡ cond test a b
+unfolding If◌then◌else◌
+choices true a b = refl
+choices false a b = refl
+
+-- What `grind` is handed where a function asks what a definition asks.
+pub ruleset code_tests = (nat_tests, both_tests, either_tests, choices)
+
+-- The stops past the last column.
+pub stops_past : (columns : ℕ) (stops : List Bool) → length stops ≡ 160 → stops_fit columns stops ≡ every not (take (160 - min columns 160) (drop (min columns 160) stops))
+unfolding stops_fit
+stops_past columns stops all =
+    let whole : length (drop (min columns 160) stops) ≤ 160 - min columns 160 = omega (arith, length-drop (min columns 160) stops) in
+    sym (ap (every not) (take_all (160 - min columns 160) (drop (min columns 160) stops) whole ∙ rw all at (drop_min columns stops)))
 
 module _ (stops : List Bool) where
   -- One column on, and one back.
-  pub right_turn : (last at : ℕ) → at < last → stop_right stops at (last - at) ≡ (If get_or stops at false then at + 1 else stop_right stops (at + 1) (last - (at + 1)))
+  -- The first stop of those to the right, and none of them.
+  pub right_found : (column more between : ℕ) → between < more → get_or stops (column + between) false ≡ true → ((k : ℕ) → k < between → get_or stops (column + k) false ≡ false) → stop_right stops column more ≡ column + between + 1
   unfolding stop_right
-  right_turn last at h =
-      let more : last - at ≡ suc (last - (at + 1)) = omega arith in
-      let here : at + 1 - 1 ≡ at = omega arith in
-      rw (more, here)
+  right_found column zero between h stop none = absurd (omega arith)
+  right_found column (suc more) zero h stop none =
+      let here : column + 1 - 1 ≡ column + 0 = omega arith in
+      then_case _ _ _ (rw here stop) ∙ ap (λ (n : ℕ). n + 1) (sym (add-zero column))
+  right_found column (suc more) (suc between) h stop none =
+      let here : column + 1 - 1 ≡ column + 0 = omega arith in
+      let there : column + 1 + between ≡ column + suc between = omega arith in
+      else_case _ _ _ (rw here (none 0 (omega arith)))
+      ∙ right_found (column + 1) more between (omega arith) (rw there stop)
+      (λ k l. let next : column + 1 + k ≡ column + suc k = omega arith in rw next (none (suc k) (omega arith)))
+      ∙ ap (λ (n : ℕ). n + 1) there
 
-  pub right_end : (last at : ℕ) → last ≤ at → stop_right stops at (last - at) ≡ at
+  pub right_none : (column more : ℕ) → ((k : ℕ) → k < more → get_or stops (column + k) false ≡ false) → stop_right stops column more ≡ column + more
+  unfolding stop_right
+  right_none column zero none = sym (add-zero column)
+  right_none column (suc more) none =
+      let here : column + 1 - 1 ≡ column + 0 = omega arith in
+      let all : column + 1 + more ≡ column + suc more = omega arith in
+      else_case _ _ _ (rw here (none 0 (omega arith)))
+      ∙ right_none (column + 1) more (λ k l. let next : column + 1 + k ≡ column + suc k = omega arith in rw next (none (suc k) (omega arith)))
+      ∙ all
+
+  -- The last stop of those to the left, and none of them.
+  pub left_found : (column before : ℕ) → before + 1 < column → get_or stops before false ≡ true → ((k : ℕ) → before < k → k + 1 < column → get_or stops k false ≡ false) → stop_left stops column ≡ before + 1
+  unfolding stop_left
+  left_found zero before h stop none = absurd (omega arith)
+  left_found (suc zero) before h stop none = absurd (omega arith)
+  left_found (suc (suc column)) before h stop none =
+      let here : suc column - 1 ≡ column = omega arith in
+      less_or_not before column
+      (λ l. else_case _ _ _ (rw here (none column l (omega arith))) ∙ left_found (suc column) before (omega arith) stop (λ k m n. none k m (omega arith)))
+      (λ l. let last : suc column ≡ before + 1 = omega arith in then_case _ _ _ (rw (here, last_is column before l h) stop) ∙ last)
+    where
+      last_is : (column before : ℕ) → column ≤ before → before + 1 < suc (suc column) → column ≡ before
+      last_is column before l h = omega arith
+
+  pub left_none : (column : ℕ) → ((k : ℕ) → k + 1 < column → get_or stops k false ≡ false) → stop_left stops column ≡ 1
+  unfolding stop_left
+  left_none zero none = refl
+  left_none (suc zero) none = refl
+  left_none (suc (suc column)) none =
+      let here : suc column - 1 ≡ column = omega arith in
+      else_case _ _ _ (rw here (none column (omega arith))) ∙ left_none (suc column) (λ k l. none k (omega arith))
+
+  right_end : (last at : ℕ) → last ≤ at → stop_right stops at (last - at) ≡ at
   unfolding stop_right
   right_end last at h = let none : last - at ≡ 0 = omega arith in rw none
 
-  pub left_turn : (at : ℕ) → 1 < at → stop_left stops at ≡ (If get_or stops (at - 1 - 1) false then at - 1 else stop_left stops (at - 1))
-  unfolding stop_left
-  left_turn zero h = absurd (omega arith)
-  left_turn (suc zero) h = absurd (omega arith)
-  left_turn (suc (suc before)) h = let back : suc (suc before) - 1 ≡ suc before = omega arith in rw back
+  left_end : (at : ℕ) → at ≤ 1 → stop_left stops at ≡ 1
+  left_end at h = left_none at (λ k l. absurd (omega arith))
 
-  pub left_end : (at : ℕ) → at ≤ 1 → stop_left stops at ≡ 1
-  unfolding stop_left
-  left_end zero h = refl
-  left_end (suc zero) h = refl
-  left_end (suc (suc before)) h = absurd (omega arith)
-
-  -- One stop on, and one back.
+  -- One stop on, and one back, where i of n are done.
   module _ (last n column : ℕ) where
-    pub stops_on_turn : 0 < n → stops_on stops last column n ≡ stops_on stops last (stop_right stops column (last - column)) (n - 1)
+    pub stops_on_turn : (i : ℕ) → i < n → stops_on stops last column (n - i) ≡ stops_on stops last (stop_right stops column (last - column)) (n - (i + 1))
     unfolding stops_on
-    stops_on_turn h = let more : n ≡ suc (n - 1) = omega arith in ap (λ (k : ℕ). stops_on stops last column k) more
+    stops_on_turn i h = let more : n - i ≡ suc (n - (i + 1)) = omega arith in ap (λ (k : ℕ). stops_on stops last column k) more
 
     pub stops_on_end : n ≤ 0 → stops_on stops last column n ≡ column
     unfolding stops_on
     stops_on_end h = let none : n ≡ 0 = omega arith in rw none
 
   module _ (n column : ℕ) where
-    pub stops_back_turn : 0 < n → stops_back stops column n ≡ stops_back stops (stop_left stops column) (n - 1)
+    pub stops_back_turn : (i : ℕ) → i < n → stops_back stops column (n - i) ≡ stops_back stops (stop_left stops column) (n - (i + 1))
     unfolding stops_back
-    stops_back_turn h = let more : n ≡ suc (n - 1) = omega arith in ap (λ (k : ℕ). stops_back stops column k) more
+    stops_back_turn i h = let more : n - i ≡ suc (n - (i + 1)) = omega arith in ap (λ (k : ℕ). stops_back stops column k) more
 
     pub stops_back_end : n ≤ 0 → stops_back stops column n ≡ column
     unfolding stops_back

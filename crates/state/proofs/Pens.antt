@@ -1,12 +1,12 @@
 -- What each pen has of the one before. Those that set a visual mark are instances of page/proofs/Bits.antt.
-use mathlib.Core.Path.{◌≡◌, ◌∙◌}
+use mathlib.Core.Path.{◌≡◌, refl, ◌∙◌}
 use mathlib.Core.Bool.{Bool, true, false}
-use Prim.Native.Nat.{ℕ, ◌+◌, ◌*◌, ◌/◌, ◌%◌, ◌<◌, ◌≤◌}
-use native.Mathlib.Nat.{le_trans}
+use Prim.Native.Nat.{ℕ, ◌<◌, ◌≤◌}
 use native.Mathlib.Omega.{arith}
-use Rattle.page.specs.Marks.{has_bit, without_bits, without_bit, is_protected, is_modified, is_numeric, is_alphabetic, is_required}
+use Rattle.page.specs.declared.Attribute.TheVariants.{Protected, Bold, Underlined, Blinking, Reversed, Concealed, Numeric, Alphabetic, Required}
+use Rattle.page.specs.Marks.{with_attribute, has_bit, without_bit, is_protected, is_modified, is_numeric, is_alphabetic, is_required}
 use Rattle.page.proofs.Bits.{StayOutside, lower_bit, higher_bit, other_bit, stays_below, cleared_outside, cleared_inside, cleared_others, cleared_bit, set_others, set_bit}
-use Rattle.state.specs.Pen.{pen_unprotected, pen_protected, pen_numeric, pen_alphabetic, pen_required, pen_plain}
+use Rattle.state.specs.Pen.{pen_unprotected, pen_protected, pen_numeric, pen_alphabetic, pen_required, pen_plain, pen_bold, pen_underlined, pen_blinking, pen_reversed, pen_concealed}
 
 -- The kind of a mark and whether it is modified; how large it is.
 pub record HasKind (protected numeric alphabetic required modified : Bool) (pen : ℕ) : Type 0 where
@@ -16,19 +16,6 @@ pub record HasKind (protected numeric alphabetic required modified : Bool) (pen 
   pub is_required : is_required pen ≡ required
   pub is_modified : is_modified pen ≡ modified
   pub less : pen < 0x400
-
--- No pen of 16 bits gets more: clearing bits makes it no larger, and a bit that is set had its room.
-pub cleared_is_less : (pen : ℕ) → pen_unprotected pen ≤ pen
-cleared_is_less pen =
-    let first : without_bit 0 pen ≤ pen = omega arith in
-    let second : without_bits 7 10 (without_bit 0 pen) ≤ without_bit 0 pen = omega arith in
-    le_trans second first
-
-pub numeric_fits_16 : (pen : ℕ) → pen < 65536 → pen / 256 * 256 + 128 + pen % 128 < 65536
-numeric_fits_16 pen small = omega arith
-
-pub alphabetic_fits_16 : (pen : ℕ) → pen < 65536 → pen / 512 * 512 + 256 + pen % 256 < 65536
-alphabetic_fits_16 pen small = omega arith
 
 module _ (pen : ℕ) where
   -- A plain pen has no visual mark, and every other one as it was.
@@ -104,3 +91,32 @@ module _ (pen : ℕ) where
           is_modified = other_bit others 1 (λ e. omega arith);
           less = stays_below others 10 (omega arith) small;
         }
+
+-- The pens that set one attribute: the code has one function for all of them, that of the page.
+module _ (pen : ℕ) where
+  pub bold_is : with_attribute Bold pen ≡ pen_bold pen
+  bold_is = refl
+
+  pub underlined_is : with_attribute Underlined pen ≡ pen_underlined pen
+  underlined_is = refl
+
+  pub blinking_is : with_attribute Blinking pen ≡ pen_blinking pen
+  blinking_is = refl
+
+  pub reversed_is : with_attribute Reversed pen ≡ pen_reversed pen
+  reversed_is = refl
+
+  pub concealed_is : with_attribute Concealed pen ≡ pen_concealed pen
+  concealed_is = refl
+
+  pub required_is : with_attribute Required pen ≡ pen_required pen
+  required_is = refl
+
+  pub protected_is : with_attribute Protected (pen_unprotected pen) ≡ pen_protected pen
+  protected_is = refl
+
+  pub numeric_is : with_attribute Numeric (pen_unprotected pen) ≡ pen_numeric pen
+  numeric_is = refl
+
+  pub alphabetic_is : with_attribute Alphabetic (pen_unprotected pen) ≡ pen_alphabetic pen
+  alphabetic_is = refl

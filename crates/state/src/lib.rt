@@ -12,10 +12,7 @@ ghost use Rattle.state.specs.State.{OnPage, with_locks, with_half, fresh_state, 
 ghost use Rattle.state.specs.State.{message_of, refused, input_disabled, input_enabled, unlocked};
 
 use page::Mark;
-pub use pen::{
-    pen_alphabetic, pen_blinking, pen_bold, pen_concealed, pen_numeric, pen_plain, pen_protected,
-    pen_required, pen_reversed, pen_underlined, pen_unprotected,
-};
+pub use pen::{pen_plain, pen_unprotected};
 use places::Place;
 use sequence::{HalfRead, Reason};
 
@@ -46,6 +43,7 @@ pub struct Modes {
 pub struct Locks {
     pub manual: bool,
     pub soft: bool,
+    // a number, since C keeps any byte there, and calls answer 2 to one out of range (`valid_message`, `state_in`)
     pub message: u8,
     // at which it was refused; 0 without a message
     pub byte: u8,
@@ -84,7 +82,7 @@ const UNLOCKED: Locks = Locks {
     byte: 0,
 };
 
-// The message that tells a reason.
+// The message that tells a reason. (No `From`: neither type is of this crate.)
 fn message_of(reason: Reason) -> u8
     ensures { result ≡ message_of reason }
 {
@@ -138,9 +136,7 @@ impl State {
     fn with_locks(self, locks: Locks) -> Self
         ensures { result ≡ with_locks self locks }
     {
-        let mut next = self;
-        next.locks = locks;
-        next
+        State { locks, ..self }
     }
 
     // A refused command: the soft lock, the reason's message and the byte, in place of those of one before.
@@ -148,10 +144,10 @@ impl State {
         ensures { result ≡ refused reason byte self }
     {
         self.with_locks(Locks {
-            manual: self.locks.manual,
             soft: true,
             message: message_of(reason),
             byte,
+            ..self.locks
         })
     }
 
@@ -161,9 +157,7 @@ impl State {
     {
         self.with_locks(Locks {
             manual: true,
-            soft: self.locks.soft,
-            message: self.locks.message,
-            byte: self.locks.byte,
+            ..self.locks
         })
     }
 
@@ -180,9 +174,7 @@ impl State {
     {
         self.with_locks(Locks {
             manual: self.locks.manual,
-            soft: false,
-            message: 0,
-            byte: 0,
+            ..UNLOCKED
         })
     }
 
@@ -190,8 +182,6 @@ impl State {
     pub fn with_half(self, half: HalfRead) -> Self
         ensures { result ≡ with_half self half }
     {
-        let mut next = self;
-        next.half = half;
-        next
+        State { half, ..self }
     }
 }

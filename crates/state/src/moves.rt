@@ -9,10 +9,7 @@ use crate::{Cursor, State};
 fn back_by(at: usize, n: usize) -> usize
     ensures { result ≡ back_by at n }
 {
-    if n < at {
-        return at - n;
-    }
-    1
+    at.saturating_sub(n).max(1)
 }
 
 // From a row or column so many on, not past the last.
@@ -20,10 +17,7 @@ fn on_by(at: usize, n: usize, last: usize) -> usize
     requires { at ≤ last }
     ensures { result ≡ on_by at n last }
 {
-    if n <= last - at {
-        return at + n;
-    }
-    last
+    at.saturating_add(n).min(last)
 }
 
 impl State {
@@ -31,10 +25,10 @@ impl State {
     pub fn moved_to(self, row: usize, column: usize) -> Self
         ensures { result ≡ with_cursor self (cursor_at row column) }
     {
-        let cursor = Cursor { row, column };
-        let mut next = self;
-        next.cursor = cursor;
-        next
+        State {
+            cursor: Cursor { row, column },
+            ..self
+        }
     }
 
     // Moves of the cursor, which stop at the edge: so many rows up.

@@ -1,6 +1,6 @@
 // Tab stops, one mark for each of 160 columns; see specs/Tabs.antt.
-ghost use Rattle.std.specs.Prelude.{◌≡◌, ◌-◌, ◌≤◌};
-ghost use Rattle.state.specs.State.{OnPage};
+ghost use Rattle.std.specs.Prelude.{◌≡◌, ◌-◌, ◌≤◌, set};
+ghost use Rattle.state.specs.State.{OnPage, with_stops};
 ghost use Rattle.state.specs.Tabs.{stop_set, stop_cleared, stops_cleared, stop_right, stop_left, stops_on, stops_back};
 ghost use Rattle.state.specs.Tabs.{tabbed_on, tabbed_back};
 
@@ -11,14 +11,10 @@ fn stop_right(stops: &[bool; 160], last: usize, column: usize) -> usize
     requires { (1 ≤ column) × (column ≤ last) × (last ≤ 160) }
     ensures { result ≡ stop_right stops.now column (last - column) }
 {
-    let mut at = column;
-    while at < last {
-        if stops[at] {
-            return at + 1;
-        }
-        at += 1;
+    match stops[column..last].iter().position(|stop| *stop) {
+        Some(between) => column + between + 1,
+        None => last,
     }
-    at
 }
 
 // The next tab stop to the left of a column, else column 1.
@@ -26,29 +22,23 @@ fn stop_left(stops: &[bool; 160], column: usize) -> usize
     requires { (1 ≤ column) × (column ≤ 160) }
     ensures { result ≡ stop_left stops.now column }
 {
-    let mut at = column;
-    while 1 < at {
-        at -= 1;
-        if stops[at - 1] {
-            return at;
-        }
+    match stops[..column - 1].iter().rev().position(|stop| *stop) {
+        Some(between) => column - 1 - between,
+        None => 1,
     }
-    1
 }
 
-// So many tab stops on.
+// So many tab stops on. (The two loops stay: one that takes the step as a closure needs a longer contract than both.)
 fn stops_on(stops: &[bool; 160], last: usize, column: usize, n: usize) -> usize
     requires { (1 ≤ column) × (column ≤ last) × (last ≤ 160) }
     ensures { result ≡ stops_on stops.now last column n }
 {
     let mut at = column;
-    let mut left = n;
-    while 0 < left {
+    for _ in 0..n {
         if last <= at { // no stop is left to find
             return at;
         }
         at = stop_right(stops, last, at);
-        left -= 1;
     }
     at
 }
@@ -59,13 +49,11 @@ fn stops_back(stops: &[bool; 160], column: usize, n: usize) -> usize
     ensures { result ≡ stops_back stops.now column n }
 {
     let mut at = column;
-    let mut left = n;
-    while 0 < left {
+    for _ in 0..n {
         if at <= 1 { // no stop is left to find
             return at;
         }
         at = stop_left(stops, at);
-        left -= 1;
     }
     at
 }
@@ -76,8 +64,7 @@ impl State {
         requires { OnPage self }
         ensures { result ≡ tabbed_on n self }
     {
-        let stops = self.stops;
-        let column = stops_on(&stops, self.size.columns, self.cursor.column, n);
+        let column = stops_on(&self.stops, self.size.columns, self.cursor.column, n);
         self.moved_to(self.cursor.row, column)
     }
 
@@ -86,9 +73,17 @@ impl State {
         requires { OnPage self }
         ensures { result ≡ tabbed_back n self }
     {
-        let stops = self.stops;
-        let column = stops_back(&stops, self.cursor.column, n);
+        let column = stops_back(&self.stops, self.cursor.column, n);
         self.moved_to(self.cursor.row, column)
+    }
+
+    // The cursor's column with a tab stop, or without.
+    fn with_stop(mut self, stop: bool) -> Self
+        requires { OnPage self }
+        ensures { result ≡ with_stops self (set self.stops (self.cursor.column - 1) stop) }
+    {
+        self.stops[self.cursor.column - 1] = stop;
+        self
     }
 
     // A tab stop at the cursor's column.
@@ -96,10 +91,7 @@ impl State {
         requires { OnPage self }
         ensures { result ≡ stop_set self }
     {
-        let at = self.cursor.column - 1;
-        let mut next = self;
-        next.stops[at] = true;
-        next
+        self.with_stop(true)
     }
 
     // No tab stop at the cursor's column.
@@ -107,18 +99,16 @@ impl State {
         requires { OnPage self }
         ensures { result ≡ stop_cleared self }
     {
-        let at = self.cursor.column - 1;
-        let mut next = self;
-        next.stops[at] = false;
-        next
+        self.with_stop(false)
     }
 
     // No tab stops.
     pub fn clear_stops(self) -> Self
         ensures { result ≡ stops_cleared self }
     {
-        let mut next = self;
-        next.stops = [false; 160];
-        next
+        State {
+            stops: [false; 160],
+            ..self
+        }
     }
 }

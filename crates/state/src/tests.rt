@@ -6,46 +6,27 @@ ghost use Rattle.state.specs.Tests.{listed_rows, listed_columns, listed_size, si
 ghost use Rattle.state.specs.Tests.{stops_fit, valid_message, valid_state};
 
 use crate::{Cursor, Locks, Size, State};
-use page::Mark;
+use page::{Attribute, Mark};
 
 // A page may have 24, 27 or 48 rows.
 fn is_listed_rows(rows: usize) -> bool
     ensures { result ≡ listed_rows rows }
 {
-    match rows {
-        24 => true,
-        27 => true,
-        48 => true,
-        _ => false,
-    }
+    matches!(rows, 24 | 27 | 48)
 }
 
 // And 80, 132 or 160 columns, any with any.
 fn is_listed_columns(columns: usize) -> bool
     ensures { result ≡ listed_columns columns }
 {
-    match columns {
-        80 => true,
-        132 => true,
-        160 => true,
-        _ => false,
-    }
+    matches!(columns, 80 | 132 | 160)
 }
 
 // The cursor is on the page.
 fn cursor_fits(size: Size, cursor: Cursor) -> bool
     ensures { result ≡ cursor_fits size cursor }
 {
-    if cursor.row < 1 {
-        return false;
-    }
-    if size.rows < cursor.row {
-        return false;
-    }
-    if cursor.column < 1 {
-        return false;
-    }
-    cursor.column <= size.columns
+    (1..=size.rows).contains(&cursor.row) && (1..=size.columns).contains(&cursor.column)
 }
 
 // No tab stop is past the last column.
@@ -53,10 +34,8 @@ fn stops_fit(columns: usize, stops: [bool; 160]) -> bool
     ensures { result ≡ stops_fit columns stops }
 {
     let mut fit = true;
-    let mut i = columns;
-    while i < 160 { // to the end, whatever was found: then the compiler takes many columns at a time
-        fit = page::both(fit, !stops[i]);
-        i += 1;
+    for stop in &stops[columns.min(160)..] { // to the end: then the compiler takes many columns at a time
+        fit &= !*stop;
     }
     fit
 }
@@ -65,20 +44,17 @@ fn stops_fit(columns: usize, stops: [bool; 160]) -> bool
 fn is_valid_pen(pen: Mark) -> bool
     ensures { result ≡ valid_pen pen }
 {
-    if page::is_valid_mark(pen) {
-        return !page::is_modified(pen);
-    }
-    false
+    page::is_valid_mark(pen) && !page::has_attribute(pen, Attribute::Modified)
 }
 
 // A message in range, 0 to 4, and no byte where there is none.
 fn is_valid_message(locks: Locks) -> bool
     ensures { result ≡ valid_message locks }
 {
-    if locks.message == 0 {
-        return locks.byte == 0;
+    match locks.message {
+        0 => locks.byte == 0,
+        message => message <= 4,
     }
-    locks.message <= 4
 }
 
 impl Size {
@@ -86,10 +62,7 @@ impl Size {
     pub fn is_listed(self) -> bool
         ensures { result ≡ listed_size self }
     {
-        if is_listed_rows(self.rows) {
-            return is_listed_columns(self.columns);
-        }
-        false
+        is_listed_rows(self.rows) && is_listed_columns(self.columns)
     }
 
     // Document 01's number 1 is given where this is false.
@@ -100,10 +73,7 @@ impl Size {
             return false;
         }
         let cells = self.rows * self.columns;
-        if characters.len() != cells {
-            return false;
-        }
-        marks.len() == cells
+        characters.len() == cells && marks.len() == cells
     }
 }
 
@@ -112,19 +82,10 @@ impl State {
     pub fn is_valid(self) -> bool
         ensures { result ≡ valid_state self }
     {
-        let stops = self.stops;
-        if !cursor_fits(self.size, self.cursor) {
-            return false;
-        }
-        if !stops_fit(self.size.columns, stops) {
-            return false;
-        }
-        if !is_valid_pen(self.modes.pen) {
-            return false;
-        }
-        if !is_valid_message(self.locks) {
-            return false;
-        }
-        self.half.is_valid()
+        cursor_fits(self.size, self.cursor)
+            && stops_fit(self.size.columns, self.stops)
+            && is_valid_pen(self.modes.pen)
+            && is_valid_message(self.locks)
+            && self.half.is_valid()
     }
 }

@@ -1,40 +1,40 @@
--- Loops that walk the first `count` of a list's values and have come to i.
-use mathlib.Core.Path.{◌≡◌, ap, ◌∙◌}
+-- Loops that walk a list's values and have come to i.
+use mathlib.Core.Path.{◌≡◌, refl, ap, ◌∙◌}
 use mathlib.Core.Bool.{Bool, true, false}
-use mathlib.Core.List.{List}
+use mathlib.Core.List.{List, [], ◌∷◌}
 use Prim.Native.Nat.{ℕ, ◌+◌, ◌<◌, ◌≤◌}
-use native.Mathlib.Omega.{arith}
-use lib.ListN.{length, take, drop, get_or, drop_of_length-le}
-use lib.Seq.{get_or-take, length-take-le}
+use lib.ListN.{length, drop, get_or, drop_of_length-le}
+use Rattle.std.specs.Prelude.{Some, None}
+use Rattle.std.specs.List.{list_all}
+use Rattle.words.specs.Choice.{If◌then◌else◌}
 use Rattle.words.specs.Lists.{every}
 use Rattle.words.proofs.Walking.{next_element}
-use Rattle.words.proofs.Passing.{next_passes, next_fails, all_pass}
+use Rattle.state.proofs.Laws.{both_tests}
 use Rattle.table.specs.Settings.{pen_after, pen_after_all}
 
-module _ (values : List ℕ) (count i : ℕ) (counted : count ≤ length values) where
-  among : i < count → i < length (take count values)
-  among h = omega (arith, length-take-le count values counted)
+-- The library's word for the definitions' own.
+pub every_is : (test : ℕ → Bool) (values : List ℕ) → every test values ≡ list_all test values
+unfolding every
+every_is test [] = refl
+every_is test (value ∷ later) = both_tests (test value) (every test later) ∙ rw (every_is test later)
 
-  behind : count ≤ i → length (take count values) ≤ i
-  behind h = omega (arith, length-take-le count values counted)
+-- What a test that an `Option` tells of was.
+pub listed : (test : Bool) (a b : ℕ) → Some a ≡ (If test then Some b else None) → (test ≡ true) × (a ≡ b)
+unfolding If◌then◌else◌
+listed true a b p = (refl, cc)
+listed false a b p = cc
 
-  -- A test of each.
-  module _ (test : ℕ → Bool) where
-    pub next_value_passes : i < count → test (get_or values i 0) ≡ true → every test (drop i (take count values)) ≡ every test (drop (i + 1) (take count values))
-    next_value_passes h p = next_passes test 0 (take count values) i (among h) (rw (get_or-take count values i 0 h) p)
+pub unlisted : (test : Bool) (b : ℕ) → None ≡ (If test then Some b else None) → test ≡ false
+unfolding If◌then◌else◌
+unlisted true b p = cc
+unlisted false b p = refl
 
-    pub value_fails : i < count → test (get_or values i 0) ≡ false → every test (drop i (take count values)) ≡ false
-    value_fails h p = next_fails test 0 (take count values) i (among h) (rw (get_or-take count values i 0 h) p)
-
-    pub all_values_pass : count ≤ i → every test (drop i (take count values)) ≡ true
-    all_values_pass h = all_pass test 0 (take count values) i (behind h)
-
-  -- A pen that each of them changes.
-  pub next_value : (pen : ℕ) → i < count → pen_after_all (drop i (take count values)) pen ≡ pen_after_all (drop (i + 1) (take count values)) (pen_after (get_or values i 0) pen)
+-- A pen that each of them changes.
+module _ (values : List ℕ) (i pen : ℕ) where
+  pub next_value : i < length values → pen_after_all (drop i values) pen ≡ pen_after_all (drop (i + 1) values) (pen_after (get_or values i 0) pen)
   unfolding pen_after_all
-  next_value pen h =
-      ap (λ (later : List ℕ). pen_after_all later pen) (next_element (take count values) i 0 (among h)) ∙ rw (get_or-take count values i 0 h)
+  next_value h = ap (λ (later : List ℕ). pen_after_all later pen) (next_element values i 0 h)
 
-  pub all_values : (pen : ℕ) → count ≤ i → pen_after_all (drop i (take count values)) pen ≡ pen
+  pub all_values : length values ≤ i → pen_after_all (drop i values) pen ≡ pen
   unfolding pen_after_all
-  all_values pen h = rw (drop_of_length-le (take count values) (behind h))
+  all_values h = rw (drop_of_length-le values h)

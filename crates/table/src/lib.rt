@@ -2,7 +2,7 @@
 // What each function gives is defined in specs/.
 #![tactic(auto)]
 
-ghost use Rattle.std.specs.Prelude.{◌≡◌, ◌≤◌};
+ghost use Rattle.std.specs.Prelude.{◌≡◌, ◌-◌, ◌≤◌, get_or};
 ghost use Rattle.table.specs.Table.{allowed, value_of};
 
 pub mod moves;
@@ -18,13 +18,22 @@ const MOST: [u8; 63] = *b"011111112111000000000001001000000000102080008811000000
 //                           @ABCDEFGHIJKLMNOPQRSTUVWXYZ[\]^_`abcdefghijklmnopqrstuvwxyz{|}~
 const ZERO_IS: [u8; 63] = *b"011111111100000000000000001000000000101000000000000000000000000";
 
-// How many arguments a command may have at most: document 01's table, consulted here alone.
+// The digit that a table has for a final byte.
+fn digit(table: &[u8; 63], letter: u8) -> u8
+    requires le_letter { (0x40 ≤ letter) × (letter ≤ 0x7E) }
+    requires is_digit { 0x30 ≤ get_or table.now (letter - 0x40) 0 }
+    ensures { result ≡ get_or table.now (letter - 0x40) 0 - 0x30 }
+{
+    table[(letter - b'@') as usize] - b'0'
+}
+
+// How many arguments a command may have at most: document 01's table, consulted here alone. (A number, not an `Option`:
+// `allowed` gives 0 for a command that isn't listed.)
 pub fn most_arguments(letter: u8) -> u8
     requires { (0x40 ≤ letter) × (letter ≤ 0x7E) }
     ensures { result ≡ (allowed letter).most }
 {
-    let at = (letter - b'@') as usize;
-    MOST[at] - b'0'
+    digit(&MOST, letter)
 }
 
 // What an argument of 0 stands for.
@@ -32,8 +41,7 @@ fn zero_is(letter: u8) -> u8
     requires { (0x40 ≤ letter) × (letter ≤ 0x7E) }
     ensures { result ≡ (allowed letter).zero_is }
 {
-    let at = (letter - b'@') as usize;
-    ZERO_IS[at] - b'0'
+    digit(&ZERO_IS, letter)
 }
 
 // The value of an argument, counted from 0.
@@ -41,9 +49,8 @@ pub fn value(letter: u8, arguments: [u16; 8], i: usize) -> usize
     requires { (0x40 ≤ letter) × (letter ≤ 0x7E) × (i ≤ 7) }
     ensures { result ≡ value_of letter arguments i }
 {
-    let given = arguments[i];
-    if given == 0 {
-        return zero_is(letter) as usize;
+    match arguments[i] {
+        0 => zero_is(letter) as usize,
+        given => given as usize,
     }
-    given as usize
 }

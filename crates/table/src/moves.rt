@@ -17,8 +17,8 @@ fn to_column(state: State, column: usize) -> Light
 {
     if column <= state.size.columns {
         return Light::Cursor(Cursor {
-            row: state.cursor.row,
             column,
+            ..state.cursor
         });
     }
     steps::moves_to(state)
@@ -35,7 +35,7 @@ fn to_row(state: State, letter: u8, row: usize) -> Light
     }
     Light::Cursor(Cursor {
         row,
-        column: state.cursor.column,
+        ..state.cursor
     })
 }
 
@@ -45,11 +45,8 @@ fn to_place(state: State, letter: u8, row: usize, column: usize) -> Light
         light_step result (record { state = state; page = page })
         ≡ to_place letter row column (record { state = state; page = page }) }
 {
-    if row <= state.size.rows {
-        if column <= state.size.columns {
-            return Light::Cursor(Cursor { row, column });
-        }
-        return Light::Refused(Reason::WrongArguments, letter);
+    if row <= state.size.rows && column <= state.size.columns {
+        return Light::Cursor(Cursor { row, column });
     }
     Light::Refused(Reason::WrongArguments, letter)
 }
@@ -58,11 +55,8 @@ fn to_place(state: State, letter: u8, row: usize, column: usize) -> Light
 fn kept_column(row: u16, given: u16, column: usize, present: usize) -> usize
     ensures { result ≡ kept_column row given column present }
 {
-    if given == 0 {
-        if 0 < row {
-            return present;
-        }
-        return column;
+    if given == 0 && 0 < row {
+        return present;
     }
     column
 }

@@ -14,14 +14,9 @@ pub fn private_command(state: State, letter: u8, argument: u16) -> Light
         light_step result (record { state = state; page = page })
         ≡ private_step letter argument (record { state = state; page = page }) }
 {
-    if argument == 6 {
-        if letter == b'h' {
-            return steps::sets(state.with_full(false));
-        }
-        if letter == b'l' {
-            return steps::sets(state.with_full(true));
-        }
-        return Light::Refused(Reason::BrokenSequence, letter);
+    match (argument, letter) {
+        (6, b'h') => steps::sets(state.with_full(false)),
+        (6, b'l') => steps::sets(state.with_full(true)),
+        _ => Light::Refused(Reason::BrokenSequence, letter),
     }
-    Light::Refused(Reason::BrokenSequence, letter)
 }

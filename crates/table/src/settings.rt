@@ -1,5 +1,6 @@
 // Document 01, "Commands": the commands of ESC [ that set tab stops, the pen and the mode.
-ghost use Rattle.std.specs.Prelude.{◌≡◌, ◌≤◌, eqb, take};
+ghost use Rattle.std.specs.Prelude.{◌≡◌};
+ghost use Rattle.words.specs.Choice.{If◌then◌else◌};
 ghost use Rattle.words.specs.Lists.{every};
 ghost use Rattle.page.specs.Page.{Page};
 ghost use Rattle.state.specs.State.{OnPage};
@@ -8,7 +9,7 @@ ghost use Rattle.steps.specs.Light.{light_step};
 ghost use Rattle.table.specs.Settings.{tab_control, is_visual, pen_after, pen_after_all, rendition, set_mode};
 ghost use Rattle.table.specs.Settings.{is_area, pen_of_area, area_set, area_qualified};
 
-use page::Mark;
+use page::{Attribute, Mark};
 use sequence::Reason;
 use state::State;
 use steps::{Light, Step};
@@ -27,91 +28,42 @@ pub fn tab_control(state: State, letter: u8, what: usize) -> Step
     }
 }
 
-// Whether SGR lists a value.
-fn is_visual(value: u16) -> bool
-    ensures { result ≡ is_visual value }
+// What one value of SGR does to the pen, if SGR lists it.
+fn pen_after(value: u16, pen: Mark) -> Option<Mark>
+    ensures { result ≡ (If is_visual value then Some (pen_after value pen) else None) }
 {
     match value {
-        0 => true,
-        1 => true,
-        4 => true,
-        5 => true,
-        7 => true,
-        8 => true,
-        _ => false,
+        0 => Some(state::pen_plain(pen)),
+        1 => Some(page::with_attribute(pen, Attribute::Bold)),
+        4 => Some(page::with_attribute(pen, Attribute::Underlined)),
+        5 => Some(page::with_attribute(pen, Attribute::Blinking)),
+        7 => Some(page::with_attribute(pen, Attribute::Reversed)),
+        8 => Some(page::with_attribute(pen, Attribute::Concealed)),
+        _ => None,
     }
 }
 
-// Whether it lists them all.
-fn all_visual(values: [u16; 8], count: usize) -> bool
-    requires { count ≤ 8 }
-    ensures { result ≡ every is_visual (take count values) }
-{
-    let mut i = 0;
-    while i < count {
-        if !is_visual(values[i]) {
-            return false;
-        }
-        i += 1;
-    }
-    true
-}
-
-// Whether every mode is 6, erasure.
-fn all_six(values: [u16; 8], count: usize) -> bool
-    requires { count ≤ 8 }
-    ensures { result ≡ every (λ value. eqb value 6) (take count values) }
-{
-    let mut i = 0;
-    while i < count {
-        if values[i] != 6 {
-            return false;
-        }
-        i += 1;
-    }
-    true
-}
-
-// What one value of SGR does to the pen.
-fn pen_after(value: u16, pen: Mark) -> Mark
-    ensures { result ≡ pen_after value pen }
-{
-    match value {
-        0 => state::pen_plain(pen),
-        1 => state::pen_bold(pen),
-        4 => state::pen_underlined(pen),
-        5 => state::pen_blinking(pen),
-        7 => state::pen_reversed(pen),
-        _ => state::pen_concealed(pen),
-    }
-}
-
-// The pen after all of them, in order.
-fn pen_after_all(values: [u16; 8], count: usize, pen: Mark) -> Mark
-    requires { count ≤ 8 }
-    ensures { result ≡ pen_after_all (take count values) pen }
+// The pen after all of them, in order, if SGR lists them all.
+fn pen_after_all(values: &[u16], pen: Mark) -> Option<Mark>
+    ensures { result ≡ (If every is_visual values.now then Some (pen_after_all values.now pen) else None) }
 {
     let mut here = pen;
-    let mut i = 0;
-    while i < count {
-        here = pen_after(values[i], here);
-        i += 1;
+    for value in values {
+        here = pen_after(*value, here)?;
     }
-    here
+    Some(here)
 }
 
-// SGR: all values are tested before any acts.
-pub fn rendition(state: State, letter: u8, values: [u16; 8], count: usize) -> Light
-    requires { count ≤ 8 }
+// SGR: one value that it doesn't list, and none acts.
+pub fn rendition(state: State, letter: u8, values: &[u16]) -> Light
     ensures { (page : Page) →
         light_step result (record { state = state; page = page })
-        ≡ rendition letter (take count values) (record { state = state; page = page }) }
+        ≡ rendition letter values.now (record { state = state; page = page }) }
 {
-    if all_visual(values, count) {
-        let pen = pen_after_all(values, count, state.modes.pen);
-        return steps::sets(state.with_pen(pen));
+    match pen_after_all(values, state.modes.pen) {
+        Some(pen) => steps::sets(state.with_pen(pen)),
+        None => Light::Refused(Reason::WrongArguments, letter),
     }
-    Light::Refused(Reason::WrongArguments, letter)
 }
 
 // Whether a pen takes a value of DAQ.
@@ -119,25 +71,23 @@ fn is_area(pen: Mark, value: usize) -> bool
     ensures { result ≡ is_area pen value }
 {
     match value {
-        0 => true,
-        1 => true,
-        3 => true,
-        4 => true,
-        20 => !page::is_protected(pen),
+        0 | 1 | 3 | 4 => true,
+        20 => !page::has_attribute(pen, Attribute::Protected),
         _ => false,
     }
 }
 
-// The pen that one of them leaves.
+// The pen that one of them leaves. (A pen, not an `Option`: `set_area` promises `area_set` of any value.)
 fn pen_of_area(value: usize, pen: Mark) -> Mark
     ensures { result ≡ pen_of_area value pen }
 {
+    let open = state::pen_unprotected(pen);
     match value {
-        0 => state::pen_unprotected(pen),
-        1 => state::pen_protected(pen),
-        3 => state::pen_numeric(pen),
-        4 => state::pen_alphabetic(pen),
-        _ => state::pen_required(pen),
+        0 => open,
+        1 => page::with_attribute(open, Attribute::Protected),
+        3 => page::with_attribute(open, Attribute::Numeric),
+        4 => page::with_attribute(open, Attribute::Alphabetic),
+        _ => page::with_attribute(pen, Attribute::Required),
     }
 }
 
@@ -163,13 +113,12 @@ pub fn qualify_area(state: State, letter: u8, value: usize) -> Light
 }
 
 // SM and RM: mode 6.
-pub fn set_mode(state: State, letter: u8, on: bool, values: [u16; 8], count: usize) -> Light
-    requires { count ≤ 8 }
+pub fn set_mode(state: State, letter: u8, on: bool, values: &[u16]) -> Light
     ensures { (page : Page) →
         light_step result (record { state = state; page = page })
-        ≡ set_mode letter on (take count values) (record { state = state; page = page }) }
+        ≡ set_mode letter on values.now (record { state = state; page = page }) }
 {
-    if all_six(values, count) {
+    if values.iter().all(|value| *value == 6) {
         return steps::sets(state.with_erasure(on));
     }
     Light::Refused(Reason::WrongArguments, letter)

@@ -1,3 +1,4 @@
+use mathlib.Core.Path.{◌∙◌}
 use Prim.Native.Nat.{ℕ}
 use borrow.Author.Rules.{rules}
 use Rattle.words.specs.Choice.{If◌then◌else◌, ◌and◌, ◌or◌, ◌is◌to◌}
@@ -5,10 +6,10 @@ use Rattle.table.specs.Table.{allowed}
 use Rattle.table.proofs.Tables.{digits_of, is_digit, digit_is}
 use Rattle.table.proofs.most_arguments.Goals as goal
 
-pub overflow_sub-result : goal.overflow_sub-result
+pub digit-requires-clause-is_digit : goal.digit-requires-clause-is_digit
 unfolding digits_of allowed If◌then◌else◌ ◌and◌ ◌or◌ ◌is◌to◌
-overflow_sub-result c = is_digit (λ (final : ℕ). (allowed final).most) 0x40 63 c.args.letter (search rules) (search rules)
+digit-requires-clause-is_digit c = is_digit (λ (final : ℕ). (allowed final).most) 0x40 63 c.args.letter (search rules) (search rules)
 
 pub returns : goal.returns
 unfolding digits_of allowed If◌then◌else◌ ◌and◌ ◌or◌ ◌is◌to◌
-returns c = digit_is (λ (final : ℕ). (allowed final).most) 0x40 63 c.args.letter (search rules) (search rules)
+returns c = c.digit.ensures ∙ digit_is (λ (final : ℕ). (allowed final).most) 0x40 63 c.args.letter (search rules) (search rules)

@@ -1,11 +1,12 @@
-use Rattle.words.proofs.Choosing.{tests}
+use native.Mathlib.Omega.{arith}
+use Rattle.state.proofs.Laws.{code_tests}
 use Rattle.table.specs.Table.{value_of}
 use Rattle.table.proofs.value.Goals as goal
 
-pub returns-then-given-eq0 : goal.returns-then-given-eq0
+pub returns-in-0 : goal.returns-in-0
 unfolding value_of
-returns-then-given-eq0 c = rw c.zero_is.ensures (search tests)
+returns-in-0 c = grind (arith, code_tests)
 
-pub returns : goal.returns
+pub returns-in_default : goal.returns-in_default
 unfolding value_of
-returns c = search tests
+returns-in_default c = grind (arith, code_tests)

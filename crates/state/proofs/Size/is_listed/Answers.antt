@@ -1,12 +1,12 @@
-use mathlib.Core.Path.{sym, ◌∙◌}
-use Rattle.words.proofs.Choosing.{first_decides, first_fails}
+use native.Mathlib.Omega.{arith}
 use Rattle.state.specs.Tests.{listed_size}
+use Rattle.state.proofs.Laws.{code_tests}
 use Rattle.state.proofs.Size.is_listed.Goals as goal
 
 pub returns-then-is_listed_rows : goal.returns-then-is_listed_rows
 unfolding listed_size
-returns-then-is_listed_rows c = c.is_listed_columns.ensures ∙ sym (first_decides _ _ (sym c.is_listed_rows.ensures ∙ c.if-is_listed_rows.true))
+returns-then-is_listed_rows c = grind (arith, code_tests)
 
-pub returns : goal.returns
+pub returns-else-is_listed_rows : goal.returns-else-is_listed_rows
 unfolding listed_size
-returns c = sym (first_fails _ _ (sym c.is_listed_rows.ensures ∙ c.if-is_listed_rows.false))
+returns-else-is_listed_rows c = grind (arith, code_tests)

@@ -1,20 +1,15 @@
-use borrow.Author.Tests.{ne_eqb}
+use mathlib.Core.Path.{sym}
+use mathlib.Core.Logic.{⊎_elim}
+use native.Mathlib.Omega.{arith}
 use Rattle.words.specs.Choice.{◌or◌}
+use Rattle.words.proofs.Choosing.{refuted}
 use Rattle.state.specs.Tests.{listed_columns}
+use Rattle.state.proofs.Keeping.{columns_listed}
 use Rattle.state.proofs.tests.is_listed_columns.Goals as goal
 
 pub returns-in-80 : goal.returns-in-80
 unfolding ◌or◌ listed_columns
-returns-in-80 c = rw c.in-80.is
-
-pub returns-in-132 : goal.returns-in-132
-unfolding ◌or◌ listed_columns
-returns-in-132 c = rw c.in-132.is
-
-pub returns-in-160 : goal.returns-in-160
-unfolding ◌or◌ listed_columns
-returns-in-160 c = rw c.in-160.is
+returns-in-80 c = ⊎_elim (λ e. rw e) (⊎_elim (λ e. rw e) (λ e. rw e)) c.in-80.is
 
 pub returns-in_default : goal.returns-in_default
-unfolding ◌or◌ listed_columns
-returns-in_default c = simp (ne_eqb _ _ c.in_default.in_default-own.rest.1, ne_eqb _ _ c.in_default.in_default-own.rest.0.1, ne_eqb _ _ c.in_default.in_default-own.rest.0.0.1)
+returns-in_default c = sym (refuted _ (λ p. let listed = columns_listed _ p in omega arith))

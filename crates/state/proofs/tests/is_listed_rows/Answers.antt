@@ -1,20 +1,15 @@
-use borrow.Author.Tests.{ne_eqb}
+use mathlib.Core.Path.{sym}
+use mathlib.Core.Logic.{⊎_elim}
+use native.Mathlib.Omega.{arith}
 use Rattle.words.specs.Choice.{◌or◌}
+use Rattle.words.proofs.Choosing.{refuted}
 use Rattle.state.specs.Tests.{listed_rows}
+use Rattle.state.proofs.Keeping.{rows_listed}
 use Rattle.state.proofs.tests.is_listed_rows.Goals as goal
 
 pub returns-in-24 : goal.returns-in-24
 unfolding ◌or◌ listed_rows
-returns-in-24 c = rw c.in-24.is
-
-pub returns-in-27 : goal.returns-in-27
-unfolding ◌or◌ listed_rows
-returns-in-27 c = rw c.in-27.is
-
-pub returns-in-48 : goal.returns-in-48
-unfolding ◌or◌ listed_rows
-returns-in-48 c = rw c.in-48.is
+returns-in-24 c = ⊎_elim (λ e. rw e) (⊎_elim (λ e. rw e) (λ e. rw e)) c.in-24.is
 
 pub returns-in_default : goal.returns-in_default
-unfolding ◌or◌ listed_rows
-returns-in_default c = simp (ne_eqb _ _ c.in_default.in_default-own.rest.1, ne_eqb _ _ c.in_default.in_default-own.rest.0.1, ne_eqb _ _ c.in_default.in_default-own.rest.0.0.1)
+returns-in_default c = sym (refuted _ (λ p. let listed = rows_listed _ p in omega arith))

@@ -1,11 +1,12 @@
-use Rattle.words.proofs.Choosing.{tests}
+use native.Mathlib.Omega.{arith}
 use Rattle.state.specs.Tests.{valid_message}
+use Rattle.state.proofs.Laws.{code_tests}
 use Rattle.state.proofs.tests.is_valid_message.Goals as goal
 
-pub returns-then-locks-eq0 : goal.returns-then-locks-eq0
+pub returns-in-0 : goal.returns-in-0
 unfolding valid_message
-returns-then-locks-eq0 c = search tests
+returns-in-0 c = grind (arith, code_tests)
 
-pub returns : goal.returns
+pub returns-in_default : goal.returns-in_default
 unfolding valid_message
-returns c = search tests
+returns-in_default c = grind (arith, code_tests)

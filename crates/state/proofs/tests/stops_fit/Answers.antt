@@ -1,22 +1,18 @@
-use mathlib.Core.Path.{refl, sym, ◌∙◌}
-use Prim.Native.Nat.{◌≤◌, ◌<◌}
-use native.Mathlib.Omega.{arith}
+use mathlib.Core.Path.{◌≡◌, sym, ◌∙◌}
+use mathlib.Core.Bool.{false, not}
 use borrow.Author.Rules.{rules}
 use lib.ListN.{length}
-use Rattle.words.specs.Choice.{◌and◌}
-use Rattle.state.proofs.Laws.{next_stop_asked, stops_asked}
+use Rattle.page.proofs.Asking.{next_asked, all_asked}
+use Rattle.state.proofs.Laws.{stops_past}
 use Rattle.state.proofs.tests.stops_fit.Goals as goal
 
-pub loop-i-init : goal.loop-i-init
-unfolding ◌and◌
-loop-i-init c = (search rules, refl)
+pub loop-stop-init : goal.loop-stop-init
+loop-stop-init c =
+    let all : length c.args.stops ≡ 160 = search rules in
+    rw c.min.ensures (stops_past c.args.columns c.args.stops all)
 
-pub loop-i-preserved : goal.loop-i-preserved
-loop-i-preserved c =
-    let here : c.loop-i.i < length c.args.stops = omega arith in
-    (c.loop-i.invariant.0, rw c.both-fit.ensures (c.loop-i.invariant.1 ∙ next_stop_asked _ _ _ here))
+pub loop-stop-preserved : goal.loop-stop-preserved
+loop-stop-preserved c = c.loop-stop.invariant ∙ next_asked not false _ _ _ c.loop-stop-test.true
 
 pub returns : goal.returns
-returns c =
-    let over : length c.args.stops ≤ c.loop-i.i = omega arith in
-    sym (c.loop-i.invariant.1 ∙ stops_asked _ _ _ over)
+returns c = sym (c.loop-stop.invariant ∙ all_asked not false _ _ _ c.loop-stop-test.false)

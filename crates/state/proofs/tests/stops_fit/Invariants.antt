@@ -1,13 +1,10 @@
 use mathlib.Core.Path.{◌≡◌}
-use Prim.Native.Nat.{◌-◌}
-use lib.ListN.{length}
-use Rattle.words.specs.Choice.{◌and◌}
+use lib.ListN.{drop}
+use Rattle.words.specs.Lists.{every}
+use mathlib.Core.Bool.{not, ◌&&◌}
 use Rattle.state.specs.Tests.{stops_fit}
 use Rattle.state.proofs.tests.stops_fit.Given as goal
 
--- the test of all stops past the last column is what is known of those before i and the test of those from there on
-abbrev pub invariant-loop-i : goal.invariant-loop-i
-invariant-loop-i l = (length l.stops ≡ 160) × (stops_fit l.columns l.stops ≡ (l.fit and stops_fit l.i l.stops))
-
-abbrev pub decreases-loop-i : goal.decreases-loop-i
-decreases-loop-i l = 160 - l.i
+-- the test of all stops past the last column is what is known of those before this one and the test of those from it on
+abbrev pub invariant-loop-stop : goal.invariant-loop-stop
+invariant-loop-stop l = stops_fit l.columns l.fn.stops ≡ (l.fit && every not (drop l.stop-index l.stop-items))

@@ -1,21 +1,21 @@
-use mathlib.Core.Path.{sym}
-use borrow.Author.Rules.{rules}
+use native.Mathlib.Omega.{arith}
+use Rattle.state.proofs.Laws.{code_tests}
 use Rattle.steps.specs.Light.{light_step}
-use Rattle.table.proofs.PrivateForms.{mode_set, mode_reset, other_argument, other_final}
+use Rattle.table.specs.PrivateForms.{private_step}
 use Rattle.table.proofs.private_forms.private_command.Goals as goal
 
-pub returns-then-letter-eq104 : goal.returns-then-letter-eq104
-unfolding light_step
-returns-then-letter-eq104 c = λ page. rw (c.sets.ensures, c.with_full.ensures) (sym (mode_set _ _ _ (search rules) (search rules)))
+pub returns-in-6-eq104 : goal.returns-in-6-eq104
+unfolding private_step light_step
+returns-in-6-eq104 c = λ page. grind (arith, code_tests)
 
-pub returns-then-letter-eq108 : goal.returns-then-letter-eq108
-unfolding light_step
-returns-then-letter-eq108 c = λ page. rw (c.sets-then-letter-eq108.ensures, c.with_full-then-letter-eq108.ensures) (sym (mode_reset _ _ _ (search rules) (search rules)))
+pub returns-in-6-eq108 : goal.returns-in-6-eq108
+unfolding private_step light_step
+returns-in-6-eq108 c = λ page. grind (arith, code_tests)
 
-pub returns-then-argument-eq6 : goal.returns-then-argument-eq6
-unfolding light_step
-returns-then-argument-eq6 c = λ page. sym (other_final _ _ _ (search rules) (search rules))
+pub returns-in_default : goal.returns-in_default
+unfolding private_step light_step
+returns-in_default c = λ page. grind (arith, code_tests)
 
-pub returns : goal.returns
-unfolding light_step
-returns c = λ page. sym (other_argument _ _ _ (search rules))
+pub returns-in_default-2 : goal.returns-in_default-2
+unfolding private_step light_step
+returns-in_default-2 c = λ page. grind (arith, code_tests)

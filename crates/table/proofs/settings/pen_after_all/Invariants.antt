@@ -1,13 +1,10 @@
 use mathlib.Core.Path.{◌≡◌}
-use Prim.Native.Nat.{◌≤◌, ◌-◌}
-use lib.ListN.{length, take, drop}
-use Rattle.table.specs.Settings.{pen_after_all}
+use lib.ListN.{drop}
+use Rattle.words.specs.Lists.{every}
+use Rattle.table.specs.Settings.{is_visual, pen_after_all}
 use Rattle.table.proofs.settings.pen_after_all.Given as goal
 
--- what all values make of the pen is what those from i on make of it now
-abbrev pub invariant-loop-i : goal.invariant-loop-i
-invariant-loop-i l =
-    (l.i ≤ l.count) × (length l.values ≡ 8) × (pen_after_all (take l.count l.values) l.pen ≡ pen_after_all (drop l.i (take l.count l.values)) l.here)
-
-abbrev pub decreases-loop-i : goal.decreases-loop-i
-decreases-loop-i l = l.count - l.i
+-- what all values make of the pen is what those from this one on make of it now, if they are all listed
+abbrev pub invariant-loop-value : goal.invariant-loop-value
+invariant-loop-value l =
+    (every is_visual l.values ≡ every is_visual (drop l.value-index l.values)) × (pen_after_all l.values l.pen ≡ pen_after_all (drop l.value-index l.values) l.here)
