@@ -1,5 +1,4 @@
 use mathlib.Core.Path.{◌≡◌}
-use Prim.Native.Nat.{◌-◌, ◌≤◌}
 use lib.ListN.{length}
 use Rattle.words.proofs.Writing.{up_to}
 use Rattle.record.specs.Bytes.{number_at, read_each}
@@ -7,7 +6,4 @@ use Rattle.record.proofs.arguments_in.Given as goal
 
 abbrev pub invariant-loop-i : goal.invariant-loop-i
 invariant-loop-i l =
-    (l.i ≤ 8) × (length l.arguments ≡ 8) × (length l.initial.arguments ≡ 8) × (l.arguments ≡ up_to l.i (read_each (number_at 2 l.bytes) 2 19 8) l.initial.arguments)
-
-abbrev pub decreases-loop-i : goal.decreases-loop-i
-decreases-loop-i l = 8 - l.i
+    (length l.arguments ≡ 8) × (length l.initial.arguments ≡ 8) × (l.arguments ≡ up_to l.i (read_each (number_at 2 l.bytes) 2 19 8) l.initial.arguments)
