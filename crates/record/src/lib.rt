@@ -11,6 +11,7 @@ ghost use Rattle.record.specs.Record.{first_bytes, argument_bytes, stop_bytes, r
 pub use numbers::{put_numbers, read_numbers, says_numbers};
 use sequence::HalfRead;
 use state::{Cursor, Locks, Modes, Size, State};
+use std::array;
 
 // Where each part of the state stands in the record.
 const ROWS: usize = 0;
@@ -144,11 +145,7 @@ fn number_at(bytes: &[u8], at: usize) -> u16
 fn arguments_in(bytes: &[u8]) -> [u16; 8]
     ensures { result ≡ read_each (number_at 2 bytes.now) 2 19 8 }
 {
-    let mut arguments = [0; 8];
-    for i in 0..8 {
-        arguments[i] = number_at(bytes, ARGUMENTS + 2 * i);
-    }
-    arguments
+    array::from_fn(|i| number_at(bytes, ARGUMENTS + 2 * i))
 }
 
 // The stops of a whole record. Here no byte is past the end, and the compiler takes many at a time.
@@ -169,11 +166,7 @@ fn stops_in(bytes: &[u8]) -> [bool; 160]
     if LENGTH <= bytes.len() {
         return stops_there(bytes);
     }
-    let mut stops = [false; 160];
-    for i in 0..160 {
-        stops[i] = flag_at(bytes, STOPS + i);
-    }
-    stops
+    array::from_fn(|i| flag_at(bytes, STOPS + i))
 }
 
 // The state that bytes say, whatever they are.
