@@ -60,7 +60,7 @@ pub fn low_byte(number: usize) -> u8
 fn two_bytes(number: usize) -> u16
     ensures { result ≡ number % 65536 }
 {
-    (number % 65536) as u16
+    u16::from_le_bytes([low_byte(number), low_byte(number / 256)])
 }
 
 // The bytes before the arguments and the tab stops.
