@@ -36,18 +36,9 @@ pub fn part_of(state: State, part: usize) -> usize
     ensures { result ≡ part_of state part }
 {
     match part {
-        ..12 => {
-            let parts = first_parts(state);
-            parts[part]
-        }
-        12..20 => {
-            let arguments = state.half.arguments;
-            usize::from(arguments[part - 12])
-        }
-        20..180 => {
-            let stops = state.stops;
-            usize::from(stops[part - 20])
-        }
+        ..12 => first_parts(state)[part],
+        12..20 => usize::from(state.half.arguments[part - 12]),
+        20..180 => usize::from(state.stops[part - 20]),
         180 => usize::from(state.locks.byte),
         181 => usize::from(state.modes.full),
         _ => 0,
@@ -61,24 +52,22 @@ fn chosen<T: Copy>(this: usize, part: usize, value: T, other: T) -> T
     if part == this { value } else { other }
 }
 
-fn arguments_with(arguments: [u16; 8], part: usize, value: u16) -> [u16; 8]
+fn arguments_with(mut arguments: [u16; 8], part: usize, value: u16) -> [u16; 8]
     ensures { result ≡ arguments_with arguments part value }
 {
-    let mut next = arguments;
     if (12..=19).contains(&part) {
-        next[part - 12] = value;
+        arguments[part - 12] = value;
     }
-    next
+    arguments
 }
 
-fn stops_with(stops: [bool; 160], part: usize, value: u16) -> [bool; 160]
+fn stops_with(mut stops: [bool; 160], part: usize, value: u16) -> [bool; 160]
     ensures { result ≡ stops_with stops part value }
 {
-    let mut next = stops;
     if (20..=179).contains(&part) {
-        next[part - 20] = 0 < value;
+        stops[part - 20] = 0 < value;
     }
-    next
+    stops
 }
 
 // The state with one part set; past the last part, the state as it is.
@@ -87,8 +76,6 @@ pub fn with_part(state: State, part: usize, value: u16) -> State
 {
     let low = (value % 256) as u8;
     let on = 0 < value;
-    let stops = state.stops;
-    let arguments = state.half.arguments;
     State {
         size: Size {
             rows: chosen(0, part, usize::from(value), state.size.rows),
@@ -109,10 +96,10 @@ pub fn with_part(state: State, part: usize, value: u16) -> State
             message: chosen(8, part, low, state.locks.message),
             byte: chosen(180, part, low, state.locks.byte),
         },
-        stops: stops_with(stops, part, value),
+        stops: stops_with(state.stops, part, value),
         half: HalfRead {
             kind: chosen(9, part, low, state.half.kind),
-            arguments: arguments_with(arguments, part, value),
+            arguments: arguments_with(state.half.arguments, part, value),
             count: chosen(11, part, low, state.half.count),
             spoilt: chosen(10, part, on, state.half.spoilt),
         },

@@ -6,7 +6,7 @@ use Rattle.damage.proofs.part_of.Goals as goal
 
 pub returns-in-0-to-11 : goal.returns-in-0-to-11
 unfolding part_of
-returns-in-0-to-11 c = rw c.first_parts-parts.ensures (search (arith, tests))
+returns-in-0-to-11 c = rw c.first_parts.ensures (search (arith, tests))
 
 pub returns-in-12-to-19 : goal.returns-in-12-to-19
 unfolding part_of
