@@ -112,12 +112,10 @@ fn put_stops(bytes: &mut [u8], at: usize, stops: [bool; 160]) -> usize
 pub fn record_of(state: State) -> [u8; LENGTH]
     ensures { result ≡ record_of state }
 {
-    let arguments = state.half.arguments;
-    let stops = state.stops;
     let mut bytes = [0; LENGTH];
     let next = put_first_bytes(&mut bytes, 0, state);
-    let last = put_arguments(&mut bytes, next, arguments);
-    put_stops(&mut bytes, last, stops);
+    let last = put_arguments(&mut bytes, next, state.half.arguments);
+    put_stops(&mut bytes, last, state.stops);
     bytes
 }
 
@@ -173,8 +171,6 @@ fn stops_in(bytes: &[u8]) -> [bool; 160]
 pub fn state_in(bytes: &[u8]) -> State
     ensures { result ≡ state_in bytes.now }
 {
-    let arguments = arguments_in(bytes);
-    let stops = stops_in(bytes);
     State {
         size: Size {
             rows: usize::from(number_at(bytes, ROWS)),
@@ -195,10 +191,10 @@ pub fn state_in(bytes: &[u8]) -> State
             message: byte_at(bytes, MESSAGE),
             byte: byte_at(bytes, BYTE),
         },
-        stops,
+        stops: stops_in(bytes),
         half: HalfRead {
             kind: byte_at(bytes, KIND),
-            arguments,
+            arguments: arguments_in(bytes),
             count: byte_at(bytes, COUNT),
             spoilt: flag_at(bytes, SPOILT),
         },

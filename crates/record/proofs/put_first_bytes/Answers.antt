@@ -26,6 +26,6 @@ unfolding first_bytes flat_map
 returns c =
     let s = c.args.state in
     let room : c.args.at ≤ length c.args.bytes.now = omega arith in
-    let flags = rw (c.from.ensures, c.from-2.ensures, c.from-3.ensures, c.from-4.ensures, c.from-5.ensures, flag_is, flag_is, flag_is, flag_is, flag_is) at c.put_all.ensures in
+    let flags = simp flag_is at (rw (c.from.ensures, c.from-2.ensures, c.from-3.ensures, c.from-4.ensures, c.from-5.ensures) at c.put_all.ensures) in
     let numbers = rw (c.two_bytes.ensures, c.two_bytes-2.ensures, c.two_bytes-3.ensures, c.two_bytes-4.ensures, cut s.size.rows, cut s.size.columns, cut s.cursor.row, cut s.cursor.column) at c.put_numbers-next.ensures in
     simp append_assoc (simp append_assoc at (wrote_then room numbers flags))

@@ -10,6 +10,6 @@ returns c =
       cursor = record { row = (c.from-3.ensures ∙ c.number_at-3.ensures) i; column = (c.from-4.ensures ∙ c.number_at-4.ensures) i };
       modes = record { pen = c.number_at-5.ensures i; erasure = c.flag_at.ensures i; full = c.flag_at-2.ensures i };
       locks = record { manual = c.flag_at-3.ensures i; soft = c.flag_at-4.ensures i; message = c.byte_at.ensures i; byte = c.byte_at-2.ensures i };
-      stops = c.stops_in-stops.ensures i;
-      half = record { kind = c.byte_at-3.ensures i; arguments = c.arguments_in-arguments.ensures i; count = c.byte_at-4.ensures i; spoilt = c.flag_at-5.ensures i };
+      stops = c.stops_in.ensures i;
+      half = record { kind = c.byte_at-3.ensures i; arguments = c.arguments_in.ensures i; count = c.byte_at-4.ensures i; spoilt = c.flag_at-5.ensures i };
     })
