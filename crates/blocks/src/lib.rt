@@ -8,15 +8,9 @@ ghost use Rattle.page.specs.Page.{page_of};
 ghost use Rattle.places.specs.Places.{Counted};
 ghost use Rattle.blocks.specs.Blocks.{some_modified, is_in_block, bytes_at, block, writing_block};
 
+use output::NoRoom;
 use page::Mark;
 use places::Place;
-
-// Whether a block was sent, and how many bytes it has.
-#[derive(Clone, Copy)]
-pub enum BlockResult {
-    Bytes(usize),
-    NoRoom,
-}
 
 // A part of a slice, written.
 pub fn put_characters(out: &mut [u8], at: usize, characters: &[u8], from: usize, to: usize) -> usize
@@ -163,7 +157,8 @@ fn put_block(
     output::put_byte(out, next, 0x03)
 }
 
-// Sends a block into the room left in the output, and clears modified; where there is too little room nothing happens.
+// Sends a block into the room left in the output, clears modified, and says how many bytes the block has; where there is
+// too little room nothing happens.
 pub fn write_block(
     out: &mut [u8],
     at: usize,
@@ -171,7 +166,7 @@ pub fn write_block(
     marks: &mut [Mark],
     columns: usize,
     full: bool,
-) -> BlockResult
+) -> Result<usize, NoRoom>
     requires columns_nonzero { (0 < columns) × (columns ≤ 160) × (length marks.old ≤ 48 * columns) ×
         (length characters.now ≡ length marks.old) }
     requires at_in_bounds { at ≤ length out.old }
@@ -180,9 +175,9 @@ pub fn write_block(
 {
     let room = out.len() - at;
     if !fits(marks, columns, full, room) {
-        return BlockResult::NoRoom;
+        return Err(NoRoom);
     }
     let end = put_block(out, at, characters, marks, columns, full);
     page::clear_modified(marks);
-    BlockResult::Bytes(end - at)
+    Ok(end - at)
 }
