@@ -39,6 +39,7 @@ pub fn field_start(marks: &[Mark], place: Place, columns: usize) -> Place
     requires cell_in_bounds { place.cell < length marks.now }
     ensures { result ≡ place_of columns (field_start (unprotected marks.now) place.cell) }
 {
+    // A while: what it asks is where it stops, and no number is counted.
     let mut here = place;
     while is_joined(marks, here.cell) {
         here = here.back(columns);
@@ -71,12 +72,10 @@ fn seek<F: Fn(usize) -> bool>(cells: usize, place: Place, columns: usize, test: 
         ((cell : ℕ) (answer : Bool) → cell < cells → F.post test cell answer → answer ≡ passes cell) →
         result ≡ first_unprotected_from passes columns place.cell (cells - place.cell) }
 {
-    let mut here = place;
-    while here.cell < cells {
+    for here in place.onward(columns, cells) {
         if test(here.cell) {
             return Some(here);
         }
-        here = here.next(columns);
     }
     None
 }
@@ -104,6 +103,7 @@ fn seek_field_back(marks: &[Mark], place: Place, columns: usize) -> Option<Place
     ensures { result ≡ last_field columns
         (fields_from (unprotected marks.now) (length marks.now) 0 place.cell) }
 {
+    // A while: an iterator back over a page would serve this one search.
     let mut here = place;
     while 0 < here.cell {
         here = here.back(columns);
