@@ -55,3 +55,13 @@ module _ {columns cells : ℕ} {walk : Walk} where
 
   pub walked : {after : Walk} → OnWalk columns cells walk → GivesNext walk None after → walk.here.cell ≡ cells
   walked walks gives = omega (arith, walks.on_page, walks.cells_are, gives.0)
+
+  -- The walk may be asked for its next place.
+  pub may_go : cells ≤ 7680 → OnWalk columns cells walk → Counted walk.columns walk.here × (walk.cells ≤ 7680)
+  may_go small walks = (rw walks.columns_are walks.known, omega (arith, walks.cells_are))
+
+  -- A walk over the whole page.
+  pub sets_out_first : {first : Place} → 0 < columns → first ≡ place_of columns 0 → walk ≡ record { here = first; columns = columns; cells = cells } → OnWalk columns cells walk × (walk.here.cell ≡ 0)
+  sets_out_first some is-first is =
+      let first = cell_is columns 0 is-first in
+      (sets_out (counted 0 some is-first (omega arith)) (omega arith) is, ap (λ (w : Walk). w.here.cell) is ∙ first)
