@@ -5,6 +5,10 @@ ghost use Rattle.std.specs.Prelude.{◌≡◌, [], ◌∷◌, ◌+◌, ◌*◌, 
 ghost use Rattle.words.specs.Output.{Wrote};
 ghost use Rattle.output.specs.Decimal.{decimal, place_bytes};
 
+// What is to be written doesn't fit into the room that is left, and nothing was written.
+#[derive(Clone, Copy, Debug, PartialEq, Eq)]
+pub struct NoRoom;
+
 // How often a unit goes into a number, and what is left.
 #[derive(Clone, Copy)]
 pub struct CountedOff {

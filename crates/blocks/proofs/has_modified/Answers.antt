@@ -1,18 +1,17 @@
-use mathlib.Core.Path.{sym, ap, ◌∙◌}
+use mathlib.Core.Path.{◌∙◌}
+use Prim.Native.Nat.{◌-◌}
+use native.Mathlib.Omega.{arith}
 use borrow.Author.Rules.{rules}
-use Rattle.words.proofs.Ranges.{place_holds, later_places, no_more_places}
+use lib.ListN.{take, drop}
+use Rattle.std.proofs.lemmas.Iterator.{YieldsList-from_slice}
+use Rattle.std.proofs.lemmas.Iterator.Search.{any_from_yields_List}
 use Rattle.page.specs.Marks.{is_modified}
+use Rattle.blocks.proofs.Laws.{some_in_part}
 use Rattle.blocks.proofs.has_modified.Goals as goal
 
-pub returns-then-has_attribute : goal.returns-then-has_attribute
-returns-then-has_attribute c =
-    let found = ap is_modified (sym c.mark_at.ensures) ∙ sym c.has_attribute.ensures ∙ c.if-has_attribute.true in
-    sym (c.loop-cell.invariant.2 ∙ place_holds _ _ _ c.loop-cell-test.true found)
-
-pub loop-cell-preserved : goal.loop-cell-preserved
-loop-cell-preserved c =
-    let not-here = ap is_modified (sym c.mark_at.ensures) ∙ sym c.has_attribute.ensures ∙ c.if-has_attribute.false in
-    (search rules, search rules, c.loop-cell.invariant.2 ∙ later_places _ _ _ c.loop-cell-test.true not-here)
-
 pub returns : goal.returns
-returns c = sym (c.loop-cell.invariant.2 ∙ no_more_places _ _ _ c.loop-cell-test.false)
+returns c =
+    let marks = c.args.marks.now in
+    let part = take (c.args.to - c.args.from) (drop c.args.from marks) in
+    any_from_yields_List is_modified _ _ _ c.any.ensures.ran (YieldsList-from_slice part cc) (λ x b q k. search rules)
+    ∙ some_in_part is_modified marks (c.args.to - c.args.from) c.args.from (omega arith)

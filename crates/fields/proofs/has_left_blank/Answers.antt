@@ -18,8 +18,8 @@ returns-then-has_required c =
     ∙ ap (λ (all : ℕ). some (is_left_blank page) (fields_of (unprotected page.marks) all)) (sym c.requires)
     ∙ sym (first_decides _ _ required)
 
-pub returns : goal.returns
+pub returns-else-has_required : goal.returns-else-has_required
 unfolding some_left_blank
-returns c =
+returns-else-has_required c =
     let not-required = sym (required_somewhere _) ∙ sym c.has_required.ensures ∙ c.if-has_required.false in
-    sym (first_fails _ _ not-required)
+    c.if-has_required.false ∙ sym (first_fails _ _ not-required)

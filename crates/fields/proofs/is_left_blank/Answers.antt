@@ -6,11 +6,9 @@ use Rattle.fields.proofs.is_left_blank.Goals as goal
 pub returns-then-has_required : goal.returns-then-has_required
 unfolding is_left_blank
 returns-then-has_required c =
-    let required = sym c.has_required.ensures ∙ c.if-has_required.true in
-    c.is_all_blank.ensures ∙ sym (first_decides _ _ required)
+    c.is_all_blank.ensures ∙ sym (first_decides _ _ (sym c.has_required.ensures ∙ c.if-has_required.true))
 
-pub returns : goal.returns
+pub returns-else-has_required : goal.returns-else-has_required
 unfolding is_left_blank
-returns c =
-    let not-required = sym c.has_required.ensures ∙ c.if-has_required.false in
-    sym (first_fails _ _ not-required)
+returns-else-has_required c =
+    c.if-has_required.false ∙ sym (first_fails _ _ (sym c.has_required.ensures ∙ c.if-has_required.false))
