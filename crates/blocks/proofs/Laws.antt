@@ -2,13 +2,11 @@
 use mathlib.Core.Path.{◌≡◌, refl, sym, ap, ◌∙◌}
 use mathlib.Core.Bool.{Bool, true, false}
 use mathlib.Core.List.{List, [], ◌∷◌, ◌++◌, map}
-use Prim.Native.Nat.{ℕ, zero, suc, ◌+◌, ◌-◌, ◌<◌, ◌≤◌}
+use Prim.Native.Nat.{ℕ, suc, ◌+◌, ◌-◌, ◌<◌, ◌≤◌}
 use native.Mathlib.Omega.{arith}
-use lib.ListN.{length, take, drop, get_or, length-append}
-use Rattle.std.proofs.Common.{drop-cons}
-use Rattle.std.specs.List.{list_any}
+use lib.ListN.{length, take, drop, length-append}
 use Rattle.words.specs.Choice.{If◌then◌else◌, ◌and◌}
-use Rattle.words.specs.Lists.{selected, some_from}
+use Rattle.words.specs.Lists.{selected}
 use Rattle.words.proofs.Choosing.{then_case, else_case, both_hold, first_fails, second_fails}
 use Rattle.words.proofs.Output.{length_part}
 use Rattle.page.specs.Marks.{unprotected}
@@ -16,7 +14,6 @@ use Rattle.page.specs.Page.{Page, cells}
 use Rattle.places.specs.declared.Place.{Place}
 use Rattle.places.specs.Places.{place_of}
 use Rattle.fields.specs.Fields.{Field, starts_field, field_end, field_from, fields_from, fields_of}
-use Rattle.fields.proofs.Blank.{same_or}
 use Rattle.fields.proofs.Bounds.{end_of_lem}
 use Rattle.blocks.specs.Blocks.{head_bytes, entry_bytes, entry_of, encode, is_in_block, entries_sent, block, bytes_at}
 use Rattle.blocks.proofs.Claims.{Whole}
@@ -98,12 +95,3 @@ module _ (full : Bool) (columns : ℕ) (page : Page) where
   pub whole_block : block full columns page ≡ rest_from full columns page (cells page - 0) 0
   unfolding block entries_sent fields_of
   whole_block = let all : cells page - 0 ≡ cells page = omega arith in rw all
-
--- One of a part's elements passes a test: asked of the part, or by their numbers.
-pub some_in_part : (test : ℕ → Bool) (list : List ℕ) (n from : ℕ) → from + n ≤ length list → list_any test (take n (drop from list)) ≡ some_from (λ k. test (get_or list k 0)) from n
-unfolding some_from
-some_in_part test list zero from fits = refl
-some_in_part test list (suc n) from fits =
-    let more : from < length list = omega arith in
-    let next : suc from ≡ from + 1 = omega arith in
-    rw (drop-cons list from 0, next, ← some_in_part test list n (from + 1) (omega arith)) (same_or (test (get_or list from 0)) _)

@@ -1,11 +1,12 @@
 -- Document 01, "Fields, keys and blocks": the block that is sent to the host.
-use Rattle.std.specs.Prelude.{Bool, List, [], ◌∷◌, ◌++◌, map, ℕ, ◌-◌, leb, length, take, drop, get_or, Result, Ok, Err}
+use Rattle.std.specs.Prelude.{Bool, List, [], ◌∷◌, ◌++◌, map, ℕ, ◌-◌, leb, length, take, drop, Result, Ok, Err}
 use Prim.Native.Char.{code}
 use Rattle.words.specs.Choice.{If◌then◌else◌, ◌and◌, ◌or◌}
-use Rattle.words.specs.Lists.{some_from, selected}
+use Rattle.words.specs.Lists.{selected}
 use Rattle.words.specs.Output.{placed}
-use Rattle.page.specs.Marks.{is_modified, unprotected}
-use Rattle.page.specs.Page.{Page, cells, modified_cleared}
+use Rattle.page.specs.declared.Attribute.TheVariants.{Modified}
+use Rattle.page.specs.Marks.{unprotected}
+use Rattle.page.specs.Page.{Page, cells, some_have, modified_cleared}
 use Rattle.places.specs.Places.{place_of}
 use Rattle.output.specs.declared.NoRoom.{NoRoom}
 use Rattle.output.specs.Decimal.{place_bytes}
@@ -41,7 +42,7 @@ entry_of columns characters field =
 
 -- One of the n cells from `cell` on is modified.
 abbrev pub some_modified : List ℕ → ℕ → ℕ → Bool
-some_modified marks = some_from (λ cell. is_modified (get_or marks cell 0))
+some_modified = some_have Modified
 
 -- Which fields are sent: all, or those in which something is modified.
 unfoldable pub is_in_block : Bool → List ℕ → Field → Bool

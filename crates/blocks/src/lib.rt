@@ -6,26 +6,18 @@ ghost use Rattle.std.specs.Prelude.{◌≡◌, List, ℕ, ◌+◌, ◌-◌, ◌*
 ghost use Rattle.words.specs.Output.{Wrote};
 ghost use Rattle.page.specs.Page.{page_of};
 ghost use Rattle.places.specs.Places.{Counted};
-ghost use Rattle.blocks.specs.Blocks.{some_modified, is_in_block, bytes_at, block, writing_block};
+ghost use Rattle.blocks.specs.Blocks.{is_in_block, bytes_at, block, writing_block};
 
 use output::NoRoom;
-use page::Mark;
+use page::{Attribute, Mark};
 use places::Place;
-
-// Whether one of the cells is modified.
-fn has_modified(marks: &[Mark], from: usize, to: usize) -> bool
-    requires { (from ≤ to) × (to ≤ length marks.now) }
-    ensures { result ≡ some_modified marks.now from (to - from) }
-{
-    marks[from..to].iter().any(|mark| page::has_attribute(*mark, page::Attribute::Modified))
-}
 
 // Whether a field is sent: every one in a full block, else one in which something is modified.
 fn is_in_block(marks: &[Mark], full: bool, from: usize, to: usize) -> bool
     requires { (from ≤ to) × (to ≤ length marks.now) }
     ensures { result ≡ is_in_block full marks.now (record { start = from; length = to - from }) }
 {
-    full || has_modified(marks, from, to)
+    full || page::some_have(marks, from, to, Attribute::Modified)
 }
 
 // How many bytes the block has for a cell:

@@ -14,7 +14,7 @@ ghost use Rattle.fields.specs.Searches.{first_field, last_field, next_field, pre
 ghost use Rattle.fields.specs.Searches.{first_unprotected_from, first_unprotected, next_unprotected};
 ghost use Rattle.fields.specs.Required.{is_left_blank, some_left_blank};
 
-use page::Mark;
+use page::{Attribute, Mark};
 use places::Place;
 
 // Whether the cell and the one before it belong to one field; before the first there is none.
@@ -192,7 +192,8 @@ fn is_left_blank(characters: &[u8], marks: &[Mark], from: usize, to: usize) -> b
     ensures { result ≡ is_left_blank
         (page_of characters.now marks.now) (record { start = from; length = to - from }) }
 {
-    page::has_required(marks, from, to) && page::is_all_blank(characters, from, to)
+    page::some_have(marks, from, to, Attribute::Required)
+        && page::is_all_blank(characters, from, to)
 }
 
 // Whether such a field starts at the cell.
@@ -219,5 +220,6 @@ pub fn has_left_blank(characters: &[u8], marks: &[Mark]) -> bool
     requires { length characters.now ≡ length marks.now }
     ensures { result ≡ some_left_blank (page_of characters.now marks.now) }
 {
-    page::has_required(marks, 0, marks.len()) && seek_left_blank(characters, marks)
+    page::some_have(marks, 0, marks.len(), Attribute::Required)
+        && seek_left_blank(characters, marks)
 }

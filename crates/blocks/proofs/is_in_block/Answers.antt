@@ -9,4 +9,4 @@ returns-then-full c = c.if-full.true ∙ sym (first_holds _ _ c.if-full.true)
 
 pub returns-else-full : goal.returns-else-full
 unfolding is_in_block
-returns-else-full c = c.has_modified.ensures ∙ sym (second_decides _ _ c.if-full.false)
+returns-else-full c = c.some_have.ensures ∙ sym (second_decides _ _ c.if-full.false)
