@@ -17,7 +17,7 @@ pub fn scroll_up(characters: &mut [u8], marks: &mut [Mark], columns: usize)
     marks[kept..].fill(0);
 }
 
-// A row of 20s comes in at the top.
+// A row of 20s comes in at the top. (Not one function with the other: what moves, from where and to where all differ.)
 pub fn scroll_down(characters: &mut [u8], marks: &mut [Mark], columns: usize)
     requires { (columns ≤ length characters.old) × (length marks.old ≡ length characters.old) }
     ensures { page_of characters.new marks.new
