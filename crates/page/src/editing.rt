@@ -26,6 +26,7 @@ fn blank(part: &mut [u8])
 }
 
 // The part closes up, with a 20 at its end.
+#[tactic(auto, using(crate::proofs::Laws::closes_up))]
 fn close_up(part: &mut [u8])
     requires { 0 < length part.old }
     ensures { part.new ≡ closed_up part.old }
@@ -36,6 +37,7 @@ fn close_up(part: &mut [u8])
 }
 
 // A 20, the rest moves right, and the last character is lost.
+#[tactic(auto, using(crate::proofs::Laws::moves_right))]
 fn move_right(part: &mut [u8])
     requires { 0 < length part.old }
     ensures { part.new ≡ moved_right part.old }

@@ -6,6 +6,7 @@ use crate::Attribute;
 use crate::marks::{Mark, has_attribute, mark_at, set_mark, with_attribute, without_attribute};
 
 // Text from the host: the character, and the pen for its marks.
+#[tactic(auto, unfolding(crate::specs::Page::text_stored))]
 pub fn store_text(characters: &mut [u8], marks: &mut [Mark], cell: usize, character: u8, pen: Mark)
     requires { (cell < length characters.old) × (length marks.old ≡ length characters.old) }
     ensures { page_of characters.new marks.new
@@ -16,6 +17,7 @@ pub fn store_text(characters: &mut [u8], marks: &mut [Mark], cell: usize, charac
 }
 
 // Keys 32 to 126: the character; its cell keeps its marks and becomes modified.
+#[tactic(auto, unfolding(crate::specs::Page::typed))]
 pub fn store_typed(characters: &mut [u8], marks: &mut [Mark], cell: usize, character: u8)
     requires { (cell < length characters.old) × (length marks.old ≡ length characters.old) }
     ensures { page_of characters.new marks.new
