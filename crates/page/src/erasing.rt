@@ -5,6 +5,7 @@ ghost use Rattle.page.specs.Page.{page_of, erasable, HasErased};
 use crate::marks::{Mark, is_unprotected, set_mark};
 
 // Only erasure mode lets erasing at a protected cell.
+#[tactic(auto, using(words::proofs::Choosing::tests), unfolding(crate::specs::Page::erasable))]
 fn is_erasable(marks: &[Mark], cell: usize, mode: bool) -> bool
     requires { cell < length marks.now }
     ensures { result ≡ erasable mode marks.now cell }

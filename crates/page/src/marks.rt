@@ -75,6 +75,7 @@ fn alphabetic_takes(character: u8) -> bool
 }
 
 // Whether a cell with these marks takes a character that a key brings.
+#[tactic(auto, using(words::proofs::Choosing::tests), unfolding(crate::specs::Marks::takes))]
 pub fn takes(mark: Mark, character: u8) -> bool
     ensures { result ≡ takes mark character }
 {

@@ -29,6 +29,7 @@ pub fn store_typed(characters: &mut [u8], marks: &mut [Mark], cell: usize, chara
 }
 
 // A block that was sent clears modified, but not of a protected cell.
+#[tactic(auto, using(words::proofs::Choosing::tests), unfolding(crate::specs::Page::mark_after_block))]
 fn after_block(mark: Mark) -> Mark
     ensures { result ≡ mark_after_block mark }
 {

@@ -91,6 +91,7 @@ pub fn is_all_blank(characters: &[u8], from: usize, to: usize) -> bool
 }
 
 // Document 01's number 2 asks this of the lent page.
+#[tactic(auto, using(words::proofs::Choosing::tests), unfolding(crate::specs::Page::valid_page))]
 pub fn is_valid_page(characters: &[u8], marks: &[Mark]) -> bool
     ensures { result ≡ valid_page (page_of characters.now marks.now) }
 {
