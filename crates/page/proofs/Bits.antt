@@ -167,3 +167,9 @@ attribute_bit Concealed mark = refl
 attribute_bit Numeric mark = refl
 attribute_bit Alphabetic mark = refl
 attribute_bit Required mark = refl
+
+-- as `!` of 16 bits clears it
+pub cleared_of_16 : (attribute : Attribute) (mark : ℕ) → mark < 2 ^ 16 → bit_and mark (65535 - 2 ^ bit_of attribute) ≡ without_bit (bit_of attribute) mark
+cleared_of_16 attribute mark fits = cleared_by_mask (bit_of attribute) mark 16 fits (bit-lt attribute)
+
+pub ruleset masks = (asked_by_mask, set_by_mask, cleared_of_16, attribute_bit)

@@ -124,3 +124,5 @@ module _ (mark : ℕ) where
           less_or_not mark 0x400
           (λ less. two_kinds (omega (arith, high, less)))
           (λ more. refuted (valid_mark mark) (λ v. omega (arith, (valid_mark_lem v).0, more)))
+
+pub ruleset limits = (protected_limit, unprotected_limit)

@@ -27,6 +27,7 @@ fn mark_of(attribute: Attribute) -> Mark
 }
 
 // Whether a cell with these marks is protected, modified, ..
+#[tactic(auto, using(crate::proofs::Bits::masks))]
 pub fn has_attribute(mark: Mark, attribute: Attribute) -> bool
     ensures { result ≡ has_attribute attribute mark }
 {
@@ -34,6 +35,7 @@ pub fn has_attribute(mark: Mark, attribute: Attribute) -> bool
 }
 
 // The mark with this attribute; the others stay.
+#[tactic(auto, using(crate::proofs::Bits::masks))]
 pub fn with_attribute(mark: Mark, attribute: Attribute) -> Mark
     ensures { result ≡ with_attribute attribute mark }
 {
@@ -41,6 +43,7 @@ pub fn with_attribute(mark: Mark, attribute: Attribute) -> Mark
 }
 
 // The mark without it.
+#[tactic(auto, using(crate::proofs::Bits::masks))]
 pub fn without_attribute(mark: Mark, attribute: Attribute) -> Mark
     ensures { result ≡ without_attribute attribute mark }
 {
@@ -49,6 +52,7 @@ pub fn without_attribute(mark: Mark, attribute: Attribute) -> Mark
 
 // A protected cell has no bit above the visual ones. Another one may have bit 9, and is not numeric and alphabetic: the
 // two together make 180 hexadecimal at least.
+#[tactic(auto, using(crate::proofs::Valid::limits))]
 pub fn is_valid_mark(mark: Mark) -> bool
     ensures { result ≡ valid_mark mark }
 {
