@@ -75,3 +75,5 @@ pairs_take test marks characters a b from (suc n) same h l =
 
 pub parts_take : (test : ℕ → Bool) (marks characters : List ℕ) (a b from n : ℕ) → ((k : ℕ) → test k ≡ takes (get_or marks (k + a) 0) (get_or characters (k + b) 0)) → from + a + n ≤ length marks → from + b + n ≤ length characters → (i j m k : ℕ) → i ≡ from + a → j ≡ from + b → m ≡ n → k ≡ n → list_all (λ (p : ℕ × ℕ). takes p.0 p.1) (zip (take m (drop i marks)) (take k (drop j characters))) ≡ all_from test from n
 parts_take test marks characters a b from n same h l i j m k p q r s = rw (p, q, r, s) (pairs_take test marks characters a b from n same h l)
+
+pub ruleset asking = (next_asked, all_asked, next_within)

@@ -40,6 +40,7 @@ fn after_block(mark: Mark) -> Mark
 }
 
 // Sending clears modified on all unprotected cells.
+#[tactic(auto, using(words::proofs::Writing::changing), unfolding(crate::specs::Page::modified_cleared))]
 pub fn clear_modified(marks: &mut [Mark])
     ensures { marks.new ≡ modified_cleared marks.old }
 {

@@ -9,6 +9,7 @@ use crate::Attribute;
 use crate::marks::{Mark, has_attribute, is_valid_mark, takes};
 
 // The loops ask every cell, whatever was found before: then the compiler takes many cells at a time.
+#[tactic(auto, using(crate::proofs::Asking::asking))]
 fn characters_are_valid(characters: &[u8]) -> bool
     ensures { result ≡ every valid_character characters.now }
 {
@@ -21,6 +22,7 @@ fn characters_are_valid(characters: &[u8]) -> bool
     0x20 <= least && most <= 0x7E
 }
 
+#[tactic(auto, using(crate::proofs::Asking::asking))]
 fn marks_are_valid(marks: &[Mark]) -> bool
     ensures { result ≡ every valid_mark marks.now }
 {
@@ -32,6 +34,7 @@ fn marks_are_valid(marks: &[Mark]) -> bool
 }
 
 // Whether no cell is unprotected: then there is no field.
+#[tactic(auto, using(crate::proofs::Asking::asking))]
 pub fn is_all_protected(marks: &[Mark]) -> bool
     ensures { result ≡ every is_protected marks.now }
 {

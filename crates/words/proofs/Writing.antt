@@ -209,3 +209,5 @@ module _ (from to : ℕ) (change : List ℕ → List ℕ) (list : List ℕ) (som
       let at_part : length (take from list) + (k - from) ≡ k = omega arith in
       rw at_part at (get_or-append-add (take from list) (part ++ drop to list) (k - from) 0)
       ∙ get_or-append part (drop to list) 0 (k - from) (omega arith)
+
+pub ruleset changing = (next_changed, all_written, length-each)

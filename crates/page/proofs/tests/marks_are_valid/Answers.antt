@@ -1,9 +1,0 @@
-use mathlib.Core.Path.{sym, ◌∙◌}
-use Rattle.page.proofs.Asking.{next_asked, all_asked}
-use Rattle.page.proofs.tests.marks_are_valid.Goals as goal
-
-pub loop-mark-preserved : goal.loop-mark-preserved
-loop-mark-preserved c = rw c.is_valid_mark-all.ensures (c.loop-mark.invariant ∙ next_asked _ 0 _ _ _ c.loop-mark-test.true)
-
-pub returns : goal.returns
-returns c = sym (c.loop-mark.invariant ∙ all_asked _ 0 _ _ _ c.loop-mark-test.false)
