@@ -1,17 +1,10 @@
-use mathlib.Core.Path.{◌≡◌, refl, sym, ap, ◌∙◌}
-use mathlib.Core.Bool.{Bool, true, not}
-use Prim.Native.Nat.{ℕ}
+use mathlib.Core.Path.{◌≡◌}
 use native.Mathlib.Omega.{arith}
-use borrow.Author.Tests.{ne_eqb, eqb-true}
-use lib.Dec.{eqb}
-use Rattle.words.specs.Choice.{If◌then◌else◌, ◌and◌, ◌or◌, ◌is◌to◌}
-use Rattle.words.proofs.Choosing.{second_decides}
+use Rattle.words.specs.Choice.{If◌then◌else◌, ◌is◌to◌}
 use Rattle.words.proofs.Testing.{code_tests}
 use Rattle.state.specs.Moves.{up_by, down_by, right_by, left_by, to_margin}
 use Rattle.steps.specs.Light.{light_step}
 use Rattle.table.specs.Moves.{is_plain_move, move_step}
-use Rattle.words.specs.Lists.{all_from}
-use Rattle.words.proofs.Ranges.{in_range}
 use Rattle.table.proofs.moves.move_command.Goals as goal
 
 pub returns-in-65 : goal.returns-in-65
