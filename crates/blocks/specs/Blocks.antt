@@ -1,16 +1,16 @@
 -- Document 01, "Fields, keys and blocks": the block that is sent to the host.
-use Rattle.std.specs.Prelude.{Bool, List, [], ◌∷◌, ◌++◌, map, ℕ, ◌-◌, leb, length, take, drop, get_or}
+use Rattle.std.specs.Prelude.{Bool, List, [], ◌∷◌, ◌++◌, map, ℕ, ◌-◌, leb, length, take, drop, Result, Ok, Err}
 use Prim.Native.Char.{code}
 use Rattle.words.specs.Choice.{If◌then◌else◌, ◌and◌, ◌or◌}
-use Rattle.words.specs.Lists.{some_from, selected}
+use Rattle.words.specs.Lists.{selected}
 use Rattle.words.specs.Output.{placed}
-use Rattle.page.specs.Marks.{is_modified, unprotected}
-use Rattle.page.specs.Page.{Page, cells, modified_cleared}
+use Rattle.page.specs.declared.Attribute.TheVariants.{Modified}
+use Rattle.page.specs.Marks.{unprotected}
+use Rattle.page.specs.Page.{Page, cells, some_have, modified_cleared}
 use Rattle.places.specs.Places.{place_of}
+use Rattle.output.specs.declared.NoRoom.{NoRoom}
 use Rattle.output.specs.Decimal.{place_bytes}
 use Rattle.fields.specs.Fields.{Field, starts_field, field_from, fields_of}
-use Rattle.blocks.specs.declared.BlockResult.{BlockResult}
-use Rattle.blocks.specs.declared.BlockResult.TheVariants.{Bytes, NoRoom}
 
 -- What a block says of one field: where it starts, and its characters.
 pub record Entry : Type 0 where
@@ -42,7 +42,7 @@ entry_of columns characters field =
 
 -- One of the n cells from `cell` on is modified.
 abbrev pub some_modified : List ℕ → ℕ → ℕ → Bool
-some_modified marks = some_from (λ cell. is_modified (get_or marks cell 0))
+some_modified = some_have Modified
 
 -- Which fields are sent: all, or those in which something is modified.
 unfoldable pub is_in_block : Bool → List ℕ → Field → Bool
@@ -67,7 +67,7 @@ bytes_at full columns page cell =
 
 -- Sending a block into the room left from a place of the output on. Where there is too little, nothing happens.
 pub record BlockWritten : Type 0 where
-  pub answer : BlockResult
+  pub answer : Result ℕ NoRoom
   pub marks : List ℕ
   pub output : List ℕ
 
@@ -75,8 +75,8 @@ unfoldable pub writing_block : Bool → ℕ → Page → ℕ → List ℕ → Bl
 writing_block full columns page at output =
     If leb (length (block full columns page)) (length output - at) then
     record {
-      answer = Bytes (length (block full columns page));
+      answer = Ok (length (block full columns page));
       marks = modified_cleared page.marks;
       output = placed at (block full columns page) output;
     }
-    else record { answer = NoRoom; marks = page.marks; output = output }
+    else record { answer = Err (record {}); marks = page.marks; output = output }

@@ -2,61 +2,22 @@
 // Its bytes are defined in specs/Blocks.antt.
 #![tactic(auto)]
 
-ghost use Rattle.std.specs.Prelude.{◌≡◌, List, ℕ, ◌+◌, ◌-◌, ◌*◌, ◌<◌, ◌≤◌, leb, length, take, drop};
+ghost use Rattle.std.specs.Prelude.{◌≡◌, List, ℕ, ◌+◌, ◌-◌, ◌*◌, ◌<◌, ◌≤◌, leb, length};
 ghost use Rattle.words.specs.Output.{Wrote};
 ghost use Rattle.page.specs.Page.{page_of};
 ghost use Rattle.places.specs.Places.{Counted};
-ghost use Rattle.blocks.specs.Blocks.{some_modified, is_in_block, bytes_at, block, writing_block};
+ghost use Rattle.blocks.specs.Blocks.{is_in_block, bytes_at, block, writing_block};
 
-use page::Mark;
+use output::NoRoom;
+use page::{Attribute, Mark};
 use places::Place;
-
-// Whether a block was sent, and how many bytes it has.
-#[derive(Clone, Copy)]
-pub enum BlockResult {
-    Bytes(usize),
-    NoRoom,
-}
-
-// A part of a slice, written.
-pub fn put_characters(out: &mut [u8], at: usize, characters: &[u8], from: usize, to: usize) -> usize
-    requires { (from ≤ to) × (to ≤ length characters.now) × (at + (to - from) ≤ length out.old) }
-    ensures { Wrote at (take (to - from) (drop from characters.now))
-        out.old result out.new }
-{
-    let mut next = at;
-    let mut cell = from;
-    while cell < to {
-        next = output::put_byte(out, next, characters[cell]);
-        cell += 1;
-    }
-    next
-}
-
-// Whether one of the cells is modified.
-fn has_modified(marks: &[Mark], from: usize, to: usize) -> bool
-    requires { (from ≤ to) × (to ≤ length marks.now) }
-    ensures { result ≡ some_modified marks.now from (to - from) }
-{
-    let mut cell = from;
-    while cell < to {
-        if page::has_attribute(page::mark_at(marks, cell), page::Attribute::Modified) {
-            return true;
-        }
-        cell += 1;
-    }
-    false
-}
 
 // Whether a field is sent: every one in a full block, else one in which something is modified.
 fn is_in_block(marks: &[Mark], full: bool, from: usize, to: usize) -> bool
     requires { (from ≤ to) × (to ≤ length marks.now) }
     ensures { result ≡ is_in_block full marks.now (record { start = from; length = to - from }) }
 {
-    if full {
-        return true;
-    }
-    has_modified(marks, from, to)
+    full || page::some_have(marks, from, to, Attribute::Modified)
 }
 
 // How many bytes the block has for a cell:
@@ -85,10 +46,8 @@ pub fn block_length(marks: &[Mark], columns: usize, full: bool) -> usize
         result ≡ length (block full columns (page_of characters marks.now)) }
 {
     let mut total = 1;
-    let mut place = Place::first(columns);
-    while place.cell < marks.len() {
-        total = total + length_at(marks, place, columns, full);
-        place = place.next(columns);
+    for place in Place::first(columns).onward(columns, marks.len()) {
+        total += length_at(marks, place, columns, full);
     }
     total
 }
@@ -102,10 +61,7 @@ fn fits(marks: &[Mark], columns: usize, full: bool, room: usize) -> bool
     ensures { (characters : List ℕ) → length characters ≡ length marks.now →
         result ≡ leb (length (block full columns (page_of characters marks.now))) room }
 {
-    if LONGEST <= room {
-        return true;
-    }
-    block_length(marks, columns, full) <= room
+    LONGEST <= room || block_length(marks, columns, full) <= room
 }
 
 // What the block has for a cell, written.
@@ -136,7 +92,7 @@ fn put_at(
         return at;
     }
     let next = output::put_place(out, at, place.row, place.column, b'f');
-    put_characters(out, next, characters, cell, end)
+    output::put_all(out, next, &characters[cell..end])
 }
 
 // The whole block, written.
@@ -155,15 +111,14 @@ fn put_block(
         out.old result out.new }
 {
     let mut next = at;
-    let mut place = Place::first(columns);
-    while place.cell < characters.len() {
+    for place in Place::first(columns).onward(columns, characters.len()) {
         next = put_at(out, next, characters, marks, place, columns, full);
-        place = place.next(columns);
     }
     output::put_byte(out, next, 0x03)
 }
 
-// Sends a block into the room left in the output, and clears modified; where there is too little room nothing happens.
+// Sends a block into the room left in the output, clears modified, and says how many bytes the block has; where there is
+// too little room nothing happens.
 pub fn write_block(
     out: &mut [u8],
     at: usize,
@@ -171,7 +126,7 @@ pub fn write_block(
     marks: &mut [Mark],
     columns: usize,
     full: bool,
-) -> BlockResult
+) -> Result<usize, NoRoom>
     requires columns_nonzero { (0 < columns) × (columns ≤ 160) × (length marks.old ≤ 48 * columns) ×
         (length characters.now ≡ length marks.old) }
     requires at_in_bounds { at ≤ length out.old }
@@ -180,9 +135,9 @@ pub fn write_block(
 {
     let room = out.len() - at;
     if !fits(marks, columns, full, room) {
-        return BlockResult::NoRoom;
+        return Err(NoRoom);
     }
     let end = put_block(out, at, characters, marks, columns, full);
     page::clear_modified(marks);
-    BlockResult::Bytes(end - at)
+    Ok(end - at)
 }

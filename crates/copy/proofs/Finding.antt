@@ -2,14 +2,14 @@
 use mathlib.Core.Path.{◌≡◌, refl, sym, ap, ◌∙◌}
 use mathlib.Core.Bool.{Bool, true, false}
 use mathlib.Core.List.{List, [], ◌∷◌, ◌++◌, append_assoc}
-use Prim.Native.Nat.{ℕ, ◌+◌, ◌<◌, ◌≤◌, ◌/◌, ◌%◌}
+use Prim.Native.Nat.{ℕ, min, ◌+◌, ◌<◌, ◌≤◌, ◌/◌, ◌%◌}
 use native.Mathlib.Omega.{arith}
 use borrow.Author.Tests.{ltb-true, lt-ltb, le-leb, lt-leb, eqb-true, eq-eqb, ne_eqb}
 use lib.Dec.{ltb, eqb}
 use lib.ListN.{length, drop, get_or, drop_of_length-le}
 use Rattle.words.specs.Choice.{◌and◌, ◌or◌}
 use Rattle.words.specs.Lists.{every}
-use Rattle.words.proofs.Choosing.{then_case, else_case, either_way, both, both_hold, first_decides, first_fails, first_holds, second_decides, not_both}
+use Rattle.words.proofs.Choosing.{less_or_not, then_case, else_case, either_way, both, both_hold, first_decides, first_fails, first_holds, second_decides, not_both}
 use Rattle.words.proofs.Walking.{next_element}
 use Rattle.words.proofs.Passing.{every_append}
 use Rattle.output.specs.Decimal.{decimal, place_bytes}
@@ -70,6 +70,13 @@ module _ (one other : List ℕ) (here there : ℕ) where
   pub other_ended : here < length one → length other ≤ there → same_head (drop here one) (drop there other) ≡ false
   unfolding same_head
   other_ended inside past = rw (next_element one here 0 inside, drop_of_length-le other past)
+
+-- Where one of the two has ended, they are not the same.
+pub either_ended : (one other : List ℕ) (at : ℕ) → at ≡ min (length one) (length other) → same_head (drop at one) (drop at other) ≡ false
+either_ended one other at ends =
+    less_or_not at (length one)
+    (λ more. other_ended one other at at more (omega arith))
+    (one_ended one other at at)
 
 -- Before f a head has bytes below 66.
 abbrev before_f : ℕ → Bool

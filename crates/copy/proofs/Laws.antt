@@ -7,6 +7,7 @@ use native.Mathlib.Nat.{add-zero}
 use native.Mathlib.Omega.{arith}
 use lib.ListN.{length, take, drop, get_or, length-append, length-drop}
 use lib.Seq.{get_or-drop, drop-drop, take_at, drop_at}
+use borrow.Rule.Slice.PartAt.{part_to_end}
 use Rattle.words.specs.Choice.{If◌then◌else◌}
 use Rattle.words.specs.Lists.{every}
 use Rattle.words.proofs.Choosing.{then_case, else_case, both}
@@ -164,15 +165,13 @@ module _ (block copy : List ℕ) (at here : ℕ) (copy_here : IsBlock (drop at c
     places = rw (sent.are, field.are) (same_head_is sent.entry field.entry _ _ sent.entry_valid field.entry_valid)
 
     -- An entry of that place is laid,
-    pub laid_from_block : same_head (drop here block) (drop at copy) ≡ true → NextLaid block copy at (record { sent = true; from = here; to = entry_end block here; next = entry_end copy at })
-    unfolding laid_on If◌then◌else◌
+    pub laid_from_block : same_head (drop here block) (drop at copy) ≡ true → NextLaid block copy at (take (entry_end block here - here) (drop here block)) (entry_end copy at)
+    unfolding laid_on
     laid_from_block same =
         let there = entry_ends block here sent in
         let on = entry_ends copy at field in
         let is-in-block = search.not_before field.entry field.later field.read ∙ ap (λ (entries : List Entry). laid_on entries field.entry) sent.read ∙ then_case _ _ _ (sym places ∙ same) in
         record {
-          in_order = omega (arith, there.past);
-          inside = there.within;
           goes_on = on.past;
           goes_to = on.rest_block;
           laid = lay_next block copy at field ∙ ap (λ (bytes : List ℕ). bytes ++ lay block (drop (entry_end copy at) copy)) (ap entry_bytes is-in-block ∙ sym there.part);
@@ -195,15 +194,21 @@ module _ (block copy : List ℕ) (at here : ℕ) (copy_here : IsBlock (drop at c
         }
 
   -- Where the block has none, the copy's own entry is laid.
-  pub laid_from_copy : (get_or block here 0 ≡ 0x1B → ⊥) → NextLaid block copy at (record { sent = false; from = at; to = entry_end copy at; next = entry_end copy at })
-  unfolding laid_on If◌then◌else◌
+  pub laid_from_copy : (get_or block here 0 ≡ 0x1B → ⊥) → NextLaid block copy at (take (entry_end copy at - at) (drop at copy)) (entry_end copy at)
+  unfolding laid_on
   laid_from_copy no_more =
       let on = entry_ends copy at field in
       let kept = search.not_before field.entry field.later field.read ∙ ap (λ (entries : List Entry). laid_on entries field.entry) (stops block here search.block_here no_more).1 in
       record {
-        in_order = omega (arith, on.past);
-        inside = on.within;
         goes_on = on.past;
         goes_to = on.rest_block;
         laid = lay_next block copy at field ∙ ap (λ (bytes : List ℕ). bytes ++ lay block (drop (entry_end copy at) copy)) (ap entry_bytes kept ∙ sym on.part);
       }
+
+-- An entry's bounds, for the code that takes it out.
+pub entry_bounds : (bytes : List ℕ) (at : ℕ) → IsBlock (drop at bytes) → get_or bytes at 0 ≡ 0x1B → (at ≤ entry_end bytes at) × (entry_end bytes at ≤ length bytes)
+entry_bounds bytes at block escape = let ends = entry_ends bytes at (starts bytes at block escape) in (omega (arith, ends.past), ends.within)
+
+-- The code looks at what comes from two places on.
+pub heads_of_parts : (one other : List ℕ) (here there : ℕ) → same_head (take (length one - here) (drop here one)) (take (length other - there) (drop there other)) ≡ same_head (drop here one) (drop there other)
+heads_of_parts one other here there = λ i. same_head (part_to_end one here i) (part_to_end other there i)

@@ -10,25 +10,21 @@ use lib.Dec.{ltb, leb}
 use lib.ListN.{length, drop, get_or, length-append}
 use Rattle.words.specs.Output.{Wrote}
 use Rattle.words.proofs.Choosing.{less_or_not}
-use Rattle.words.proofs.Output.{length_part, wrote_none, wrote_then}
+use Rattle.words.proofs.Output.{wrote_none, wrote_then}
 use Rattle.blocks.specs.Lay.{lay}
-use Rattle.copy.specs.declared.Part.{Part}
-use Rattle.copy.specs.Copy.{IsBlock, source_of, part_bytes, NextLaid}
+use Rattle.copy.specs.Copy.{IsBlock, NextLaid}
 use Rattle.copy.proofs.Laws.{lay_end}
 
-part_length : (block copy : List ℕ) (at : ℕ) (part : Part) → NextLaid block copy at part → length (lay block (drop at copy)) ≡ part.to - part.from + length (lay block (drop part.next copy))
-part_length block copy at part next =
-    ap (length {A = ℕ}) next.laid
-    ∙ length-append (part_bytes block copy part) _
-    ∙ ap (λ (n : ℕ). n + length (lay block (drop part.next copy))) (length_part (source_of block copy part) part.from part.to next.inside)
+part_length : (block copy : List ℕ) (at : ℕ) {bytes : List ℕ} {next : ℕ} → NextLaid block copy at bytes next → length (lay block (drop at copy)) ≡ length bytes + length (lay block (drop next copy))
+part_length block copy at {bytes} part = ap (length {A = ℕ}) part.laid ∙ length-append bytes _
 
 -- The next part of what is laid, counted: it exceeds the room left, or leaves some; at the end 03 needs one byte.
 module _ (block copy : List ℕ) (room left at : ℕ) (counted : length (lay block copy) + left ≡ room + length (lay block (drop at copy))) where
-  pub part_exceeds : (part : Part) → NextLaid block copy at part → left < part.to - part.from → leb (length (lay block copy)) room ≡ false
-  part_exceeds part next exceeds = lt-leb (length (lay block copy)) room (omega (arith, part_length block copy at part next))
+  pub part_exceeds : {bytes : List ℕ} {next : ℕ} → NextLaid block copy at bytes next → left < length bytes → leb (length (lay block copy)) room ≡ false
+  part_exceeds part exceeds = lt-leb (length (lay block copy)) room (omega (arith, part_length block copy at part))
 
-  pub part_counted : (part : Part) → NextLaid block copy at part → part.to - part.from ≤ left → length (lay block copy) + (left - (part.to - part.from)) ≡ room + length (lay block (drop part.next copy))
-  part_counted part next fits = omega (arith, part_length block copy at part next)
+  pub part_counted : {bytes : List ℕ} {next : ℕ} → NextLaid block copy at bytes next → length bytes ≤ left → length (lay block copy) + (left - length bytes) ≡ room + length (lay block (drop next copy))
+  part_counted part fits = omega (arith, part_length block copy at part)
 
   pub all_counted : IsBlock (drop at copy) → (get_or copy at 0 ≡ 0x1B → ⊥) → ltb 0 left ≡ leb (length (lay block copy)) room
   all_counted rest no-escape =
@@ -51,16 +47,16 @@ module _ {block copy before : List ℕ} {next at : ℕ} {now : List ℕ} (writin
   lengths : length writing.bytes + length (lay block (drop at copy)) ≡ length (lay block copy)
   lengths = sym (length-append writing.bytes _) ∙ ap (length {A = ℕ}) writing.whole
 
-  pub part_fits : (part : Part) → NextLaid block copy at part → length (lay block copy) ≤ length before → length now ≡ length before → next + (part.to - part.from) ≤ length now
-  part_fits part laid fits same = omega (arith, lengths, part_length block copy at part laid, writing.wrote.next_is)
+  pub part_fits : {bytes : List ℕ} {further : ℕ} → NextLaid block copy at bytes further → length (lay block copy) ≤ length before → length now ≡ length before → next + length bytes ≤ length now
+  part_fits part fits same = omega (arith, lengths, part_length block copy at part, writing.wrote.next_is)
 
-  pub part_written : (part : Part) → NextLaid block copy at part → {end : ℕ} {after : List ℕ} → Wrote next (part_bytes block copy part) now end after → Writing block copy before end part.next after
-  part_written part laid wrote =
+  pub part_written : {bytes : List ℕ} {further : ℕ} → NextLaid block copy at bytes further → {end : ℕ} {after : List ℕ} → Wrote next bytes now end after → Writing block copy before end further after
+  part_written {bytes} part wrote =
       record {
-        copy_here = laid.goes_to;
-        bytes = writing.bytes ++ part_bytes block copy part;
+        copy_here = part.goes_to;
+        bytes = writing.bytes ++ bytes;
         wrote = wrote_then (omega arith) writing.wrote wrote;
-        whole = append_assoc writing.bytes (part_bytes block copy part) _ ∙ ap (λ (list : List ℕ). writing.bytes ++ list) (sym laid.laid) ∙ writing.whole;
+        whole = append_assoc writing.bytes bytes _ ∙ ap (λ (list : List ℕ). writing.bytes ++ list) (sym part.laid) ∙ writing.whole;
       }
 
   module _ (no-escape : get_or copy at 0 ≡ 0x1B → ⊥) where

@@ -1,17 +1,15 @@
 -- A block laid over a copy, byte by byte: what the code finds in the bytes, and what it gives and leaves.
 -- What is laid is `lay` (crates/blocks/specs/Lay.antt).
-use Rattle.std.specs.Prelude.{◌≡◌, Bool, true, false, List, [], ◌∷◌, ◌++◌, length, take, drop}
-use Rattle.std.specs.Prelude.{ℕ, ◌+◌, ◌-◌, ◌<◌, ◌≤◌, leb, eqb}
+use Rattle.std.specs.Prelude.{◌≡◌, Bool, true, false, List, [], ◌∷◌, ◌++◌, length, drop, Result, Ok, Err}
+use Rattle.std.specs.Prelude.{ℕ, ◌+◌, ◌<◌, leb, eqb}
 use Prim.Native.Char.{code}
 use Rattle.words.specs.Choice.{If◌then◌else◌, ◌and◌, ◌or◌}
 use Rattle.words.specs.Lists.{every}
 use Rattle.words.specs.Output.{placed}
+use Rattle.output.specs.declared.NoRoom.{NoRoom}
 use Rattle.blocks.specs.Blocks.{encode}
 use Rattle.blocks.specs.Decode.{decode, valid_entry}
 use Rattle.blocks.specs.Lay.{lay}
-use Rattle.copy.specs.declared.Laid.{Laid}
-use Rattle.copy.specs.declared.Laid.TheVariants.{Bytes, NoRoom}
-use Rattle.copy.specs.declared.Part.{Part}
 
 -- Bytes that are a block of entries that can be written: read and written again they are the same.
 pub record IsBlock (bytes : List ℕ) : Type 0 where
@@ -36,30 +34,18 @@ same_head [] other = false
 same_head (a ∷ one) [] = false
 same_head (a ∷ one) (b ∷ other) = eqb a b and (eqb a (code "f") or same_head one other)
 
--- The bytes of a part of the block, or of the copy.
-abbrev pub source_of : List ℕ → List ℕ → Part → List ℕ
-source_of block copy part =
-    If part.sent then block
-    else copy
-
-abbrev pub part_bytes : List ℕ → List ℕ → Part → List ℕ
-part_bytes block copy part = take (part.to - part.from) (drop part.from (source_of block copy part))
-
--- The part has what is laid for the copy's entry at a place; the copy's next entry, or its end, is at `next`.
--- More than one part may meet this; what is laid is the same.
-pub record NextLaid (block copy : List ℕ) (at : ℕ) (part : Part) : Type 0 where
-  pub in_order : part.from ≤ part.to
-  pub inside : part.to ≤ length (source_of block copy part)
-  pub goes_on : at < part.next
-  pub goes_to : IsBlock (drop part.next copy)
-  pub laid : lay block (drop at copy) ≡ part_bytes block copy part ++ lay block (drop part.next copy)
+-- What is laid for the copy's entry at a place; the copy's next entry, or its end, is at `next`.
+pub record NextLaid (block copy : List ℕ) (at : ℕ) (bytes : List ℕ) (next : ℕ) : Type 0 where
+  pub goes_on : at < next
+  pub goes_to : IsBlock (drop next copy)
+  pub laid : lay block (drop at copy) ≡ bytes ++ lay block (drop next copy)
 
 -- Bytes put into an output from its start on; where there is too little room, nothing happens.
 pub record BlockLaid : Type 0 where
-  pub answer : Laid
+  pub answer : Result ℕ NoRoom
   pub output : List ℕ
 
 unfoldable pub laying : List ℕ → List ℕ → BlockLaid
 laying bytes output =
-    If leb (length bytes) (length output) then record { answer = Bytes (length bytes); output = placed 0 bytes output }
-    else record { answer = NoRoom; output = output }
+    If leb (length bytes) (length output) then record { answer = Ok (length bytes); output = placed 0 bytes output }
+    else record { answer = Err (record {}); output = output }

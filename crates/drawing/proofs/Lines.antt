@@ -1,25 +1,27 @@
 -- The rows one after another, whatever a row's line is.
 use mathlib.Core.Path.{◌≡◌, ap, ◌∙◌}
 use mathlib.Core.List.{List, [], ◌++◌, flat_map}
-use Prim.Native.Nat.{ℕ, suc, ◌+◌, ◌-◌, ◌*◌, ◌<◌}
+use Prim.Native.Nat.{ℕ, suc, ◌+◌, ◌-◌, ◌*◌, ◌<◌, ◌≤◌}
 use native.Mathlib.Omega.{arith}
 use lib.ListN.{take, drop}
-use lib.Seq.{drop-drop}
 use Rattle.words.proofs.Walking.{once_more}
 use Rattle.drawing.specs.Drawing.{rows_of, row_lines}
 
-pub row_taken : (columns left : ℕ) → 0 < left → left * columns ≡ (left - 1) * columns + columns
-row_taken columns left h = let n : left ≡ left - 1 + 1 = omega arith in ap (λ (k : ℕ). k * columns) n ∙ once_more (left - 1) columns
+-- Of all the rows so many are done: those to come are one more than those to come after the next.
+pub row_taken : (rows done columns : ℕ) → done < rows → (rows - done) * columns ≡ (rows - (done + 1)) * columns + columns
+row_taken rows done columns h =
+    let n : rows - done ≡ rows - (done + 1) + 1 = omega arith in
+    ap (λ (k : ℕ). k * columns) n ∙ once_more (rows - (done + 1)) columns
 
-module _ (line : List ℕ → List ℕ) (columns : ℕ) (cells : List ℕ) (from left : ℕ) where
-  pub rows_next : 0 < left → row_lines line left columns (drop from cells) ≡ line (take (from + columns - from) (drop from cells)) ++ row_lines line (left - 1) columns (drop (from + columns) cells)
+module _ {A : Type 0} (line : List A → List ℕ) (rows done columns : ℕ) (left : List A) where
+  pub rows_next : done < rows → row_lines line (rows - done) columns left ≡ line (take columns left) ++ row_lines line (rows - (done + 1)) columns (drop columns left)
   unfolding flat_map rows_of
   rows_next h =
-      let n : left ≡ suc (left - 1) = omega arith in
-      let width : columns ≡ from + columns - from = omega arith in
-      ap (λ (k : ℕ). row_lines line k columns (drop from cells)) n
-      ∙ (λ i. line (take (width i) (drop from cells)) ++ row_lines line (left - 1) columns (drop-drop columns from cells i))
+      let n : rows - done ≡ suc (rows - (done + 1)) = omega arith in
+      ap (λ (k : ℕ). row_lines line k columns left) n
 
-  pub rows_end : left ≡ 0 → row_lines line left columns (drop from cells) ≡ []
+  pub rows_end : rows ≤ done → row_lines line (rows - done) columns left ≡ []
   unfolding flat_map rows_of
-  rows_end none = ap (λ (k : ℕ). row_lines line k columns (drop from cells)) none
+  rows_end h =
+      let none : rows - done ≡ 0 = omega arith in
+      ap (λ (k : ℕ). row_lines line k columns left) none

@@ -89,7 +89,7 @@ state_lines state =
     ++ half_line state.half
 
 -- The rows of a page of so many columns.
-unfoldable pub rows_of : ℕ → ℕ → List ℕ → List (List ℕ)
+unfoldable pub rows_of : {A : Type 0} → ℕ → ℕ → List A → List (List A)
 rows_of columns zero cells = []
 rows_of columns (suc rows) cells = take columns cells ∷ rows_of columns rows (drop columns cells)
 
@@ -100,7 +100,7 @@ character_line row = bytes "|" ++ row ++ bytes "|\n"
 abbrev pub mark_line : List ℕ → List ℕ
 mark_line row = bytes ":" ++ hex_pairs row ++ line_end
 
-abbrev pub row_lines : (List ℕ → List ℕ) → ℕ → ℕ → List ℕ → List ℕ
+abbrev pub row_lines : {A : Type 0} → (List A → List ℕ) → ℕ → ℕ → List A → List ℕ
 row_lines line rows columns cells = flat_map line (rows_of columns rows cells)
 
 unfoldable pub drawn : State → List ℕ → List ℕ → List ℕ

@@ -2,7 +2,7 @@
 // Every function writes into a lent text from a place on, and gives the place after.
 #![tactic(auto)]
 
-ghost use Rattle.std.specs.Prelude.{◌≡◌, ◌+◌, ◌*◌, ◌<◌, ◌≤◌, length};
+ghost use Rattle.std.specs.Prelude.{List, ◌≡◌, ℕ, ◌+◌, ◌*◌, ◌<◌, ◌≤◌, length};
 ghost use Rattle.words.specs.Choice.{If◌then◌else◌};
 ghost use Rattle.words.specs.Output.{Wrote};
 ghost use Rattle.drawing.specs.Drawing.{numbered, flagged, spaced, pair_line, pen_line, locks_line};
@@ -16,10 +16,7 @@ use state::{Locks, Modes, State};
 fn byte_if(test: bool, yes: u8, no: u8) -> u8
     ensures { result ≡ (If test then yes else no) }
 {
-    if test {
-        return yes;
-    }
-    no
+    if test { yes } else { no }
 }
 
 fn put_number(text: &mut [u8], at: usize, word: &[u8], number: usize) -> usize
@@ -65,7 +62,7 @@ fn put_locks(text: &mut [u8], at: usize, locks: Locks) -> usize
 {
     let soft = put_flag(text, at, b"manual ", locks.manual);
     let message = put_flag(text, soft, b" soft ", locks.soft);
-    let word = put_number(text, message, b" message ", locks.message as usize);
+    let word = put_number(text, message, b" message ", usize::from(locks.message));
     let byte = output::put_all(text, word, b" byte ");
     let end = numerals::put_hex_byte(text, byte, locks.byte);
     output::put_byte(text, end, b'\n')
@@ -76,10 +73,8 @@ fn put_each_stop(text: &mut [u8], at: usize, stops: [bool; 160]) -> usize
     ensures { Wrote at (all_stops stops) text.old result text.new }
 {
     let mut next = at;
-    let mut i = 0;
-    while i < 160 {
-        next = output::put_byte(text, next, byte_if(stops[i], b'T', b'.'));
-        i += 1;
+    for stop in &stops {
+        next = output::put_byte(text, next, byte_if(*stop, b'T', b'.'));
     }
     next
 }
@@ -97,7 +92,7 @@ fn put_argument(text: &mut [u8], at: usize, argument: u16) -> usize
     requires { at + 6 ≤ length text.old }
     ensures { Wrote at (spaced argument) text.old result text.new }
 {
-    put_number(text, at, b" ", argument as usize)
+    put_number(text, at, b" ", usize::from(argument))
 }
 
 fn put_arguments(text: &mut [u8], at: usize, arguments: [u16; 8]) -> usize
@@ -105,10 +100,8 @@ fn put_arguments(text: &mut [u8], at: usize, arguments: [u16; 8]) -> usize
     ensures { Wrote at (all_arguments arguments) text.old result text.new }
 {
     let mut next = at;
-    let mut i = 0;
-    while i < 8 {
-        next = put_argument(text, next, arguments[i]);
-        i += 1;
+    for argument in &arguments {
+        next = put_argument(text, next, *argument);
     }
     next
 }
@@ -117,12 +110,11 @@ fn put_half(text: &mut [u8], at: usize, half: HalfRead) -> usize
     requires { at + 90 ≤ length text.old }
     ensures { Wrote at (half_line half) text.old result text.new }
 {
-    let arguments = half.arguments;
-    let spoilt = put_number(text, at, b"half ", half.kind as usize);
+    let spoilt = put_number(text, at, b"half ", usize::from(half.kind));
     let count = put_flag(text, spoilt, b" spoilt ", half.spoilt);
-    let word = put_number(text, count, b" count ", half.count as usize);
+    let word = put_number(text, count, b" count ", usize::from(half.count));
     let each = output::put_all(text, word, b" arguments");
-    let end = put_arguments(text, each, arguments);
+    let end = put_arguments(text, each, half.arguments);
     output::put_byte(text, end, b'\n')
 }
 
@@ -131,7 +123,6 @@ fn put_state(text: &mut [u8], at: usize, state: State) -> usize
     requires at_in_bounds { at + 357 ≤ length text.old }
     ensures { Wrote at (state_lines state) text.old result text.new }
 {
-    let stops = state.stops;
     let cursor = put_pair(text, at, b"size ", state.size.rows, state.size.columns);
     let modes = put_pair(
         text,
@@ -142,68 +133,54 @@ fn put_state(text: &mut [u8], at: usize, state: State) -> usize
     );
     let locks = put_modes(text, modes, state.modes);
     let tabs = put_locks(text, locks, state.locks);
-    let half = put_stops(text, tabs, stops);
+    let half = put_stops(text, tabs, state.stops);
     put_half(text, half, state.half)
 }
 
-fn put_character_row(text: &mut [u8], at: usize, row: &[u8]) -> usize
-    requires { at + length row.now + 3 ≤ length text.old }
-    ensures { Wrote at (character_line row.now) text.old result text.new }
-{
-    let characters = output::put_byte(text, at, b'|');
-    let bar = output::put_all(text, characters, row);
-    output::put_all(text, bar, b"|\n")
+// What a page has in its cells: a row of them is a line.
+trait Cell: Copy {
+    ghost line: { List Self → List ℕ };
+
+    fn put_row(text: &mut [u8], at: usize, row: &[Self]) -> usize
+        requires { at + length (line row.now) ≤ length text.old }
+        ensures { Wrote at (line row.now) text.old result text.new };
 }
 
-fn put_mark_row(text: &mut [u8], at: usize, row: &[Mark]) -> usize
-    requires { at + 4 * length row.now + 2 ≤ length text.old }
-    ensures { Wrote at (mark_line row.now) text.old result text.new }
-{
-    let digits = output::put_byte(text, at, b':');
-    let end = numerals::put_hex_pairs(text, digits, row);
-    output::put_byte(text, end, b'\n')
-}
+// A character, as it is.
+impl Cell for u8 {
+    ghost line = { character_line };
 
-// A page's rows, as characters.
-fn put_character_rows(
-    text: &mut [u8],
-    at: usize,
-    cells: &[u8],
-    rows: usize,
-    columns: usize,
-) -> usize
-    requires cells_len { length cells.now ≡ rows * columns }
-    requires cells_in_bounds { at + length (row_lines character_line rows columns cells.now) ≤ length text.old }
-    ensures { Wrote at (row_lines character_line rows columns cells.now)
-        text.old result text.new }
-{
-    let mut next = at;
-    let mut from = 0;
-    let mut left = rows;
-    while 0 < left {
-        let to = from + columns;
-        next = put_character_row(text, next, &cells[from..to]);
-        from = to;
-        left -= 1;
+    fn put_row(text: &mut [u8], at: usize, row: &[u8]) -> usize {
+        let characters = output::put_byte(text, at, b'|');
+        let bar = output::put_all(text, characters, row);
+        output::put_all(text, bar, b"|\n")
     }
-    next
 }
 
-// Its marks, in hexadecimal.
-fn put_mark_rows(text: &mut [u8], at: usize, cells: &[Mark], rows: usize, columns: usize) -> usize
+// A mark, in hexadecimal.
+impl Cell for Mark {
+    ghost line = { mark_line };
+
+    fn put_row(text: &mut [u8], at: usize, row: &[Mark]) -> usize {
+        let digits = output::put_byte(text, at, b':');
+        let end = numerals::put_hex_pairs(text, digits, row);
+        output::put_byte(text, end, b'\n')
+    }
+}
+
+// A page's rows, of characters or of marks.
+fn put_rows<C: Cell>(text: &mut [u8], at: usize, cells: &[C], rows: usize, columns: usize) -> usize
     requires cells_len { length cells.now ≡ rows * columns }
-    requires cells_in_bounds { at + length (row_lines mark_line rows columns cells.now) ≤ length text.old }
-    ensures { Wrote at (row_lines mark_line rows columns cells.now)
+    requires cells_in_bounds { at + length (row_lines C.line rows columns cells.now) ≤ length text.old }
+    ensures { Wrote at (row_lines C.line rows columns cells.now)
         text.old result text.new }
 {
     let mut next = at;
-    let mut from = 0;
-    let mut left = rows;
-    while 0 < left {
-        let to = from + columns;
-        next = put_mark_row(text, next, &cells[from..to]);
-        from = to;
-        left -= 1;
+    let mut left = cells;
+    for _ in 0..rows {
+        let (row, later) = left.split_at(columns);
+        next = C::put_row(text, next, row);
+        left = later;
     }
     next
 }
@@ -220,6 +197,6 @@ pub fn draw(state: State, characters: &[u8], marks: &[Mark], text: &mut [u8], at
     let rows = state.size.rows;
     let columns = state.size.columns;
     let first_row = put_state(text, at, state);
-    let first_marks = put_character_rows(text, first_row, characters, rows, columns);
-    put_mark_rows(text, first_marks, marks, rows, columns)
+    let first_marks = put_rows(text, first_row, characters, rows, columns);
+    put_rows(text, first_marks, marks, rows, columns)
 }

@@ -2,12 +2,14 @@
 use mathlib.Core.Path.{◌≡◌, refl, sym, ap, ◌∙◌}
 use mathlib.Core.Bool.{Bool, true, false}
 use mathlib.Core.List.{List, [], ◌∷◌}
-use Prim.Native.Nat.{ℕ, zero, suc, ◌+◌, ◌-◌, ◌<◌, ◌≤◌}
+use Prim.Native.Nat.{ℕ, zero, suc, ◌+◌, ◌-◌}
 use native.Mathlib.Omega.{arith}
 use lib.ListN.{length, get_or}
+use Rattle.std.specs.Prelude.{◌||◌}
+use Rattle.std.specs.List.{list_any, range_with_len}
 use Rattle.words.specs.Choice.{◌and◌, ◌or◌}
 use Rattle.words.specs.Lists.{some, some_from}
-use Rattle.words.proofs.Choosing.{then_case, else_case, either_way, both, neither, first_decides, first_holds, second_decides}
+use Rattle.words.proofs.Choosing.{then_case, else_case, either_way, neither, first_decides, first_fails}
 use Rattle.page.specs.Marks.{is_required, unprotected}
 use Rattle.page.specs.Page.{Page, some_required}
 use Rattle.fields.specs.Fields.{starts_field, field_from, fields_from}
@@ -35,6 +37,12 @@ not_required [] none cell = refl
 not_required (mark ∷ later) none zero = (neither none).0
 not_required (mark ∷ later) none (suc cell) = not_required later (neither none).1 cell
 
+-- The library's `||` and our `or`.
+pub same_or : (a b : Bool) → (a || b) ≡ (a or b)
+unfolding ◌or◌
+same_or true b = refl
+same_or false b = refl
+
 -- `all` is how many cells the page has.
 module _ (page : Page) (all : ℕ) where
   -- One of the fields that start at the n cells from `cell` on is left blank.
@@ -45,23 +53,13 @@ module _ (page : Page) (all : ℕ) where
   starts_blank cell =
       starts_field (unprotected page.marks) cell and is_left_blank page (field_from (unprotected page.marks) all cell)
 
-  module _ (cell to : ℕ) where
-    pub blank_here : cell < to → starts_blank cell ≡ true → left_blank_from cell (to - cell) ≡ true
-    unfolding left_blank_from some fields_from
-    blank_here less here =
-        let more : to - cell ≡ suc (to - (cell + 1)) = omega arith in
-        let is = both here in
-        ap (left_blank_from cell) more ∙ ap (some (is_left_blank page)) (then_case _ _ _ is.0) ∙ first_holds _ _ is.1
-
-    pub blank_later : cell < to → starts_blank cell ≡ false → left_blank_from cell (to - cell) ≡ left_blank_from (cell + 1) (to - (cell + 1))
-    unfolding left_blank_from some fields_from
-    blank_later less not-here =
-        let more : to - cell ≡ suc (to - (cell + 1)) = omega arith in
-        ap (left_blank_from cell) more
-        ∙ either_way (starts_field (unprotected page.marks) cell)
-        (λ s. ap (some (is_left_blank page)) (then_case _ _ _ s) ∙ second_decides _ _ (sym (first_decides _ _ s) ∙ not-here))
-        (λ s. ap (some (is_left_blank page)) (else_case _ _ _ s))
-
-    pub blank_nowhere : to ≤ cell → left_blank_from cell (to - cell) ≡ false
-    unfolding left_blank_from some fields_from
-    blank_nowhere past = let none : to - cell ≡ 0 = omega arith in rw none
+  -- Whether one does, asked of a range of cells as the code does.
+  pub blank_somewhere : (cell n : ℕ) → list_any starts_blank (range_with_len cell n) ≡ left_blank_from cell n
+  unfolding left_blank_from some fields_from
+  blank_somewhere cell zero = refl
+  blank_somewhere cell (suc n) =
+      let later = blank_somewhere (cell + 1) n in
+      let field = field_from (unprotected page.marks) all cell in
+      either_way (starts_field (unprotected page.marks) cell)
+      (λ s. rw (later, first_decides _ (is_left_blank page field) s, then_case _ _ _ s) (same_or _ _))
+      (λ s. rw (later, first_fails _ (is_left_blank page field) s, else_case _ _ _ s))

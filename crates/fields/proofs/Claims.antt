@@ -7,8 +7,8 @@ use mathlib.Core.List.{List, [], ◌∷◌, Memᴰ}
 use mathlib.Core.Logic.{◌⊎◌}
 use Prim.Native.Nat.{ℕ, ◌+◌, ◌-◌, ◌<◌, ◌≤◌}
 use Rattle.places.specs.Places.{place_of}
-use Rattle.fields.specs.declared.Sought.{Sought}
-use Rattle.fields.specs.declared.Sought.TheVariants.{At, Nowhere}
+use Rattle.places.specs.declared.Place.{Place}
+use Rattle.std.specs.Prelude.{Option, Some, None}
 use Rattle.fields.specs.Fields.{Field, field_start, field_end}
 
 -- The cell after a field's last.
@@ -86,17 +86,17 @@ abbrev pub Last : ℕ → ℕ → Type 0
 Last cell other = other ≤ cell
 
 -- What a search finds: of the cells that are wanted the one it prefers to all others, or nothing where none is wanted.
-pub data Finds (columns : ℕ) (Prefers : ℕ → ℕ → Type 0) (Wanted : ℕ → Type 0) : Sought → Type 0 where
-  found : (cell : ℕ) → Wanted cell → ((other : ℕ) → Wanted other → Prefers cell other) → Finds columns Prefers Wanted (At (place_of columns cell))
-  nothing : ((cell : ℕ) → Wanted cell → ⊥) → Finds columns Prefers Wanted Nowhere
+pub data Finds (columns : ℕ) (Prefers : ℕ → ℕ → Type 0) (Wanted : ℕ → Type 0) : Option Place → Type 0 where
+  found : (cell : ℕ) → Wanted cell → ((other : ℕ) → Wanted other → Prefers cell other) → Finds columns Prefers Wanted (Some (place_of columns cell))
+  nothing : ((cell : ℕ) → Wanted cell → ⊥) → Finds columns Prefers Wanted None
 
 -- A search that goes round the page:
 -- where cells ahead are wanted it finds one of these, else one of all that are wanted.
-pub record GoesRound (columns : ℕ) (Prefers : ℕ → ℕ → Type 0) (Wanted Ahead : ℕ → Type 0) (sought : Sought) : Type 0 where
+pub record GoesRound (columns : ℕ) (Prefers : ℕ → ℕ → Type 0) (Wanted Ahead : ℕ → Type 0) (sought : Option Place) : Type 0 where
   pub ahead : (cell : ℕ) → Wanted cell → Ahead cell → Finds columns Prefers (λ k. Wanted k × Ahead k) sought
   pub round : ((cell : ℕ) → Wanted cell → Ahead cell → ⊥) → Finds columns Prefers Wanted sought
 
 -- What was found, if anything was, is a cell of the page.
-pub data Lands (columns cells : ℕ) : Sought → Type 0 where
-  on_cell : (cell : ℕ) → cell < cells → Lands columns cells (At (place_of columns cell))
-  not_found : Lands columns cells Nowhere
+pub data Lands (columns cells : ℕ) : Option Place → Type 0 where
+  on_cell : (cell : ℕ) → cell < cells → Lands columns cells (Some (place_of columns cell))
+  not_found : Lands columns cells None

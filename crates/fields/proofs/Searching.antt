@@ -10,8 +10,8 @@ use native.Mathlib.Omega.{arith}
 use borrow.Author.Tests.{ltb-true, ltb-false}
 use Rattle.words.proofs.Choosing.{either_line, not_both}
 use Rattle.places.specs.Places.{place_of}
-use Rattle.fields.specs.declared.Sought.{Sought}
-use Rattle.fields.specs.declared.Sought.TheVariants.{At, Nowhere}
+use Rattle.places.specs.declared.Place.{Place}
+use Rattle.std.specs.Prelude.{Option, Some, None}
 use Rattle.fields.specs.Fields.{Field, starts_field, field_from, fields_from, fields_of}
 use Rattle.fields.specs.Searches.{or_else, first_field, last_field, first_after, last_before, first_unprotected_from}
 use Rattle.fields.proofs.Claims.{end_of, InOrder, none, one_more, StartsAt, Passes, First, Last, Finds, found, nothing, GoesRound, Lands, on_cell, not_found}
@@ -20,46 +20,46 @@ use Rattle.fields.proofs.Listing.{listed_starts, start_listed, in_order}
 module _ (columns : ℕ) where
   -- A search has one answer.
   module _ {Prefers : ℕ → ℕ → Type 0} (one-preferred : (a b : ℕ) → Prefers a b → Prefers b a → a ≡ b) where
-    one_answer : {Wanted : ℕ → Type 0} {one other : Sought} → Finds columns Prefers Wanted one → Finds columns Prefers Wanted other → one ≡ other
-    one_answer (found cell w best) (found cell' w' best') = ap (λ (k : ℕ). At (place_of columns k)) (one-preferred cell cell' (best cell' w') (best' cell w))
+    one_answer : {Wanted : ℕ → Type 0} {one other : Option Place} → Finds columns Prefers Wanted one → Finds columns Prefers Wanted other → one ≡ other
+    one_answer (found cell w best) (found cell' w' best') = ap (λ (k : ℕ). Some (place_of columns k)) (one-preferred cell cell' (best cell' w') (best' cell w))
     one_answer (found cell w best) (nothing nowhere) = absurd (nowhere cell w)
     one_answer (nothing nowhere) (found cell w best) = absurd (nowhere cell w)
     one_answer (nothing nowhere) (nothing nowhere') = refl
 
-  pub one_first : {Wanted : ℕ → Type 0} {one other : Sought} → Finds columns First Wanted one → Finds columns First Wanted other → one ≡ other
+  pub one_first : {Wanted : ℕ → Type 0} {one other : Option Place} → Finds columns First Wanted one → Finds columns First Wanted other → one ≡ other
   one_first = one_answer (λ a b p q. omega arith)
 
-  pub one_last : {Wanted : ℕ → Type 0} {one other : Sought} → Finds columns Last Wanted one → Finds columns Last Wanted other → one ≡ other
+  pub one_last : {Wanted : ℕ → Type 0} {one other : Option Place} → Finds columns Last Wanted one → Finds columns Last Wanted other → one ≡ other
   one_last = one_answer (λ a b p q. omega arith)
 
   module _ {Prefers : ℕ → ℕ → Type 0} where
     -- The same cells are wanted, in other words.
-    pub in_other_words : {Wanted Wanted' : ℕ → Type 0} {sought : Sought} → ((k : ℕ) → Wanted k → Wanted' k) → ((k : ℕ) → Wanted' k → Wanted k) → Finds columns Prefers Wanted sought → Finds columns Prefers Wanted' sought
+    pub in_other_words : {Wanted Wanted' : ℕ → Type 0} {sought : Option Place} → ((k : ℕ) → Wanted k → Wanted' k) → ((k : ℕ) → Wanted' k → Wanted k) → Finds columns Prefers Wanted sought → Finds columns Prefers Wanted' sought
     in_other_words to from (found cell w best) = found cell (to cell w) (λ other w'. best other (from other w'))
     in_other_words to from (nothing nowhere) = nothing (λ cell w. nowhere cell (from cell w))
 
-    none_wanted : {Wanted : ℕ → Type 0} {sought : Sought} → Finds columns Prefers Wanted sought → sought ≡ Nowhere → (cell : ℕ) → Wanted cell → ⊥
+    none_wanted : {Wanted : ℕ → Type 0} {sought : Option Place} → Finds columns Prefers Wanted sought → sought ≡ None → (cell : ℕ) → Wanted cell → ⊥
     none_wanted (found cell w best) is = let z : ◌≡◌ {A = ℕ} 0 1 = cc in absurd (omega arith)
     none_wanted (nothing nowhere) is = nowhere
 
     -- Two searches go round, and find something where anything is wanted.
-    pub goes_round : {Wanted Ahead : ℕ → Type 0} {one other : Sought} → Finds columns Prefers (λ k. Wanted k × Ahead k) one → Finds columns Prefers Wanted other → GoesRound columns Prefers Wanted Ahead (or_else one other)
+    pub goes_round : {Wanted Ahead : ℕ → Type 0} {one other : Option Place} → Finds columns Prefers (λ k. Wanted k × Ahead k) one → Finds columns Prefers Wanted other → GoesRound columns Prefers Wanted Ahead (or_else one other)
     unfolding or_else
     goes_round (found cell w best) anywhere =
         record { ahead = λ _ _ _. found cell w best; round = λ none_ahead. absurd (none_ahead cell w.0 w.1) }
     goes_round (nothing nowhere) anywhere =
         record { ahead = λ cell w ahead. absurd (nowhere cell (w, ahead)); round = λ _. anywhere }
 
-    pub finds_something : {Wanted Ahead : ℕ → Type 0} {sought : Sought} → GoesRound columns Prefers Wanted Ahead sought → (cell : ℕ) → Wanted cell → sought ≡ Nowhere → ⊥
+    pub finds_something : {Wanted Ahead : ℕ → Type 0} {sought : Option Place} → GoesRound columns Prefers Wanted Ahead sought → (cell : ℕ) → Wanted cell → sought ≡ None → ⊥
     finds_something goes cell w is =
         none_wanted (goes.round (λ k w' ahead. none_wanted (goes.ahead k w' ahead) is k (w', ahead))) is cell w
 
     -- What is found is on the page, if all that is wanted is.
-    pub finds_on_page : (cells : ℕ) {Wanted : ℕ → Type 0} {sought : Sought} → ((k : ℕ) → Wanted k → k < cells) → Finds columns Prefers Wanted sought → Lands columns cells sought
+    pub finds_on_page : (cells : ℕ) {Wanted : ℕ → Type 0} {sought : Option Place} → ((k : ℕ) → Wanted k → k < cells) → Finds columns Prefers Wanted sought → Lands columns cells sought
     finds_on_page cells within (found cell w best) = on_cell cell (within cell w)
     finds_on_page cells within (nothing nowhere) = not_found
 
-  pub either_lands : {cells : ℕ} {one other : Sought} → Lands columns cells one → Lands columns cells other → Lands columns cells (or_else one other)
+  pub either_lands : {cells : ℕ} {one other : Option Place} → Lands columns cells one → Lands columns cells other → Lands columns cells (or_else one other)
   unfolding or_else
   either_lands (on_cell cell here) second = on_cell cell here
   either_lands not_found second = second
@@ -103,7 +103,7 @@ module _ (columns : ℕ) where
       (first_after_lem cell rest))
 
   -- the last of the later ones, else the first one
-  last_or_first : {Later Wanted : ℕ → Type 0} {sought : Sought} (cell : ℕ) → Wanted cell → ((k : ℕ) → Later k → Wanted k × (cell ≤ k)) → ((k : ℕ) → Wanted k → (k ≡ cell) ⊎ Later k) → Finds columns Last Later sought → Finds columns Last Wanted (or_else sought (At (place_of columns cell)))
+  last_or_first : {Later Wanted : ℕ → Type 0} {sought : Option Place} (cell : ℕ) → Wanted cell → ((k : ℕ) → Later k → Wanted k × (cell ≤ k)) → ((k : ℕ) → Wanted k → (k ≡ cell) ⊎ Later k) → Finds columns Last Later sought → Finds columns Last Wanted (or_else sought (Some (place_of columns cell)))
   unfolding or_else
   last_or_first cell w to which (found last later best) =
       found last (to last later).0 (λ other w'. ⊎_elim (λ same. omega (arith, (to last later).1)) (best other) (which other w'))

@@ -7,7 +7,7 @@ use mathlib.Core.Bool.{Bool, true}
 use mathlib.Core.List.{List, [], ◌∷◌}
 use Prim.Native.Nat.{ℕ, ◌+◌, ◌-◌, ◌<◌}
 use native.Mathlib.Omega.{arith}
-use Rattle.fields.specs.declared.Sought.TheVariants.{Nowhere}
+use Rattle.std.specs.Prelude.{None}
 use Rattle.fields.specs.Fields.{Field, fields_of}
 use Rattle.fields.specs.Searches.{first_field, last_field, first_after, last_before, next_field, previous_field, first_unprotected_from, first_unprotected, next_unprotected}
 use Rattle.fields.proofs.Claims.{IsField, ◌has◌, IsAround, InOrder, Lists, StartsAt, Passes, First, Last, Finds, GoesRound, UnprotectedAround, Lands}
@@ -90,7 +90,7 @@ module _ (is_unprotected : ℕ → Bool) (columns cells : ℕ) where
       key_262
 
   -- If any cell of the page is unprotected, one is found after a typed character.
-  pub after_typing_found : (cell other : ℕ) → cell < cells → other < cells → is_unprotected other ≡ true → next_unprotected is_unprotected columns cells cell ≡ Nowhere → ⊥
+  pub after_typing_found : (cell other : ℕ) → cell < cells → other < cells → is_unprotected other ≡ true → next_unprotected is_unprotected columns cells cell ≡ None → ⊥
   after_typing_found cell other here there is_unprotected = finds_something columns (after_typing cell here) other (omega arith, there, is_unprotected)
 
   -- All that these searches find is on the page.

@@ -9,8 +9,7 @@ use Rattle.words.proofs.Choosing.{not_both, then_case, else_case, less_or_not, l
 use Rattle.places.specs.declared.Place.{Place}
 use Rattle.places.specs.Places.{place_of, Counted}
 use Rattle.places.proofs.Counting.{cell_is, counted}
-use Rattle.fields.specs.declared.Sought.{Sought}
-use Rattle.fields.specs.declared.Sought.TheVariants.{At, Nowhere}
+use Rattle.std.specs.Prelude.{Option, Some, None, MatchOption}
 use Rattle.fields.specs.Fields.{joined, field_start, end_from, field_end, fields_from, fields_of}
 use Rattle.fields.specs.Searches.{or_else, first_unprotected_from, first_unprotected}
 use Rattle.fields.proofs.Claims.{Finds, found, nothing, First, Last, Passes}
@@ -69,13 +68,13 @@ module _ {test : ℕ → Bool} {columns cells : ℕ} {from : Place} where
               (le_or_lt here.cell k);
         }
 
-    pub comes_to : here.cell < cells → test here.cell ≡ true → Finds columns First (Passes test from.cell cells) (At here)
+    pub comes_to : here.cell < cells → test here.cell ≡ true → Finds columns First (Passes test from.cell cells) (Some here)
     comes_to more is-here =
-        subst (λ (place : Place). Finds columns First (Passes test from.cell cells) (At place)) (sym way.known.right)
+        subst (λ (place : Place). Finds columns First (Passes test from.cell cells) (Some place)) (sym way.known.right)
         (found here.cell (way.come, more, is-here)
         (λ k w. ⊎_elim (λ high. high) (λ low. absurd (way.passed k (w.0, low, w.2))) (le_or_lt here.cell k)))
 
-    pub comes_to_nothing : cells ≤ here.cell → Finds columns First (Passes test from.cell cells) Nowhere
+    pub comes_to_nothing : cells ≤ here.cell → Finds columns First (Passes test from.cell cells) None
     comes_to_nothing no_more = nothing (λ k w. way.passed k (w.0, omega arith, w.2))
 
 -- A search back, likewise: it looks at the cell before the one it has come to.
@@ -101,13 +100,13 @@ module _ {test : ℕ → Bool} {columns : ℕ} {from : Place} where
               (le_or_lt here.cell k);
         }
 
-    pub comes_back_to : {back : Place} → 0 < here.cell → test (here.cell - 1) ≡ true → back ≡ place_of columns (here.cell - 1) → Finds columns Last (Passes test 0 from.cell) (At back)
+    pub comes_back_to : {back : Place} → 0 < here.cell → test (here.cell - 1) ≡ true → back ≡ place_of columns (here.cell - 1) → Finds columns Last (Passes test 0 from.cell) (Some back)
     comes_back_to more is-here is =
-        subst (λ (place : Place). Finds columns Last (Passes test 0 from.cell) (At place)) (sym is)
+        subst (λ (place : Place). Finds columns Last (Passes test 0 from.cell) (Some place)) (sym is)
         (found (here.cell - 1) (omega arith, omega (arith, way.come), is-here)
         (λ k w. ⊎_elim (λ high. absurd (way.passed k (high, w.1, w.2))) (λ low. omega arith) (le_or_lt here.cell k)))
 
-    pub comes_back_to_nothing : here.cell ≤ 0 → Finds columns Last (Passes test 0 from.cell) Nowhere
+    pub comes_back_to_nothing : here.cell ≤ 0 → Finds columns Last (Passes test 0 from.cell) None
     comes_back_to_nothing no_more = nothing (λ k w. way.passed k (omega arith, w.1, w.2))
 
 -- A search from the first cell is one of the whole page.
@@ -120,12 +119,8 @@ module _ (is_unprotected : ℕ → Bool) (cells first : ℕ) (is : first ≡ 0) 
   unfolding first_unprotected
   all_cells columns = let all : cells - 0 ≡ cells = omega arith in rw (is, all)
 
--- A key's two searches.
-module _ {one : Sought} (other : Sought) where
-  pub found_at_once : {place : Place} → one ≡ At place → At place ≡ or_else one other
-  unfolding or_else
-  found_at_once is = rw is
-
-  pub found_round : one ≡ Nowhere → other ≡ or_else one other
-  unfolding or_else
-  found_round is = rw is
+-- A key's two searches: what the code's `or_else` gives.
+pub found_or_else : (one other result : Option Place) {found : Option Place} {Round : Type 0} → found ≡ one → MatchOption found Round (λ place. result ≡ Some place) → (Round → result ≡ other) → result ≡ or_else one other
+unfolding or_else
+found_or_else one other result {found = None} is gives round = rw (sym is) (round gives)
+found_or_else one other result {found = Some place} is gives round = rw (sym is) gives

@@ -2,7 +2,7 @@
 // What each function gives is defined in specs/Fields.antt, specs/Searches.antt and specs/Required.antt.
 #![tactic(auto)]
 
-ghost use Rattle.std.specs.Prelude.{◌≡◌, ◌-◌, ◌*◌, ◌<◌, ◌≤◌, length};
+ghost use Rattle.std.specs.Prelude.{◌≡◌, Bool, ℕ, ◌-◌, ◌*◌, ◌<◌, ◌≤◌, length};
 ghost use Rattle.places.specs.Places.{place_of, Counted};
 ghost use Rattle.words.specs.Choice.{◌and◌};
 ghost use Rattle.words.specs.Lists.{some};
@@ -14,28 +14,15 @@ ghost use Rattle.fields.specs.Searches.{first_field, last_field, next_field, pre
 ghost use Rattle.fields.specs.Searches.{first_unprotected_from, first_unprotected, next_unprotected};
 ghost use Rattle.fields.specs.Required.{is_left_blank, some_left_blank};
 
-use page::Mark;
+use page::{Attribute, Mark};
 use places::Place;
-
-// A place that was looked for.
-#[derive(Clone, Copy)]
-pub enum Sought {
-    At(Place),
-    Nowhere,
-}
 
 // Whether the cell and the one before it belong to one field; before the first there is none.
 fn is_joined(marks: &[Mark], cell: usize) -> bool
     requires { cell < length marks.now }
     ensures { result ≡ joined (unprotected marks.now) cell }
 {
-    if cell == 0 {
-        return false;
-    }
-    if page::is_unprotected(marks, cell - 1) {
-        return page::is_unprotected(marks, cell);
-    }
-    false
+    cell != 0 && page::is_unprotected(marks, cell - 1) && page::is_unprotected(marks, cell)
 }
 
 // Whether a field starts at the cell.
@@ -43,10 +30,7 @@ pub fn starts_field(marks: &[Mark], cell: usize) -> bool
     requires { cell < length marks.now }
     ensures { result ≡ starts_field (unprotected marks.now) cell }
 {
-    if page::is_unprotected(marks, cell) {
-        return !is_joined(marks, cell);
-    }
-    false
+    page::is_unprotected(marks, cell) && !is_joined(marks, cell)
 }
 
 // The first cell of the field that has the cell.
@@ -55,6 +39,7 @@ pub fn field_start(marks: &[Mark], place: Place, columns: usize) -> Place
     requires cell_in_bounds { place.cell < length marks.now }
     ensures { result ≡ place_of columns (field_start (unprotected marks.now) place.cell) }
 {
+    // A while: what it asks is where it stops, and no number is counted.
     let mut here = place;
     while is_joined(marks, here.cell) {
         here = here.back(columns);
@@ -67,87 +52,111 @@ pub fn field_end(marks: &[Mark], cell: usize) -> usize
     requires { cell < length marks.now }
     ensures { result ≡ field_end (unprotected marks.now) (length marks.now) cell }
 {
-    let mut end = cell + 1;
     if !page::is_unprotected(marks, cell) {
-        return end;
+        return cell + 1;
     }
-    while end < marks.len() {
+    for end in cell + 1..marks.len() {
         if !page::is_unprotected(marks, end) {
             return end;
         }
-        end += 1;
     }
-    end
+    marks.len() // no protected cell comes after it
+}
+
+// The first cell at the place or after it that passes the test; the place may be one past the page.
+fn seek<F: Fn(usize) -> bool>(cells: usize, place: Place, columns: usize, test: F) -> Option<Place>
+    requires counted { Counted columns place }
+    requires on_page { (place.cell ≤ cells) × (cells ≤ 7680) }
+    requires callable { (cell : ℕ) → cell < cells → F.pre test cell }
+    ensures { (passes : ℕ → Bool) →
+        ((cell : ℕ) (answer : Bool) → cell < cells → F.post test cell answer → answer ≡ passes cell) →
+        result ≡ first_unprotected_from passes columns place.cell (cells - place.cell) }
+{
+    for here in place.onward(columns, cells) {
+        if test(here.cell) {
+            return Some(here);
+        }
+    }
+    None
 }
 
 // The first field that starts at the place or after it; the place may be one past the page.
-fn seek_field(marks: &[Mark], place: Place, columns: usize) -> Sought
+fn seek_field(marks: &[Mark], place: Place, columns: usize) -> Option<Place>
     requires counted { Counted columns place }
     requires cell_in_bounds { (place.cell ≤ length marks.now) × (length marks.now ≤ 7680) }
     ensures { result ≡ first_field columns
         (fields_from (unprotected marks.now) (length marks.now)
         place.cell (length marks.now - place.cell)) }
 {
-    let mut here = place;
-    while here.cell < marks.len() {
-        if starts_field(marks, here.cell) {
-            return Sought::At(here);
-        }
-        here = here.next(columns);
-    }
-    Sought::Nowhere
+    seek(
+        marks.len(),
+        place,
+        columns,
+        |cell| starts_field(marks, cell),
+    )
 }
 
 // The last field that starts before the place; the place may be one past the page.
-fn seek_field_back(marks: &[Mark], place: Place, columns: usize) -> Sought
+fn seek_field_back(marks: &[Mark], place: Place, columns: usize) -> Option<Place>
     requires counted { Counted columns place }
     requires cell_in_bounds { (place.cell ≤ length marks.now) × (length marks.now ≤ 7680) }
     ensures { result ≡ last_field columns
         (fields_from (unprotected marks.now) (length marks.now) 0 place.cell) }
 {
+    // A while: an iterator back over a page would serve this one search.
     let mut here = place;
     while 0 < here.cell {
         here = here.back(columns);
         if starts_field(marks, here.cell) {
-            return Sought::At(here);
+            return Some(here);
         }
     }
-    Sought::Nowhere
+    None
 }
 
 // The first unprotected cell at the place or after it; the place may be one past the page.
-fn seek_unprotected(marks: &[Mark], place: Place, columns: usize) -> Sought
+fn seek_unprotected(marks: &[Mark], place: Place, columns: usize) -> Option<Place>
     requires counted { Counted columns place }
     requires cell_in_bounds { (place.cell ≤ length marks.now) × (length marks.now ≤ 7680) }
     ensures { result ≡ first_unprotected_from (unprotected marks.now) columns
         place.cell (length marks.now - place.cell) }
 {
-    let mut here = place;
-    while here.cell < marks.len() {
-        if page::is_unprotected(marks, here.cell) {
-            return Sought::At(here);
-        }
-        here = here.next(columns);
-    }
-    Sought::Nowhere
+    seek(
+        marks.len(),
+        place,
+        columns,
+        |cell| page::is_unprotected(marks, cell),
+    )
+}
+
+// The first field of the page, and the last.
+fn first_field(marks: &[Mark], columns: usize) -> Option<Place>
+    requires { (0 < columns) × (length marks.now ≤ 7680) }
+    ensures { result ≡ first_field columns (fields_of (unprotected marks.now) (length marks.now)) }
+{
+    seek_field(marks, Place::first(columns), columns)
+}
+
+fn last_field(marks: &[Mark], rows: usize, columns: usize) -> Option<Place>
+    requires { (0 < columns) × (rows ≤ 48) × (columns ≤ 160) × (length marks.now ≡ rows * columns) }
+    ensures { result ≡ last_field columns (fields_of (unprotected marks.now) (length marks.now)) }
+{
+    seek_field_back(marks, Place::end(rows, columns), columns)
 }
 
 // Key 260: the first field that starts after the place, else the first.
-pub fn next_field(marks: &[Mark], place: Place, columns: usize) -> Sought
+pub fn next_field(marks: &[Mark], place: Place, columns: usize) -> Option<Place>
     requires counted { Counted columns place }
     requires cell_in_bounds { (place.cell < length marks.now) × (length marks.now ≤ 7680) }
     ensures { result ≡ next_field columns place.cell
         (fields_of (unprotected marks.now) (length marks.now)) }
 {
     let after = seek_field(marks, place.next(columns), columns);
-    match after {
-        Sought::At(found) => Sought::At(found),
-        Sought::Nowhere => seek_field(marks, Place::first(columns), columns),
-    }
+    after.or_else(|| first_field(marks, columns))
 }
 
 // Key 261: the last field that starts before the place, else the last.
-pub fn previous_field(marks: &[Mark], place: Place, rows: usize, columns: usize) -> Sought
+pub fn previous_field(marks: &[Mark], place: Place, rows: usize, columns: usize) -> Option<Place>
     requires counted { Counted columns place }
     requires cell_in_bounds { (place.cell < length marks.now) × (rows ≤ 48) × (columns ≤ 160) ×
         (length marks.now ≡ rows * columns) }
@@ -155,14 +164,11 @@ pub fn previous_field(marks: &[Mark], place: Place, rows: usize, columns: usize)
         (fields_of (unprotected marks.now) (length marks.now)) }
 {
     let before = seek_field_back(marks, place, columns);
-    match before {
-        Sought::At(found) => Sought::At(found),
-        Sought::Nowhere => seek_field_back(marks, Place::end(rows, columns), columns),
-    }
+    before.or_else(|| last_field(marks, rows, columns))
 }
 
 // Key 262: the first unprotected cell of the page.
-pub fn first_unprotected(marks: &[Mark], columns: usize) -> Sought
+pub fn first_unprotected(marks: &[Mark], columns: usize) -> Option<Place>
     requires { (0 < columns) × (length marks.now ≤ 7680) }
     ensures { result ≡ first_unprotected (unprotected marks.now) columns (length marks.now) }
 {
@@ -170,17 +176,14 @@ pub fn first_unprotected(marks: &[Mark], columns: usize) -> Sought
 }
 
 // Where the cursor goes after a typed character: the next unprotected cell, going round the page.
-pub fn next_unprotected(marks: &[Mark], place: Place, columns: usize) -> Sought
+pub fn next_unprotected(marks: &[Mark], place: Place, columns: usize) -> Option<Place>
     requires counted { Counted columns place }
     requires cell_in_bounds { (place.cell < length marks.now) × (length marks.now ≤ 7680) }
     ensures { result
         ≡ next_unprotected (unprotected marks.now) columns (length marks.now) place.cell }
 {
     let after = seek_unprotected(marks, place.next(columns), columns);
-    match after {
-        Sought::At(found) => Sought::At(found),
-        Sought::Nowhere => seek_unprotected(marks, Place::first(columns), columns),
-    }
+    after.or_else(|| first_unprotected(marks, columns))
 }
 
 // M-107: whether a field has a required cell and holds nothing but 20s.
@@ -189,10 +192,8 @@ fn is_left_blank(characters: &[u8], marks: &[Mark], from: usize, to: usize) -> b
     ensures { result ≡ is_left_blank
         (page_of characters.now marks.now) (record { start = from; length = to - from }) }
 {
-    if page::has_required(marks, from, to) {
-        return page::is_all_blank(characters, from, to);
-    }
-    false
+    page::some_have(marks, from, to, Attribute::Required)
+        && page::is_all_blank(characters, from, to)
 }
 
 // Whether such a field starts at the cell.
@@ -202,11 +203,7 @@ fn starts_left_blank(characters: &[u8], marks: &[Mark], cell: usize) -> bool
         and is_left_blank (page_of characters.now marks.now)
         (field_from (unprotected marks.now) (length marks.now) cell)) }
 {
-    if starts_field(marks, cell) {
-        let end = field_end(marks, cell);
-        return is_left_blank(characters, marks, cell, end);
-    }
-    false
+    starts_field(marks, cell) && is_left_blank(characters, marks, cell, field_end(marks, cell))
 }
 
 // Whether one starts at any cell.
@@ -215,14 +212,7 @@ fn seek_left_blank(characters: &[u8], marks: &[Mark]) -> bool
     ensures { result ≡ some (is_left_blank (page_of characters.now marks.now))
         (fields_of (unprotected marks.now) (length marks.now)) }
 {
-    let mut cell = 0;
-    while cell < marks.len() {
-        if starts_left_blank(characters, marks, cell) {
-            return true;
-        }
-        cell += 1;
-    }
-    false
+    (0..marks.len()).any(|cell| starts_left_blank(characters, marks, cell))
 }
 
 // Whether the page has such a field.
@@ -230,8 +220,6 @@ pub fn has_left_blank(characters: &[u8], marks: &[Mark]) -> bool
     requires { length characters.now ≡ length marks.now }
     ensures { result ≡ some_left_blank (page_of characters.now marks.now) }
 {
-    if page::has_required(marks, 0, marks.len()) {
-        return seek_left_blank(characters, marks);
-    }
-    false
+    page::some_have(marks, 0, marks.len(), Attribute::Required)
+        && seek_left_blank(characters, marks)
 }

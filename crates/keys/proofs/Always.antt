@@ -16,8 +16,8 @@ use Rattle.page.specs.Marks.{has_bit}
 use Rattle.page.specs.Page.{Page, typed, part_stored}
 use Rattle.page.proofs.Keeping.{KeepsPart, blanked_keeps, closed_up_keeps, moved_right_keeps}
 use Rattle.page.proofs.Protecting.{typed_bit, untagged, tagged_bit, cleared_marks_bit, protected_uncleared}
-use Rattle.fields.specs.declared.Sought.{Sought}
-use Rattle.fields.specs.declared.Sought.TheVariants.{At, Nowhere}
+use Rattle.places.specs.declared.Place.{Place}
+use Rattle.std.specs.Prelude.{Option, Some, None}
 use Rattle.fields.specs.Required.{some_left_blank}
 use Rattle.fields.proofs.Claims.{UnprotectedAround}
 use Rattle.fields.proofs.Theorems.{unprotected_around}
@@ -34,15 +34,15 @@ use Rattle.keys.proofs.Claims.{KeyStores, no_cell, typed_cell, whole_field, rest
 use Rattle.steps.specs.Claims.{ProtectedKept}
 
 -- A move to what was found leaves the locks, pen and modes.
-gone_keeps_locks : (sought : Sought) (s : State) → (gone_to sought s).locks ≡ s.locks
+gone_keeps_locks : (sought : Option Place) (s : State) → (gone_to sought s).locks ≡ s.locks
 unfolding gone_to
-gone_keeps_locks (At place) s = refl
-gone_keeps_locks Nowhere s = refl
+gone_keeps_locks (Some place) s = refl
+gone_keeps_locks None s = refl
 
-gone_keeps_modes : (sought : Sought) (s : State) → (gone_to sought s).modes ≡ s.modes
+gone_keeps_modes : (sought : Option Place) (s : State) → (gone_to sought s).modes ≡ s.modes
 unfolding gone_to
-gone_keeps_modes (At place) s = refl
-gone_keeps_modes Nowhere s = refl
+gone_keeps_modes (Some place) s = refl
+gone_keeps_modes None s = refl
 
 -- The cursor's field, in any state.
 pub field_unprotected : (t : Terminal) → unprotected_at t (cursor_cell t.state) ≡ true → UnprotectedAround (unprotected_at t) (cells_here t) (cursor_cell t.state)
@@ -72,7 +72,7 @@ module _ (key : ℕ) (t : Terminal) where
   goes : (s : State) → ((key ≡ 268 → ⊥) → s.locks ≡ t.state.locks) → s.modes ≡ t.state.modes → Always (goes_to s t)
   goes s locks modes = puts s t.page no_cell locks modes (λ cell p. record { character = λ _. refl; mark = refl }) (λ k other cell. refl)
 
-  goes_to_lem : (sought : Sought) → Always (goes_to (gone_to sought t.state) t)
+  goes_to_lem : (sought : Option Place) → Always (goes_to (gone_to sought t.state) t)
   goes_to_lem sought = goes (gone_to sought t.state) (λ _. gone_keeps_locks sought t.state) (gone_keeps_modes sought t.state)
 
   stays : Always (goes_to t.state t)

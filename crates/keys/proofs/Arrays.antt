@@ -4,8 +4,8 @@ use mathlib.Core.List.{List}
 use Prim.Native.Nat.{ℕ}
 use Rattle.words.specs.Choice.{If◌then◌else◌}
 use Rattle.words.proofs.Choosing.{either_line}
-use Rattle.fields.specs.declared.Sought.{Sought}
-use Rattle.fields.specs.declared.Sought.TheVariants.{At, Nowhere}
+use Rattle.places.specs.declared.Place.{Place}
+use Rattle.std.specs.Prelude.{Option, Some, None}
 use Rattle.state.specs.State.{Arrays, unlocked}
 use Rattle.state.specs.Moves.{up_by, down_by, right_by, left_by}
 use Rattle.state.proofs.Arrays.{cursor_keeps_arrays, locks_keep_arrays}
@@ -20,10 +20,10 @@ line : (test : Bool) (a b : Stepped) → Keeps a → Keeps b → Keeps (If test 
 line test a b first rest = either_line Keeps test a b (λ _. first) (λ _. rest)
 
 module _ (t : Terminal) (has : Arrays t.state) where
-  gone_keeps : (sought : Sought) → Arrays (gone_to sought t.state)
+  gone_keeps : (sought : Option Place) → Arrays (gone_to sought t.state)
   unfolding gone_to
-  gone_keeps (At place) = cursor_keeps_arrays t.state has _
-  gone_keeps Nowhere = has
+  gone_keeps (Some place) = cursor_keeps_arrays t.state has _
+  gone_keeps None = has
 
   shifted_keeps : (change : List ℕ → List ℕ) → Keeps (rest_shifted change t)
   unfolding rest_shifted

@@ -13,7 +13,8 @@ use Rattle.page.proofs.Keeping.{KeepsPart, blanked_keeps, closed_up_keeps, moved
 use Rattle.page.proofs.Protecting.{typed_modified, tagged_modified}
 use Rattle.places.specs.Places.{place_of}
 use Rattle.places.proofs.Counting.{counted, on_rows}
-use Rattle.fields.specs.declared.Sought.{Sought}
+use Rattle.places.specs.declared.Place.{Place}
+use Rattle.std.specs.Prelude.{Option}
 use Rattle.fields.proofs.Claims.{Lands, on_cell, not_found}
 use Rattle.fields.proofs.Bounds.{end_of_lem}
 use Rattle.fields.proofs.Searching.{either_lands}
@@ -60,7 +61,7 @@ module _ (t : Terminal) (valid : Valid t) where
   stays : KeepsValid t.state t.state
   stays = record { size = refl; valid = valid.state }
 
-  gone_keeps_valid : {sought : Sought} → Lands t.state.size.columns (cells_here t) sought → KeepsValid t.state (gone_to sought t.state)
+  gone_keeps_valid : {sought : Option Place} → Lands t.state.size.columns (cells_here t) sought → KeepsValid t.state (gone_to sought t.state)
   unfolding gone_to place_of
   gone_keeps_valid (on_cell cell here) =
       let known = size in
@@ -72,7 +73,7 @@ module _ (t : Terminal) (valid : Valid t) where
   goes : (s : State) → KeepsValid t.state s → Holds (goes_to s t)
   goes s keeps = (goes_soundly t valid s keeps, λ cell named. absurd (Memᴰ.not-nil named))
 
-  goes_to_lem : {sought : Sought} → Lands t.state.size.columns (cells_here t) sought → Holds (goes_to (gone_to sought t.state) t)
+  goes_to_lem : {sought : Option Place} → Lands t.state.size.columns (cells_here t) sought → Holds (goes_to (gone_to sought t.state) t)
   goes_to_lem {sought} lands = goes (gone_to sought t.state) (gone_keeps_valid lands)
 
   clears : (full : Bool) → Holds (send_block full t)

@@ -5,8 +5,8 @@ use Rattle.std.specs.Prelude.{Bool, true, false, not, List, [], ◌∷◌, ℕ, 
 use Rattle.words.specs.Choice.{If◌then◌else◌, ◌and◌, ◌or◌, ◌is◌to◌}
 use Rattle.words.specs.Lists.{numbers_from}
 use Rattle.page.specs.Page.{typed, takes_from_right, takes_from_left, blanked, closed_up, moved_right, part_stored}
-use Rattle.fields.specs.declared.Sought.{Sought}
-use Rattle.fields.specs.declared.Sought.TheVariants.{At, Nowhere}
+use Rattle.places.specs.declared.Place.{Place}
+use Rattle.std.specs.Prelude.{Option, Some, None}
 use Rattle.fields.specs.Fields.{Field}
 use Rattle.fields.specs.Searches.{or_else}
 use Rattle.fields.specs.Required.{some_left_blank}
@@ -69,9 +69,9 @@ unfoldable pub is_held_back : ℕ → Terminal → Bool
 is_held_back key t = eqb key 266 and some_left_blank (seen t)
 
 -- The cursor goes to what was found, and stays where nothing was.
-unfoldable pub gone_to : Sought → State → State
-gone_to (At place) s = with_cursor s (cursor_at place.row place.column)
-gone_to Nowhere s = s
+unfoldable pub gone_to : Option Place → State → State
+gone_to (Some place) s = with_cursor s (cursor_at place.row place.column)
+gone_to None s = s
 
 -- The cells from `from` to before `end`.
 abbrev pub cells_from : ℕ → ℕ → List ℕ
@@ -100,14 +100,14 @@ to_previous_field t = goes_to (gone_to (previous_field_here t) t.state) t
 
 unfoldable pub to_first_unprotected : Terminal → Stepped
 to_first_unprotected t =
-    goes_to (gone_to (or_else (first_unprotected_here t) (At (place_here t 0))) t.state) t
+    goes_to (gone_to (or_else (first_unprotected_here t) (Some (place_here t 0))) t.state) t
 
 -- 263: the cursor's field becomes 20s, and the cursor goes to its start.
 unfoldable pub field_blanked : Terminal → Stepped
 field_blanked t =
     if_unprotected t
     (stores (cells_from (start_here t) (end_here t)) false
-    (gone_to (At (place_here t (start_here t))) t.state)
+    (gone_to (Some (place_here t (start_here t))) t.state)
     (part_stored blanked (start_here t) (end_here t) t.page))
 
 -- 264 and 265: the rest of the field from the cursor on; the cursor stays.

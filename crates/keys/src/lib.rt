@@ -11,8 +11,8 @@ ghost use Rattle.keys.specs.Keys.{no_field, lacks_cell, carried, is_not_taken, i
 ghost use Rattle.keys.specs.Keys.{to_next_field, to_previous_field, to_first_unprotected};
 ghost use Rattle.keys.specs.Keys.{field_blanked, rest_shifted, taken_step, key_step};
 
-use fields::Sought;
 use page::Mark;
+use places::Place;
 use state::State;
 use steps::Step;
 
@@ -180,12 +180,12 @@ pub fn is_held_back(key: usize, state: State, characters: &[u8], marks: &[Mark])
     false
 }
 
-fn gone_to(sought: Sought, state: State) -> State
+fn gone_to(sought: Option<Place>, state: State) -> State
     ensures { result ≡ gone_to sought state }
 {
     match sought {
-        Sought::At(place) => state.moved_to(place.row, place.column),
-        Sought::Nowhere => state,
+        Some(place) => state.moved_to(place.row, place.column),
+        None => state,
     }
 }
 
@@ -230,8 +230,8 @@ fn to_first_unprotected(state: State, characters: &[u8], marks: &[Mark]) -> Step
 {
     let sought = fields::first_unprotected(marks, state.size.columns);
     match sought {
-        Sought::At(place) => steps::quiet(state.moved_to(place.row, place.column)),
-        Sought::Nowhere => steps::quiet(state.moved_to(1, 1)),
+        Some(place) => steps::quiet(state.moved_to(place.row, place.column)),
+        None => steps::quiet(state.moved_to(1, 1)),
     }
 }
 

@@ -1,12 +1,17 @@
 -- Laws of hexadecimal, for the loops that read and write it, and of the five digits as they are counted off.
 use mathlib.Core.Path.{◌≡◌, refl, sym, ap, ◌∙◌}
-use mathlib.Core.Bool.{true}
+use mathlib.Core.Bool.{true, ◌&&◌, ◌||◌}
 use mathlib.Core.List.{List, [], ◌∷◌, ◌++◌}
 use mathlib.Core.Logic.{⊎_elim}
 use Prim.Native.Nat.{ℕ, ◌+◌, ◌-◌, ◌*◌, ◌/◌, ◌%◌, ◌<◌, ◌≤◌}
 use native.Mathlib.Omega.{arith}
+use lib.Dec.{leb}
 use lib.ListN.{length, take, drop, get_or, length-drop}
 use lib.Seq.{get_or-append-add, get_or-drop, get_or-take}
+use Rattle.std.specs.List.{list_all}
+use Rattle.std.proofs.lemmas.Bool.Decides.{nat_tests}
+use Rattle.words.specs.Choice.{◌is◌to◌, ◌and◌, ◌or◌}
+use Rattle.words.specs.Lists.{every}
 use Rattle.words.specs.Output.{placed, Wrote}
 use Rattle.words.proofs.Choosing.{one_holds, range_holds}
 use Rattle.words.proofs.Walking.{next_element}
@@ -23,11 +28,24 @@ pub record Digit (digit : ℕ) : Type 0 where
 
 pub is_digit_lem : (digit : ℕ) → is_digit digit ≡ true → Digit digit
 unfolding is_digit
-is_digit_lem digit is =
+is_digit_lem digit told =
     ⊎_elim
     (λ p. let r = range_holds digit 0x30 0x39 p in record { least = r.0; letter = λ h. omega (arith, r.1); most = omega (arith, r.1) })
     (λ p. let r = range_holds digit 0x41 0x46 p in record { least = omega (arith, r.0); letter = λ h. r.0; most = r.1 })
-    (one_holds is)
+    (one_holds told)
+
+-- The same in the library's words.
+pub digit_ranges : (digit : ℕ) → is_digit digit ≡ (leb 0x30 digit && leb digit 0x39 || leb 0x41 digit && leb digit 0x46)
+unfolding is_digit ◌is◌to◌ ◌or◌ ◌and◌
+digit_ranges digit = grind (arith, nat_tests)
+
+pub ruleset digit_tests = (digit_ranges, nat_tests)
+
+-- The library's test of every element.
+pub library_every : (list : List ℕ) → list_all is_digit list ≡ every is_digit list
+unfolding every ◌and◌
+library_every [] = refl
+library_every (digit ∷ list) = rw (library_every list)
 
 -- Each byte has two digits.
 pub hex_length : (bytes : List ℕ) → length (hex_of bytes) ≡ 2 * length bytes

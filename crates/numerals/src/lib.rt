@@ -10,22 +10,11 @@ ghost use Rattle.numerals.specs.Hexadecimal.{is_digit, digit_value, digit_of, is
 ghost use Rattle.numerals.specs.Hexadecimal.{hex_byte, hex_of, hex_pair, hex_pairs, pairs_of};
 ghost use Rattle.numerals.specs.Text.{five_digits};
 
+#[tactic(auto, using(crate::proofs::Digits::digit_tests))]
 fn is_digit(byte: u8) -> bool
     ensures { result ≡ is_digit byte }
 {
-    if byte < b'0' {
-        return false;
-    }
-    if byte <= b'9' {
-        return true;
-    }
-    if byte < b'A' {
-        return false;
-    }
-    if byte <= b'F' {
-        return true;
-    }
-    false
+    matches!(byte, b'0'..=b'9' | b'A'..=b'F')
 }
 
 fn value_of(digit: u8) -> u8
@@ -54,17 +43,7 @@ fn digit_of(value: u8) -> u8
 pub fn is_hexadecimal(text: &[u8]) -> bool
     ensures { result ≡ is_hexadecimal text.now }
 {
-    if text.len() % 2 != 0 {
-        return false;
-    }
-    let mut i = 0;
-    while i < text.len() {
-        if !is_digit(text[i]) {
-            return false;
-        }
-        i += 1;
-    }
-    true
+    text.len() % 2 == 0 && text.iter().all(|digit| is_digit(*digit))
 }
 
 // The bytes that digits say, left in their place: a byte never stands past the digits still to be read.
@@ -73,16 +52,12 @@ pub fn decode(text: &mut [u8], digits: usize) -> usize
     requires text_value { every is_digit (take digits text.old) ≡ true }
     ensures { Wrote 0 (pairs_of (take digits text.old)) text.old result text.new }
 {
-    let mut count = 0;
-    let mut i = 0;
-    while i + 1 < digits {
-        let high = value_of(text[i]);
-        let low = value_of(text[i + 1]);
-        text[count] = high * 16 + low;
-        count += 1;
-        i += 2;
+    for i in 0..digits / 2 {
+        let high = value_of(text[2 * i]);
+        let low = value_of(text[2 * i + 1]);
+        text[i] = high * 16 + low;
     }
-    count
+    digits / 2
 }
 
 // A byte as its two digits, the high one first.
@@ -102,10 +77,8 @@ pub fn put_hex(text: &mut [u8], at: usize, bytes: &[u8]) -> usize
     ensures { Wrote at (hex_of bytes.now) text.old result text.new }
 {
     let mut next = at;
-    let mut i = 0;
-    while i < bytes.len() {
-        next = put_hex_byte(text, next, bytes[i]);
-        i += 1;
+    for byte in bytes {
+        next = put_hex_byte(text, next, *byte);
     }
     next
 }
@@ -115,8 +88,7 @@ pub fn put_hex_pair(text: &mut [u8], at: usize, number: u16) -> usize
     requires { at + 4 ≤ length text.old }
     ensures { Wrote at (hex_pair number) text.old result text.new }
 {
-    let next = put_hex_byte(text, at, (number / 256) as u8);
-    put_hex_byte(text, next, (number % 256) as u8)
+    put_hex(text, at, &number.to_be_bytes())
 }
 
 // Four digits for each number.
@@ -125,10 +97,8 @@ pub fn put_hex_pairs(text: &mut [u8], at: usize, numbers: &[u16]) -> usize
     ensures { Wrote at (hex_pairs numbers.now) text.old result text.new }
 {
     let mut next = at;
-    let mut i = 0;
-    while i < numbers.len() {
-        next = put_hex_pair(text, next, numbers[i]);
-        i += 1;
+    for number in numbers {
+        next = put_hex_pair(text, next, *number);
     }
     next
 }

@@ -5,6 +5,10 @@ ghost use Rattle.std.specs.Prelude.{◌≡◌, [], ◌∷◌, ◌+◌, ◌*◌, 
 ghost use Rattle.words.specs.Output.{Wrote};
 ghost use Rattle.output.specs.Decimal.{decimal, place_bytes};
 
+// What is to be written doesn't fit into the room that is left, and nothing was written.
+#[derive(Clone, Copy, Debug, PartialEq, Eq)]
+pub struct NoRoom;
+
 // How often a unit goes into a number, and what is left.
 #[derive(Clone, Copy)]
 pub struct CountedOff {
@@ -20,9 +24,7 @@ pub fn count_off(number: usize, unit: usize) -> CountedOff
 {
     let mut times = 0;
     let mut left = number;
-    let mut turns: usize = 9;
-    while 0 < turns {
-        turns -= 1;
+    for _ in 0..9usize {
         if unit <= left {
             left -= unit;
             times += 1;
@@ -44,7 +46,7 @@ pub fn decimal_length(number: usize) -> usize
     3
 }
 
-// The one function that writes a byte of the output.
+// One byte.
 pub fn put_byte(out: &mut [u8], at: usize, byte: u8) -> usize
     requires { at < length out.old }
     ensures { Wrote at (byte ∷ []) out.old result out.new }
@@ -58,12 +60,8 @@ pub fn put_all(out: &mut [u8], at: usize, bytes: &[u8]) -> usize
     requires { at + length bytes.now ≤ length out.old }
     ensures { Wrote at bytes.now out.old result out.new }
 {
-    let mut next = at;
-    let mut i = 0;
-    while i < bytes.len() {
-        next = put_byte(out, next, bytes[i]);
-        i += 1;
-    }
+    let next = at + bytes.len();
+    out[at..next].copy_from_slice(bytes);
     next
 }
 

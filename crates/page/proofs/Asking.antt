@@ -1,5 +1,5 @@
 -- Loops and chains that ask every element of a list, or of a part of it, in the terms of the code.
-use mathlib.Core.Path.{◌≡◌, refl, sym, ap, ◌∙◌}
+use mathlib.Core.Path.{◌≡◌, refl}
 use mathlib.Core.Bool.{Bool, true, false, ◌&&◌, ◌||◌}
 use mathlib.Core.List.{List}
 use Prim.Native.Nat.{ℕ, zero, suc, ◌+◌, ◌<◌, ◌≤◌}
@@ -60,7 +60,7 @@ module _ (test : ℕ → Bool) (list : List ℕ) where
       same false b = refl
 
 -- The same of the pairs of two parts.
-pub pairs_take : (test : ℕ → Bool) (marks characters : List ℕ) (a b from n : ℕ) → ((k : ℕ) → test k ≡ takes (get_or marks (k + a) 0) (get_or characters (k + b) 0)) → from + a + n ≤ length marks → from + b + n ≤ length characters → list_all (λ (p : ℕ × ℕ). takes p.0 p.1) (zip (take n (drop (from + a) marks)) (take n (drop (from + b) characters))) ≡ all_from test from n
+pairs_take : (test : ℕ → Bool) (marks characters : List ℕ) (a b from n : ℕ) → ((k : ℕ) → test k ≡ takes (get_or marks (k + a) 0) (get_or characters (k + b) 0)) → from + a + n ≤ length marks → from + b + n ≤ length characters → list_all (λ (p : ℕ × ℕ). takes p.0 p.1) (zip (take n (drop (from + a) marks)) (take n (drop (from + b) characters))) ≡ all_from test from n
 unfolding all_from ◌and◌
 pairs_take test marks characters a b from zero same h l = refl
 pairs_take test marks characters a b from (suc n) same h l =
@@ -72,3 +72,6 @@ pairs_take test marks characters a b from (suc n) same h l =
     also_so : (a b : Bool) → (a && b) ≡ (a and b)
     also_so true b = refl
     also_so false b = refl
+
+pub parts_take : (test : ℕ → Bool) (marks characters : List ℕ) (a b from n : ℕ) → ((k : ℕ) → test k ≡ takes (get_or marks (k + a) 0) (get_or characters (k + b) 0)) → from + a + n ≤ length marks → from + b + n ≤ length characters → (i j m k : ℕ) → i ≡ from + a → j ≡ from + b → m ≡ n → k ≡ n → list_all (λ (p : ℕ × ℕ). takes p.0 p.1) (zip (take m (drop i marks)) (take k (drop j characters))) ≡ all_from test from n
+parts_take test marks characters a b from n same h l i j m k p q r s = rw (p, q, r, s) (pairs_take test marks characters a b from n same h l)

@@ -1,5 +1,5 @@
 -- What the loops over the page, and the calls after one another, leave.
-use mathlib.Core.Path.{◌≡◌, refl, sym, ap, ◌∙◌}
+use mathlib.Core.Path.{◌≡◌, ap, ◌∙◌}
 use mathlib.Core.Bool.{Bool, true, false}
 use mathlib.Core.List.{List, [], ◌∷◌, ◌++◌, append-nil}
 use Prim.Native.Nat.{ℕ, suc, ◌+◌, ◌-◌, ◌<◌, ◌≤◌}
@@ -10,12 +10,12 @@ use lib.ListN.{length, take, drop, get_or, set, replicate, length-append, length
 use lib.Seq.{drop-cons, drop-drop, set_at, take_all, take_at, drop_at, length-take-le}
 use borrow.Rule.Slice.PartMut.{put_mid}
 use Rattle.std.specs.List.{copy_within}
-use Rattle.words.specs.Choice.{If◌then◌else◌, ◌and◌, ◌or◌}
-use Rattle.words.specs.Lists.{within, each, on_part}
+use Rattle.words.specs.Choice.{If◌then◌else◌, ◌and◌}
+use Rattle.words.specs.Lists.{within, on_part}
 use Rattle.words.proofs.Choosing.{then_case, else_case, both_hold, first_fails, second_fails}
-use Rattle.words.proofs.Writing.{pushed, each_last, each_first, inside, before_range, after_range}
+use Rattle.words.proofs.Writing.{inside, before_range, after_range}
 use Rattle.page.specs.Marks.{unprotected}
-use Rattle.page.specs.Page.{Page, page_of, cells, closed_up, moved_right, erasable, erased, scrolled_up, scrolled_down, pulled_up, pushed_down, tagged, part_stored, mark_after_block}
+use Rattle.page.specs.Page.{Page, page_of, closed_up, moved_right, erasable, tagged, part_stored, mark_after_block}
 
 -- All but the first n elements copied to the front of a list, and all but the last n to its back.
 module _ (list : List ℕ) (n at : ℕ) (sum : at + n ≡ length list) where

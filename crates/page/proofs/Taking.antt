@@ -1,5 +1,5 @@
 -- What a numeric and an alphabetic cell take, in the library's words: for the tactic of the functions that match on it.
-use mathlib.Core.Path.{◌≡◌, refl}
+use mathlib.Core.Path.{◌≡◌}
 use mathlib.Core.Bool.{◌||◌, ◌&&◌}
 use Prim.Native.Nat.{ℕ}
 use lib.Dec.{eqb, leb}

@@ -3,8 +3,10 @@ use Rattle.std.specs.Prelude.{Bool, List, [], ◌∷◌, ◌++◌, length, take,
 use Rattle.std.specs.Prelude.{◌≡◌, ℕ, ◌+◌, ◌-◌, eqb}
 use Rattle.words.specs.Choice.{If◌then◌else◌, ◌and◌, ◌or◌}
 use Rattle.words.specs.Lists.{within, every, all_from, some_from, each, numbers_from, on_part}
+use Rattle.page.specs.declared.Attribute.{Attribute}
+use Rattle.page.specs.declared.Attribute.TheVariants.{Required}
 use Rattle.page.specs.Marks.{is_protected, with_modified, without_modified, valid_character, valid_mark}
-use Rattle.page.specs.Marks.{is_required, takes, unprotected}
+use Rattle.page.specs.Marks.{has_attribute, takes, unprotected}
 
 -- The two lent slices. A cell's number is its place in them, counted from 0.
 pub record Page : Type 0 where
@@ -71,21 +73,6 @@ scrolled_down columns page =
       marks = replicate columns 0 ++ take (cells page - columns) page.marks;
     }
 
--- A scroll without the new row: the last row, or the first, stays as it is. (Steps on the way to the two above.)
-abbrev pub pulled_up : ℕ → Page → Page
-pulled_up columns page =
-    record {
-      characters = drop columns page.characters ++ drop (length page.characters - columns) page.characters;
-      marks = drop columns page.marks ++ drop (length page.marks - columns) page.marks;
-    }
-
-abbrev pub pushed_down : ℕ → Page → Page
-pushed_down columns page =
-    record {
-      characters = take columns page.characters ++ take (length page.characters - columns) page.characters;
-      marks = take columns page.marks ++ take (length page.marks - columns) page.marks;
-    }
-
 -- "Fields, keys and blocks", 263 to 265: each cell stored, from `from` to before `to`, becomes modified.
 unfoldable pub tagged : ℕ → ℕ → List ℕ → List ℕ
 tagged from to marks = each (λ cell mark. If within from to cell then with_modified mark else mark) marks
@@ -117,9 +104,13 @@ unfoldable pub takes_from_left : Page → ℕ → ℕ → Bool
 takes_from_left page cell n =
     all_from (λ here. takes (get_or page.marks (here + 1) 0) (get_or page.characters here 0)) cell n
 
--- M-107: whether one of the n cells from `cell` on is required, and whether they hold nothing but 20s.
+-- Whether one of the n cells from `cell` on has an attribute; M-107: whether one is required, and whether they hold
+-- nothing but 20s.
+abbrev pub some_have : Attribute → List ℕ → ℕ → ℕ → Bool
+some_have attribute marks = some_from (λ cell. has_attribute attribute (get_or marks cell 0))
+
 abbrev pub some_required : List ℕ → ℕ → ℕ → Bool
-some_required marks = some_from (λ cell. is_required (get_or marks cell 0))
+some_required = some_have Required
 
 abbrev pub all_blank : List ℕ → ℕ → ℕ → Bool
 all_blank characters = all_from (λ cell. eqb (get_or characters cell 0) 0x20)

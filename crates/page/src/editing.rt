@@ -1,5 +1,7 @@
 // Keys 263 to 265: a part of the characters changed, and its cells modified.
-ghost use Rattle.std.specs.Prelude.{◌≡◌, ◌<◌, ◌≤◌, length};
+ghost use Rattle.std.specs.Prelude.{◌≡◌, List, ℕ, ◌-◌, ◌<◌, ◌≤◌, length, slice_range};
+ghost use Rattle.std.specs.Borrow.{MutBor};
+ghost use Rattle.std.specs.Fn.{FnOnceReturnsAtMut};
 ghost use Rattle.page.specs.Page.{page_of, tagged, blanked, closed_up, moved_right, part_stored};
 
 use crate::Attribute;
@@ -43,14 +45,35 @@ fn move_right(part: &mut [u8])
     part[0] = 0x20;
 }
 
+// A change of the characters from `from` to before `to`, and these cells modified.
+fn store_part<F: FnOnce(&mut [u8])>(
+    characters: &mut [u8],
+    marks: &mut [Mark],
+    from: usize,
+    to: usize,
+    change: F,
+)
+    ghost changed: { List ℕ → List ℕ }
+    requires part { (from ≤ to) × (to ≤ length characters.old) × (length marks.old ≡ length characters.old) }
+    requires takes { (part : MutBor (List ℕ)) → part.now ≡ slice_range characters.old from to →
+        length part.now ≡ to - from → F.pre change part }
+    requires changes { (left : List ℕ) →
+        FnOnceReturnsAtMut F.FnOnce change (slice_range characters.old from to) tt left →
+        left ≡ changed (slice_range characters.old from to) }
+    ensures { page_of characters.new marks.new
+        ≡ part_stored changed from to (page_of characters.old marks.old) }
+{
+    change(&mut characters[from..to]);
+    tag(marks, from, to);
+}
+
 // Key 263: the cells from `from` to before `to` become 20s.
 pub fn blank_cells(characters: &mut [u8], marks: &mut [Mark], from: usize, to: usize)
     requires { (from ≤ to) × (to ≤ length characters.old) × (length marks.old ≡ length characters.old) }
     ensures { page_of characters.new marks.new
         ≡ part_stored blanked from to (page_of characters.old marks.old) }
 {
-    blank(&mut characters[from..to]);
-    tag(marks, from, to);
+    store_part(characters, marks, from, to, blank);
 }
 
 // Key 264: the characters from `from` to before `to` close up.
@@ -59,8 +82,7 @@ pub fn delete_character(characters: &mut [u8], marks: &mut [Mark], from: usize, 
     ensures { page_of characters.new marks.new
         ≡ part_stored closed_up from to (page_of characters.old marks.old) }
 {
-    close_up(&mut characters[from..to]);
-    tag(marks, from, to);
+    store_part(characters, marks, from, to, close_up);
 }
 
 // Key 265: a 20 at `from`, and the characters before `to` move right.
@@ -69,6 +91,5 @@ pub fn insert_blank(characters: &mut [u8], marks: &mut [Mark], from: usize, to: 
     ensures { page_of characters.new marks.new
         ≡ part_stored moved_right from to (page_of characters.old marks.old) }
 {
-    move_right(&mut characters[from..to]);
-    tag(marks, from, to);
+    store_part(characters, marks, from, to, move_right);
 }

@@ -37,6 +37,5 @@ pub use marks::{
 pub use scrolling::{scroll_down, scroll_up};
 pub use storing::{clear_modified, store_text, store_typed};
 pub use tests::{
-    both, has_required, is_all_blank, is_all_protected, is_valid_page, take_from_left,
-    take_from_right,
+    is_all_blank, is_all_protected, is_valid_page, some_have, take_from_left, take_from_right,
 };

@@ -90,7 +90,7 @@ pub fn takes(mark: Mark, character: u8) -> bool
     true
 }
 
-// The one function that reads a mark: nothing else indexes the marks.
+// The one function that reads a mark by the number of its cell.
 pub fn mark_at(marks: &[Mark], cell: usize) -> Mark
     requires { cell < length marks.now }
     ensures { result ≡ get_or marks.now cell 0 }
@@ -98,7 +98,7 @@ pub fn mark_at(marks: &[Mark], cell: usize) -> Mark
     marks[cell]
 }
 
-// The one function that writes a mark.
+// The one function that writes one so.
 pub fn set_mark(marks: &mut [Mark], cell: usize, mark: Mark)
     requires { cell < length marks.old }
     ensures { marks.new ≡ set marks.old cell mark }

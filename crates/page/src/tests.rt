@@ -1,10 +1,9 @@
 // What a lent page may have, and no other; see specs/Page.antt, valid_page.
 ghost use Rattle.std.specs.Prelude.{◌≡◌, ◌-◌, ◌<◌, ◌≤◌, length};
 ghost use Rattle.std.specs.List.{list_all, zip};
-ghost use Rattle.words.specs.Choice.{◌and◌};
 ghost use Rattle.words.specs.Lists.{every};
 ghost use Rattle.page.specs.Marks.{is_protected, valid_character, valid_mark, takes};
-ghost use Rattle.page.specs.Page.{page_of, valid_page, takes_from_right, takes_from_left, some_required, all_blank};
+ghost use Rattle.page.specs.Page.{page_of, valid_page, takes_from_right, takes_from_left, some_have, all_blank};
 
 use crate::Attribute;
 use crate::marks::{Mark, has_attribute, is_valid_mark, takes};
@@ -30,16 +29,6 @@ fn marks_are_valid(marks: &[Mark]) -> bool
         all &= is_valid_mark(*mark);
     }
     all
-}
-
-// Both tests hold. A loop that asks by it goes on to the end, as the two above do.
-pub fn both(one: bool, other: bool) -> bool
-    ensures { result ≡ (one and other) }
-{
-    if one {
-        return other;
-    }
-    false
 }
 
 // Whether no cell is unprotected: then there is no field.
@@ -81,14 +70,14 @@ pub fn take_from_left(characters: &[u8], marks: &[Mark], from: usize, to: usize)
     all_take(&marks[from + 1..to], &characters[from..to - 1])
 }
 
-// M-107: whether one of the cells from `from` to before `to` is required.
-pub fn has_required(marks: &[Mark], from: usize, to: usize) -> bool
+// Whether one of the cells from `from` to before `to` is modified, required (M-107), ..
+pub fn some_have(marks: &[Mark], from: usize, to: usize, attribute: Attribute) -> bool
     requires { (from ≤ to) × (to ≤ length marks.now) }
-    ensures { result ≡ some_required marks.now from (to - from) }
+    ensures { result ≡ some_have attribute marks.now from (to - from) }
 {
     marks[from..to]
         .iter()
-        .any(|mark| has_attribute(*mark, Attribute::Required))
+        .any(|mark| has_attribute(*mark, attribute))
 }
 
 // Whether they hold nothing but 20s.

@@ -2,7 +2,8 @@
 #![tactic(auto)]
 
 ghost use Rattle.std.specs.Prelude.{◌≡◌, ◌+◌, ◌-◌, ◌*◌, ◌<◌, ◌≤◌};
-ghost use Rattle.places.specs.Places.{place_of, cell_at, Counted};
+ghost use Rattle.std.specs.Iterator.{at_most};
+ghost use Rattle.places.specs.Places.{place_of, cell_at, Counted, GivesNext};
 
 #[derive(Clone, Copy)]
 pub struct Place {
@@ -85,5 +86,42 @@ impl Place {
             row: self.row - 1,
             column: columns,
         }
+    }
+    // This place and those after it, in page order, on a page of so many columns and cells.
+    pub fn onward(self, columns: usize, cells: usize) -> Walk
+        ensures { result ≡ record { here = self; columns = columns; cells = cells } }
+    {
+        Walk {
+            here: self,
+            columns,
+            cells,
+        }
+    }
+}
+
+// The places of a page from one on.
+#[derive(Clone, Copy, Drop)]
+pub struct Walk {
+    here: Place,
+    columns: usize,
+    cells: usize,
+}
+
+impl Iterator for Walk {
+    type Item = Place;
+
+    ghost can_next = { λ walk. Counted walk.columns walk.here × (walk.cells ≤ 7680) };
+
+    ghost next_gives = { GivesNext };
+
+    ghost remaining = { λ walk. at_most (walk.cells - walk.here.cell) };
+
+    fn next(&mut self) -> Option<Place> {
+        if self.cells <= self.here.cell {
+            return None;
+        }
+        let here = self.here;
+        self.here = here.next(self.columns);
+        Some(here)
     }
 }

@@ -1,5 +1,6 @@
 pub mod Lengths
 pub mod Reading
+pub mod Made
 pub mod Comparing
 pub mod RoundTrip
 pub mod Theorems

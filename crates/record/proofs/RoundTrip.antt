@@ -7,6 +7,7 @@ use native.Mathlib.Nat.{add_comm, zero-mul, suc-mul}
 use native.Mathlib.Omega.{arith}
 use lib.ListN.{length, get_or, length-append}
 use lib.Seq.{get_or-append_seam}
+use Rattle.std.specs.Int.{from_bool}
 use Rattle.words.specs.Choice.{If◌then◌else◌}
 use Rattle.record.specs.Bytes.{number_bytes, number_at, AreBytes, flag_byte, flag_bytes, flag_at, read_each}
 use Rattle.record.proofs.Reading.{whole_read, split_read}
@@ -29,6 +30,12 @@ number_back (suc width) n fits before after =
     let smaller : n / 256 < many width = omega arith in
     let later : number_at width (before ++ (low ∷ rest)) (length before + 1) ≡ n / 256 = rw (regrouped, longer) at (number_back width (n / 256) smaller (before ++ (low ∷ [])) after) in
     (λ i. here i + 256 * later i) ∙ omega arith
+
+-- The library's byte of a flag.
+pub flag_is : (flag : Bool) → from_bool flag ≡ flag_byte flag
+unfolding flag_byte If◌then◌else◌
+flag_is true = refl
+flag_is false = refl
 
 pub flag_back : (flag : Bool) (before after : List ℕ) → flag_at (before ++ (flag_bytes flag ++ after)) (length before) ≡ flag
 unfolding flag_byte If◌then◌else◌

@@ -5,13 +5,13 @@ mod numbers;
 
 ghost use Rattle.std.specs.Prelude.{◌≡◌, ◌+◌, ◌%◌, ◌<◌, ◌≤◌, length, get_or};
 ghost use Rattle.words.specs.Output.{Wrote};
-ghost use Rattle.record.specs.Bytes.{number_at, flag_byte, flag_at, read_each, same_bytes};
+ghost use Rattle.record.specs.Bytes.{number_at, flag_at, read_each, same_bytes};
 ghost use Rattle.record.specs.Record.{first_bytes, argument_bytes, stop_bytes, record_of, state_in, is_good};
 
 pub use numbers::{put_numbers, read_numbers, says_numbers};
-use page::Mark;
 use sequence::HalfRead;
 use state::{Cursor, Locks, Modes, Size, State};
+use std::array;
 
 // Where each part of the state stands in the record.
 const ROWS: usize = 0;
@@ -56,41 +56,38 @@ pub fn low_byte(number: usize) -> u8
     (number % 256) as u8
 }
 
-fn flag_byte(flag: bool) -> u8
-    ensures { result ≡ flag_byte flag }
+// As much of a number as two bytes say.
+fn two_bytes(number: usize) -> u16
+    ensures { result ≡ number % 65536 }
 {
-    if flag {
-        return 1;
-    }
-    0
+    u16::from_le_bytes([low_byte(number), low_byte(number / 256)])
 }
 
 // The bytes before the arguments and the tab stops.
-fn first_bytes(state: State) -> [u8; ARGUMENTS]
-    ensures { result ≡ first_bytes state }
+fn put_first_bytes(bytes: &mut [u8], at: usize, state: State) -> usize
+    requires { at + 19 ≤ length bytes.old }
+    ensures { Wrote at (first_bytes state) bytes.old result bytes.new }
 {
-    let pen = state.modes.pen as usize;
-    [
-        low_byte(state.size.rows),
-        low_byte(state.size.rows / 256),
-        low_byte(state.size.columns),
-        low_byte(state.size.columns / 256),
-        low_byte(state.cursor.row),
-        low_byte(state.cursor.row / 256),
-        low_byte(state.cursor.column),
-        low_byte(state.cursor.column / 256),
-        low_byte(pen),
-        low_byte(pen / 256),
-        flag_byte(state.modes.erasure),
-        flag_byte(state.modes.full),
-        flag_byte(state.locks.manual),
-        flag_byte(state.locks.soft),
+    let numbers = [
+        two_bytes(state.size.rows),
+        two_bytes(state.size.columns),
+        two_bytes(state.cursor.row),
+        two_bytes(state.cursor.column),
+        state.modes.pen,
+    ];
+    let rest = [
+        u8::from(state.modes.erasure),
+        u8::from(state.modes.full),
+        u8::from(state.locks.manual),
+        u8::from(state.locks.soft),
         state.locks.message,
         state.locks.byte,
         state.half.kind,
-        flag_byte(state.half.spoilt),
+        u8::from(state.half.spoilt),
         state.half.count,
-    ]
+    ];
+    let next = numbers::put_numbers(bytes, at, &numbers);
+    output::put_all(bytes, next, &rest)
 }
 
 fn put_arguments(bytes: &mut [u8], at: usize, arguments: [u16; 8]) -> usize
@@ -105,10 +102,8 @@ fn put_stops(bytes: &mut [u8], at: usize, stops: [bool; 160]) -> usize
     ensures { Wrote at (stop_bytes stops) bytes.old result bytes.new }
 {
     let mut next = at;
-    let mut column = 0;
-    while column < 160 {
-        next = output::put_byte(bytes, next, flag_byte(stops[column]));
-        column += 1;
+    for stop in &stops {
+        next = output::put_byte(bytes, next, u8::from(*stop));
     }
     next
 }
@@ -117,13 +112,10 @@ fn put_stops(bytes: &mut [u8], at: usize, stops: [bool; 160]) -> usize
 pub fn record_of(state: State) -> [u8; LENGTH]
     ensures { result ≡ record_of state }
 {
-    let arguments = state.half.arguments;
-    let stops = state.stops;
-    let first = first_bytes(state);
     let mut bytes = [0; LENGTH];
-    let next = output::put_all(&mut bytes, 0, &first);
-    let last = put_arguments(&mut bytes, next, arguments);
-    put_stops(&mut bytes, last, stops);
+    let next = put_first_bytes(&mut bytes, 0, state);
+    let last = put_arguments(&mut bytes, next, state.half.arguments);
+    put_stops(&mut bytes, last, state.stops);
     bytes
 }
 
@@ -131,10 +123,7 @@ pub fn record_of(state: State) -> [u8; LENGTH]
 fn byte_at(bytes: &[u8], at: usize) -> u8
     ensures { result ≡ get_or bytes.now at 0 }
 {
-    if at < bytes.len() {
-        return bytes[at];
-    }
-    0
+    bytes.get(at).copied().unwrap_or(0)
 }
 
 fn flag_at(bytes: &[u8], at: usize) -> bool
@@ -144,25 +133,17 @@ fn flag_at(bytes: &[u8], at: usize) -> bool
 }
 
 // The number that two bytes say.
-fn number_at(bytes: &[u8], at: usize) -> usize
+fn number_at(bytes: &[u8], at: usize) -> u16
     requires { at < 195 }
-    ensures { (result ≡ number_at 2 bytes.now at) × (result ≤ 65535) }
+    ensures { result ≡ number_at 2 bytes.now at }
 {
-    let low = byte_at(bytes, at) as usize;
-    let high = byte_at(bytes, at + 1) as usize;
-    low + 256 * high
+    u16::from_le_bytes([byte_at(bytes, at), byte_at(bytes, at + 1)])
 }
 
 fn arguments_in(bytes: &[u8]) -> [u16; 8]
     ensures { result ≡ read_each (number_at 2 bytes.now) 2 19 8 }
 {
-    let mut arguments = [0u16; 8];
-    let mut i = 0;
-    while i < 8 {
-        arguments[i] = number_at(bytes, ARGUMENTS + 2 * i) as u16;
-        i += 1;
-    }
-    arguments
+    array::from_fn(|i| number_at(bytes, ARGUMENTS + 2 * i))
 }
 
 // The stops of a whole record. Here no byte is past the end, and the compiler takes many at a time.
@@ -171,10 +152,8 @@ fn stops_there(bytes: &[u8]) -> [bool; 160]
     ensures { result ≡ read_each (flag_at bytes.now) 1 35 160 }
 {
     let mut stops = [false; 160];
-    let mut i = 0;
-    while i < 160 {
+    for i in 0..160 {
         stops[i] = bytes[STOPS + i] == 1;
-        i += 1;
     }
     stops
 }
@@ -185,32 +164,24 @@ fn stops_in(bytes: &[u8]) -> [bool; 160]
     if LENGTH <= bytes.len() {
         return stops_there(bytes);
     }
-    let mut stops = [false; 160];
-    let mut i = 0;
-    while i < 160 {
-        stops[i] = flag_at(bytes, STOPS + i);
-        i += 1;
-    }
-    stops
+    array::from_fn(|i| flag_at(bytes, STOPS + i))
 }
 
 // The state that bytes say, whatever they are.
 pub fn state_in(bytes: &[u8]) -> State
     ensures { result ≡ state_in bytes.now }
 {
-    let arguments = arguments_in(bytes);
-    let stops = stops_in(bytes);
     State {
         size: Size {
-            rows: number_at(bytes, ROWS),
-            columns: number_at(bytes, COLUMNS),
+            rows: usize::from(number_at(bytes, ROWS)),
+            columns: usize::from(number_at(bytes, COLUMNS)),
         },
         cursor: Cursor {
-            row: number_at(bytes, ROW),
-            column: number_at(bytes, COLUMN),
+            row: usize::from(number_at(bytes, ROW)),
+            column: usize::from(number_at(bytes, COLUMN)),
         },
         modes: Modes {
-            pen: number_at(bytes, PEN) as Mark,
+            pen: number_at(bytes, PEN),
             erasure: flag_at(bytes, ERASURE),
             full: flag_at(bytes, FULL),
         },
@@ -220,10 +191,10 @@ pub fn state_in(bytes: &[u8]) -> State
             message: byte_at(bytes, MESSAGE),
             byte: byte_at(bytes, BYTE),
         },
-        stops,
+        stops: stops_in(bytes),
         half: HalfRead {
             kind: byte_at(bytes, KIND),
-            arguments,
+            arguments: arguments_in(bytes),
             count: byte_at(bytes, COUNT),
             spoilt: flag_at(bytes, SPOILT),
         },
@@ -234,17 +205,7 @@ pub fn state_in(bytes: &[u8]) -> State
 pub fn same_bytes(one: &[u8], other: &[u8]) -> bool
     ensures { result ≡ same_bytes one.now other.now }
 {
-    if one.len() != other.len() {
-        return false;
-    }
-    let mut i = 0;
-    while i < one.len() {
-        if one[i] != other[i] {
-            return false;
-        }
-        i += 1;
-    }
-    true
+    one == other
 }
 
 // Whether bytes are the record of the state that they say: read, written again, compared.

@@ -4,15 +4,11 @@ ghost use Rattle.std.specs.Prelude.{◌≡◌, ◌+◌, ◌*◌, ◌≤◌, leng
 ghost use Rattle.words.specs.Output.{Wrote};
 ghost use Rattle.record.specs.Bytes.{number_bytes, number_at, read_each, same_bytes};
 
-use crate::low_byte;
-
 fn put_number(bytes: &mut [u8], at: usize, number: u16) -> usize
     requires { at + 2 ≤ length bytes.old }
     ensures { Wrote at (number_bytes 2 number) bytes.old result bytes.new }
 {
-    let wide = number as usize;
-    let high = output::put_byte(bytes, at, low_byte(wide));
-    output::put_byte(bytes, high, low_byte(wide / 256))
+    output::put_all(bytes, at, &number.to_le_bytes())
 }
 
 // Numbers one after another.
@@ -22,10 +18,8 @@ pub fn put_numbers(bytes: &mut [u8], at: usize, numbers: &[u16]) -> usize
         bytes.old result bytes.new }
 {
     let mut next = at;
-    let mut i = 0;
-    while i < numbers.len() {
-        next = put_number(bytes, next, numbers[i]);
-        i += 1;
+    for number in numbers {
+        next = put_number(bytes, next, *number);
     }
     next
 }
@@ -35,9 +29,7 @@ fn number_there(bytes: &[u8], at: usize) -> u16
     requires { at + 2 ≤ length bytes.now }
     ensures { result ≡ number_at 2 bytes.now at }
 {
-    let low = bytes[at] as u16;
-    let high = bytes[at + 1] as u16;
-    low + 256 * high
+    u16::from_le_bytes([bytes[at], bytes[at + 1]])
 }
 
 // As many numbers as are asked for, from the first byte on.
@@ -46,10 +38,8 @@ pub fn read_numbers(bytes: &[u8], numbers: &mut [u16])
     ensures { numbers.new
         ≡ read_each (number_at 2 bytes.now) 2 0 (length numbers.old) }
 {
-    let mut i = 0;
-    while i < numbers.len() {
-        numbers[i] = number_there(bytes, i * 2);
-        i += 1;
+    for (i, number) in numbers.iter_mut().enumerate() {
+        *number = number_there(bytes, i * 2);
     }
 }
 
@@ -61,10 +51,8 @@ pub fn says_numbers(bytes: &[u8], numbers: &[u16]) -> bool
         (read_each (number_at 2 bytes.now) 2 0 (length numbers.now)) numbers.now }
 {
     let mut all = true;
-    let mut i = 0;
-    while i < numbers.len() {
-        all = page::both(all, number_there(bytes, i * 2) == numbers[i]);
-        i += 1;
+    for (i, number) in numbers.iter().enumerate() {
+        all &= number_there(bytes, i * 2) == *number;
     }
     all
 }

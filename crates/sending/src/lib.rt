@@ -143,7 +143,7 @@ pub fn send_block(
 {
     let answer = blocks::write_block(out, at, characters, marks, state.size.columns, full);
     match answer {
-        blocks::BlockResult::Bytes(bytes) => did_send(state, bytes),
-        blocks::BlockResult::NoRoom => no_room(before),
+        Ok(bytes) => did_send(state, bytes),
+        Err(_) => no_room(before),
     }
 }

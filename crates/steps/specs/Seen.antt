@@ -5,7 +5,7 @@ use Rattle.page.specs.Marks.{is_modified, is_required, takes, unprotected}
 use Rattle.page.specs.Page.{Page, cells}
 use Rattle.places.specs.declared.Place.{Place}
 use Rattle.places.specs.Places.{place_of}
-use Rattle.fields.specs.declared.Sought.{Sought}
+use Rattle.std.specs.Prelude.{Option}
 use Rattle.fields.specs.Fields.{Field, fields_of, field_start, field_end}
 use Rattle.fields.specs.Searches.{next_field, previous_field, first_unprotected, next_unprotected}
 use Rattle.blocks.specs.Blocks.{Entry, entry_of, block}
@@ -57,16 +57,16 @@ abbrev pub end_here : Terminal → ℕ
 end_here t = field_end (unprotected_at t) (cells_here t) (cursor_cell t.state)
 
 -- Where keys look for a field or an unprotected cell, from the cursor's cell on.
-abbrev pub next_field_here : Terminal → Sought
+abbrev pub next_field_here : Terminal → Option Place
 next_field_here t = next_field t.state.size.columns (cursor_cell t.state) (fields_here t)
 
-abbrev pub previous_field_here : Terminal → Sought
+abbrev pub previous_field_here : Terminal → Option Place
 previous_field_here t = previous_field t.state.size.columns (cursor_cell t.state) (fields_here t)
 
-abbrev pub first_unprotected_here : Terminal → Sought
+abbrev pub first_unprotected_here : Terminal → Option Place
 first_unprotected_here t = first_unprotected (unprotected_at t) t.state.size.columns (cells_here t)
 
-abbrev pub next_unprotected_here : Terminal → Sought
+abbrev pub next_unprotected_here : Terminal → Option Place
 next_unprotected_here t =
     next_unprotected (unprotected_at t) t.state.size.columns (cells_here t) (cursor_cell t.state)
 

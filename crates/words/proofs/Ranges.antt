@@ -7,7 +7,7 @@ use Prim.Native.Nat.{ℕ, zero, suc, ◌+◌, ◌-◌, ◌<◌, ◌≤◌}
 use native.Mathlib.Nat.{add-zero}
 use native.Mathlib.Omega.{arith}
 use Rattle.words.specs.Lists.{all_from, some_from}
-use Rattle.words.proofs.Choosing.{true_is_not_false, less_or_not, both, neither, one_fails, one_holds, both_hold, first_decides, first_fails, first_holds, second_decides}
+use Rattle.words.proofs.Choosing.{true_is_not_false, less_or_not, both, neither, one_fails, one_holds, both_hold, first_holds, second_decides}
 
 module _ (test : ℕ → Bool) where
   at_place : (least size place : ℕ) → all_from test least size ≡ true → place < size → test (least + place) ≡ true
@@ -37,17 +37,6 @@ module _ (test : ℕ → Bool) where
       (λ q. (i, omega arith, omega arith, q))
       (λ q. let later = some_place_fails (i + 1) n q in (later.0, omega arith, omega arith, later.3))
       (one_fails p)
-
-  -- A loop that has come to i and found no place that fails.
-  pub next_place : (i n : ℕ) → test i ≡ true → 0 < n → all_from test i n ≡ all_from test (i + 1) (n - 1)
-  unfolding all_from
-  next_place i zero p some = absurd (omega arith)
-  next_place i (suc n) p some = let same : n ≡ suc n - 1 = omega arith in first_decides _ _ p ∙ ap (all_from test (i + 1)) same
-
-  pub place_fails : (i n : ℕ) → test i ≡ false → 0 < n → all_from test i n ≡ false
-  unfolding all_from
-  place_fails i zero p some = absurd (omega arith)
-  place_fails i (suc n) p some = first_fails _ _ p
 
   -- Where the test of one of them holds, it holds of a place; it fails where that of each does, and only there.
   pub some_place_holds : (i n : ℕ) → some_from test i n ≡ true → (k : ℕ) × (i ≤ k) × (k < i + n) × (test k ≡ true)

@@ -1,19 +1,18 @@
--- Laws of lists for loops that write them, in the loops' own terms: the next index is `i + 1`, from the back `i - 1`.
+-- Laws of lists for loops that write them, in the loops' own terms: the next index is `i + 1`.
 use mathlib.Core.Path.{◌≡◌, refl, sym, ap, ◌∙◌}
 use mathlib.Core.Bool.{true, false}
 use mathlib.Core.List.{List, [], ◌∷◌, ◌++◌, append-nil}
 use Prim.Native.Nat.{ℕ, zero, suc, ◌+◌, ◌-◌, ◌<◌, ◌≤◌}
-use native.Mathlib.Nat.{le_of_suc-le-suc, not-suc-le-zero, add_comm}
+use native.Mathlib.Nat.{le_of_suc-le-suc, not-suc-le-zero}
 use native.Mathlib.Numerals.{add-one}
 use native.Mathlib.Omega.{arith}
 use borrow.Author.Tests.{lt-ltb, le-ltb, le-leb, lt-leb}
 use lib.ListN.{length, take, drop, get_or, set, replicate, length-append, length-take, length-drop, drop_of_length-le, take-append-drop, get_or-append, get_or-eq_default}
-use lib.Seq.{set-get_or, set_at, take-suc, drop-cons, append_snoc, take_all, get_or-take, get_or-drop, get_or-append-add, drop_at, length-take-le}
+use lib.Seq.{set-get_or, set_at, take-suc, drop-cons, append_snoc, take_all, get_or-take, get_or-drop, get_or-append-add, length-take-le}
 use Rattle.words.specs.Lists.{within, each_from, each, on_part}
 use Rattle.words.proofs.Choosing.{both_hold, first_fails, second_fails, less_or_not}
 
 -- What a loop has made that writes `target` over `start` from the front and has come to i.
--- From the back the two change places.
 abbrev pub up_to : {A : Type 0} → ℕ → List A → List A → List A
 up_to i target start = take i target ++ drop i start
 
@@ -39,59 +38,6 @@ module _ (target start now : List ℕ) (i : ℕ) (so_far : now ≡ up_to i targe
 
   next_kept : i < length target → i < length start → get_or now i 0 ≡ get_or target i 0 → now ≡ up_to (i + 1) target start
   next_kept h k e = sym (set-get_or now i 0) ∙ next_stored (get_or now i 0) h k e
-
--- A loop from the back that has come down to i.
-module _ (target start now : List ℕ) (i : ℕ) (so_far : now ≡ up_to i start target) where
-  below : (k : ℕ) → k < i → i ≤ length start → get_or now k 0 ≡ get_or start k 0
-  below k h l =
-      let n : k < length (take i start) = omega (arith, length-take-le i start l) in
-      rw so_far (get_or-append (take i start) (drop i target) 0 k n ∙ get_or-take i start k 0 h)
-
-  back_stored : (v : ℕ) → 0 < i → i ≤ length target → i ≤ length start → v ≡ get_or target (i - 1) 0 → set now (i - 1) v ≡ up_to (i - 1) start target
-  back_stored v p h k e =
-      let before : i ≡ suc (i - 1) = omega arith in
-      let in_start : i - 1 < length start = omega arith in
-      let in-target : i - 1 < length target = omega arith in
-      let n : length (take (i - 1) start) ≡ i - 1 = length-take-le (i - 1) start (omega arith) in
-      let is : now ≡ up_to (suc (i - 1)) start target = so_far ∙ ap (λ (k : ℕ). up_to k start target) before in
-      rw (is, e, take-suc start (i - 1) 0, append_snoc, set_at (take (i - 1) start) _ _ _ (i - 1) n, ← drop-cons target (i - 1) 0)
-
--- A loop that moves elements n places to the front.
-module _ (start now : List ℕ) (n i : ℕ) (fits : n ≤ length start) where
-  pub next_pulled : now ≡ up_to i (drop n start) start → (v : ℕ) → i < length start - n → v ≡ get_or now (i + n) 0 → set now i v ≡ up_to (i + 1) (drop n start) start
-  next_pulled so_far v h e =
-      let in-target : i < length (drop n start) = simp length-drop h in
-      next_stored (drop n start) start now i so_far v in-target (omega arith)
-      (e ∙ ahead (drop n start) start now i so_far (i + n) (omega arith) (omega arith) ∙ rw (add_comm i n, ← get_or-drop n start i 0))
-
-  pub all_pulled : now ≡ up_to i (drop n start) start → i ≡ length start - n → now ≡ drop n start ++ drop (length start - n) start
-  all_pulled so_far e = rw (so_far, e, take_all (length start - n) (drop n start) (omega (arith, length-drop n start)))
-
--- What a loop leaves that moves elements n places to the back: the first n stay where they were, too.
-abbrev pub pushed : ℕ → List ℕ → List ℕ
-pushed n start = take n start ++ take (length start - n) start
-
-length_pushed : (start : List ℕ) (n : ℕ) → n ≤ length start → length (pushed n start) ≡ length start
-length_pushed start n fits = simp (length-append, length-take) (omega arith)
-
-pub none_pushed : (start : List ℕ) (n i : ℕ) → n ≤ length start → length start ≤ i → start ≡ up_to i start (pushed n start)
-none_pushed start n i fits h =
-    let same : length start ≡ length (pushed n start) = sym (length_pushed start n fits) in
-    sym (all_written start (pushed n start) i same (omega arith))
-
-module _ (start now : List ℕ) (n i : ℕ) (fits : n ≤ length start) where
-  pub next_pushed : now ≡ up_to i start (pushed n start) → (v : ℕ) → n < i → i ≤ length start → v ≡ get_or now (i - 1 - n) 0 → set now (i - 1) v ≡ up_to (i - 1) start (pushed n start)
-  next_pushed so_far v h k e =
-      let m : length (pushed n start) ≡ length start = length_pushed start n fits in
-      let p : length (take n start) ≡ n = length-take-le n start fits in
-      let q : length (take n start) + (i - 1 - n) ≡ i - 1 = omega arith in
-      back_stored (pushed n start) start now i so_far v (omega arith) (omega arith) k
-      (e ∙ below (pushed n start) start now i so_far (i - 1 - n) (omega arith) k
-      ∙ sym (get_or-take (length start - n) start (i - 1 - n) 0 (omega arith))
-      ∙ sym (rw q at (get_or-append-add (take n start) (take (length start - n) start) (i - 1 - n) 0)))
-
-  pub all_pushed : now ≡ up_to i start (pushed n start) → i ≡ n → now ≡ pushed n start
-  all_pushed so_far e = rw (so_far, e, drop_at (take n start) (take (length start - n) start) n (length-take-le n start fits))
 
 -- Each element changed by its place: sizes, elements and parts.
 module _ (f : ℕ → ℕ → ℕ) where
@@ -121,16 +67,11 @@ module _ (f : ℕ → ℕ → ℕ) where
   each_fills v i [] fills = refl
   each_fills v i (x ∷ rest) fills = λ j. fills i x (omega arith) (omega arith) j ∷ each_fills v (i + 1) rest (λ k y h l. fills k y (omega arith) (omega arith)) j
 
-  -- What f fills at the end of a list, and at its front.
+  -- What f fills at the end of a list.
   pub each_last : (v : ℕ) (a b : List ℕ) → ((k x : ℕ) → k < length a → f k x ≡ x) → ((k x : ℕ) → length a ≤ k → k < length a + length b → f k x ≡ v) → each f (a ++ b) ≡ a ++ replicate (length b) v
   each_last v a b same fills =
       each_append 0 a b
       ∙ (λ j. each_same 0 a (λ k x h l. same k x (omega arith)) j ++ each_fills v (0 + length a) b (λ k x h l. fills k x (omega arith) (omega arith)) j)
-
-  pub each_first : (v : ℕ) (a b : List ℕ) → ((k x : ℕ) → k < length a → f k x ≡ v) → ((k x : ℕ) → length a ≤ k → f k x ≡ x) → each f (a ++ b) ≡ replicate (length a) v ++ b
-  each_first v a b fills same =
-      each_append 0 a b
-      ∙ (λ j. each_fills v 0 a (λ k x h l. fills k x (omega arith)) j ++ each_same (0 + length a) b (λ k x h l. same k x (omega arith)) j)
 
   -- A loop that begins at `from` leaves what is before it, if f does.
   pub none_changed : (from i : ℕ) (start : List ℕ) → ((k x : ℕ) → k < i + from → f k x ≡ x) → start ≡ up_to from (each_from f i start) start

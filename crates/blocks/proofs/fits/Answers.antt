@@ -1,8 +1,7 @@
-use mathlib.Core.Path.{sym, ap}
-use Prim.Native.Nat.{ℕ, ◌*◌, ◌≤◌}
+use mathlib.Core.Path.{sym, ◌∙◌}
+use Prim.Native.Nat.{◌*◌, ◌≤◌}
 use native.Mathlib.Omega.{arith}
 use borrow.Author.Tests.{le-leb}
-use lib.Dec.{leb}
 use lib.ListN.{length}
 use Rattle.page.specs.Page.{page_of}
 use Rattle.blocks.specs.Blocks.{block}
@@ -15,7 +14,4 @@ returns-then-room-ge-LONGEST c = λ characters as_long.
     let within : length characters ≤ 48 * c.args.columns = omega (arith, as_long, c.requires.2) in
     let bound = bounded_within c.args.full c.args.columns page c.requires.1 within in
     let enough : length (block c.args.full c.args.columns page) ≤ c.args.room = omega (arith, bound, c.if-room-ge-LONGEST.true) in
-    sym (le-leb _ _ enough)
-
-pub returns : goal.returns
-returns c = λ characters as_long. ap (λ (bytes : ℕ). leb bytes c.args.room) (c.block_length.ensures characters as_long)
+    le-leb _ _ c.if-room-ge-LONGEST.true ∙ sym (le-leb _ _ enough)

@@ -32,8 +32,17 @@ put_place-next-requires c =
     let size = sent_length c.args.full _ (page_of c.args.characters.now marks) _ c.requires.counted.right c.requires.columns_bound.3 _ c.field_end-end.ensures (omega arith) starts sent in
     omega (arith, on_rows 48 c.requires.counted (omega arith))
 
-pub put_characters-requires : goal.put_characters-requires
-put_characters-requires c =
+pub slice_bounds-put_all-count : goal.slice_bounds-put_all-count
+slice_bounds-put_all-count c = omega (arith, end_bounds (unprotected c.args.marks.now) (length c.args.marks.now) c.args.place.cell c.requires.columns_bound.1)
+
+pub slice_bounds-put_all-start : goal.slice_bounds-put_all-start
+slice_bounds-put_all-start c = omega (arith, end_bounds (unprotected c.args.marks.now) (length c.args.marks.now) c.args.place.cell c.requires.columns_bound.1)
+
+pub slice_bounds-put_all-end : goal.slice_bounds-put_all-end
+slice_bounds-put_all-end c = omega (arith, end_bounds (unprotected c.args.marks.now) (length c.args.marks.now) c.args.place.cell c.requires.columns_bound.1)
+
+pub put_all-requires : goal.put_all-requires
+put_all-requires c =
     let place = c.args.place in
     let marks = c.args.marks.now in
     let starts = sym c.starts_field.ensures ∙ c.if-not-starts_field.false in
@@ -50,4 +59,4 @@ returns c =
     let sent = sym c.is_in_block.ensures ∙ c.if-not-is_in_block.false in
     let room : c.args.at ≤ length c.args.out.now = omega arith in
     rw (sent_is c.args.full _ (page_of c.args.characters.now marks) _ c.requires.counted.right c.requires.columns_bound.3 _ c.field_end-end.ensures starts sent)
-    (wrote_then room c.put_place-next.ensures c.put_characters.ensures)
+    (wrote_then room c.put_place-next.ensures c.put_all.ensures)

@@ -3,10 +3,10 @@ use Prim.Native.Nat.{◌-◌, ◌≤◌}
 use native.Mathlib.Omega.{arith}
 use borrow.Author.Tests.{leb-true}
 use lib.ListN.{length}
+use Rattle.std.specs.Prelude.{Ok}
 use Rattle.words.proofs.Choosing.{then_case, else_case}
 use Rattle.page.specs.Page.{page_of}
 use Rattle.blocks.specs.Blocks.{block, writing_block}
-use Rattle.blocks.specs.declared.BlockResult.TheVariants.{Bytes}
 use Rattle.blocks.proofs.write_block.Goals as goal
 
 pub returns-then-not-fits : goal.returns-then-not-fits
@@ -31,4 +31,4 @@ returns c =
     let cleared = c.clear_modified.ensures in
     let wrote = c.put_block-end.ensures in
     let sent : c.put_block-end.result - c.args.at ≡ length (block c.args.full c.args.columns page) = omega (arith, wrote.next_is) in
-    (λ i. record { answer = Bytes (sent i); marks = cleared i; output = wrote.left i }) ∙ sym (then_case _ _ _ fits)
+    (λ i. record { answer = Ok (sent i); marks = cleared i; output = wrote.left i }) ∙ sym (then_case _ _ _ fits)

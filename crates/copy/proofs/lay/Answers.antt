@@ -2,7 +2,7 @@ use mathlib.Core.Path.{sym, ◌∙◌}
 use borrow.Author.Tests.{leb-true}
 use Rattle.words.proofs.Choosing.{then_case, else_case}
 use Rattle.copy.specs.Copy.{laying}
-use Rattle.copy.specs.declared.Laid.TheVariants.{Bytes}
+use Rattle.std.specs.Prelude.{Ok}
 use Rattle.copy.proofs.Passes.{from_start}
 use Rattle.copy.proofs.lay.Goals as goal
 
@@ -19,5 +19,5 @@ pub returns : goal.returns
 unfolding laying
 returns c =
     let wrote = c.put_laid.ensures in
-    (λ i. record { answer = Bytes (from_start wrote i); output = wrote.left i })
+    (λ i. record { answer = Ok (from_start wrote i); output = wrote.left i })
     ∙ sym (then_case _ _ _ (sym c.has_room.ensures ∙ c.if-not-has_room.false))

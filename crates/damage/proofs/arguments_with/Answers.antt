@@ -1,16 +1,13 @@
-use Rattle.words.proofs.Choosing.{tests}
-use Rattle.words.specs.Choice.{◌is◌to◌}
+use native.Mathlib.Omega.{arith}
+use Rattle.std.proofs.lemmas.Bool.Decides.{nat_tests}
+use Rattle.words.specs.Choice.{If◌then◌else◌, ◌is◌to◌, ◌and◌}
 use Rattle.damage.specs.Parts.{arguments_with}
 use Rattle.damage.proofs.arguments_with.Goals as goal
 
-pub returns-then-part-lt12 : goal.returns-then-part-lt12
-unfolding arguments_with ◌is◌to◌
-returns-then-part-lt12 c = search tests
+pub returns-then-contains : goal.returns-then-contains
+unfolding arguments_with If◌then◌else◌ ◌is◌to◌ ◌and◌
+returns-then-contains c = grind (arith, nat_tests)
 
-pub returns-then-part-gt19 : goal.returns-then-part-gt19
-unfolding arguments_with ◌is◌to◌
-returns-then-part-gt19 c = search tests
-
-pub returns : goal.returns
-unfolding arguments_with ◌is◌to◌
-returns c = search tests
+pub returns-else-contains : goal.returns-else-contains
+unfolding arguments_with If◌then◌else◌ ◌is◌to◌ ◌and◌
+returns-else-contains c = grind (arith, nat_tests)

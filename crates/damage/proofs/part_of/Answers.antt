@@ -1,27 +1,29 @@
+use native.Mathlib.Omega.{arith}
 use Rattle.words.proofs.Choosing.{tests}
 use Rattle.damage.specs.Parts.{part_of}
+use Rattle.damage.proofs.Flags.{flag_is}
 use Rattle.damage.proofs.part_of.Goals as goal
 
-pub returns-then-part-lt12 : goal.returns-then-part-lt12
+pub returns-in-0-to-11 : goal.returns-in-0-to-11
 unfolding part_of
-returns-then-part-lt12 c = rw c.first_parts-parts.ensures (search tests)
+returns-in-0-to-11 c = rw c.first_parts.ensures (search (arith, tests))
 
-pub returns-then-part-lt20 : goal.returns-then-part-lt20
+pub returns-in-12-to-19 : goal.returns-in-12-to-19
 unfolding part_of
-returns-then-part-lt20 c = search tests
+returns-in-12-to-19 c = rw c.from-in-12-to-19.ensures (search (arith, tests))
 
-pub returns-then-part-lt180 : goal.returns-then-part-lt180
+pub returns-in-20-to-179 : goal.returns-in-20-to-179
 unfolding part_of
-returns-then-part-lt180 c = rw c.flag_number.ensures (search tests)
+returns-in-20-to-179 c = rw (c.from-in-20-to-179.ensures, flag_is) (search (arith, tests))
 
-pub returns-then-part-eq180 : goal.returns-then-part-eq180
+pub returns-in-180 : goal.returns-in-180
 unfolding part_of
-returns-then-part-eq180 c = search tests
+returns-in-180 c = rw c.from.ensures (search (arith, tests))
 
-pub returns-then-part-eq181 : goal.returns-then-part-eq181
+pub returns-in-181 : goal.returns-in-181
 unfolding part_of
-returns-then-part-eq181 c = rw c.flag_number-then-part-eq181.ensures (search tests)
+returns-in-181 c = rw (c.from-in-181.ensures, flag_is) (search (arith, tests))
 
-pub returns : goal.returns
+pub returns-in_default : goal.returns-in_default
 unfolding part_of
-returns c = search tests
+returns-in_default c = search (arith, tests)

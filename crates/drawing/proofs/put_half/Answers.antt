@@ -13,9 +13,9 @@ pub returns : goal.returns
 unfolding half_line
 returns c =
     let room : c.args.at ≤ length c.args.text.now = omega arith in
-    let kind = c.put_number-spoilt.ensures in
+    let kind = rw c.from.ensures at c.put_number-spoilt.ensures in
     let spoilt = c.put_flag-count.ensures in
-    let count = c.put_number-word.ensures in
+    let count = rw c.from-2.ensures at c.put_number-word.ensures in
     let word = c.put_all-each.ensures in
     let arguments = c.put_arguments-end.ensures in
     wrote_then room (wrote_then room (wrote_then room (wrote_then room (wrote_then room kind spoilt) count) word) arguments) c.put_byte.ensures

@@ -1,6 +1,7 @@
 use mathlib.Core.Path.{◌≡◌, sym, ap, ◌∙◌}
 use Prim.Native.Nat.{◌+◌, ◌-◌}
 use native.Mathlib.Omega.{arith}
+use lib.ListN.{length}
 use Rattle.page.specs.Marks.{unprotected}
 use Rattle.fields.specs.Fields.{joined, field_end}
 use Rattle.fields.proofs.Laws.{joined_if_unprotected}
@@ -39,5 +40,5 @@ loop-end-preserved c =
 pub returns : goal.returns
 returns c =
     let loop = c.loop-end in
-    let here : loop.end - 1 + 1 ≡ loop.end = omega (arith, loop.invariant.0) in
-    sym (loop.invariant.3 ∙ end_at_last _ _ _ (omega (arith, c.loop-end-test.false)) ∙ here)
+    let last : loop.end - 1 + 1 ≡ length c.args.marks.now = omega (arith, loop.invariant.0, loop.invariant.1, c.loop-end-test.false) in
+    sym (loop.invariant.3 ∙ end_at_last _ _ _ (omega (arith, c.loop-end-test.false)) ∙ last)

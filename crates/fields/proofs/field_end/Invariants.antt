@@ -13,6 +13,3 @@ invariant-loop-end l =
     (l.end ≤ length l.marks) ×
     (unprotected l.marks (l.end - 1) ≡ true) ×
     (field_end (unprotected l.marks) (length l.marks) l.cell ≡ field_end (unprotected l.marks) (length l.marks) (l.end - 1))
-
-abbrev pub decreases-loop-end : goal.decreases-loop-end
-decreases-loop-end l = length l.marks - l.end

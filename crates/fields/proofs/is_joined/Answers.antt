@@ -1,14 +1,28 @@
-use mathlib.Core.Path.{sym, ◌∙◌}
+use mathlib.Core.Path.{◌≡◌, sym, ◌∙◌}
+use mathlib.Core.Bool.{false, not}
+use lib.Dec.{eqb}
 use mathlib.Core.Logic.{inl, inr}
 use native.Mathlib.Omega.{arith}
+use Rattle.words.proofs.Choosing.{not_both}
 use Rattle.fields.proofs.Laws.{are_apart, joined_if_unprotected}
 use Rattle.fields.proofs.is_joined.Goals as goal
-
-pub returns-then-cell-eq0 : goal.returns-then-cell-eq0
-returns-then-cell-eq0 c = sym (are_apart _ _ (inl c.if-cell-eq0.true))
+use Rattle.fields.proofs.is_joined.Goals.{then-cell-ne0, else-cell-ne0}
 
 pub returns-then-is_unprotected : goal.returns-then-is_unprotected
-returns-then-is_unprotected c = c.is_unprotected-then-is_unprotected.ensures ∙ sym (joined_if_unprotected _ _ (omega arith) (sym c.is_unprotected.ensures ∙ c.if-is_unprotected.true))
+returns-then-is_unprotected c =
+    elim c.if-cell-ne0.branch [
+      | then-cell-ne0 w ↦
+          c.is_unprotected-then-is_unprotected.ensures
+          ∙ sym (joined_if_unprotected _ _ (omega arith) (sym w.is_unprotected.ensures ∙ sym w.value-is ∙ c.if-is_unprotected.true))
+      | else-cell-ne0 w ↦ let first : not (eqb c.args.cell 0) ≡ false = rw w.if-cell-ne0.false in
+          absurd (not_both c.if-is_unprotected.true (w.value-is ∙ first))
+    ]
 
-pub returns : goal.returns
-returns c = sym (are_apart _ _ (inr (inl (sym c.is_unprotected.ensures ∙ c.if-is_unprotected.false))))
+pub returns-else-is_unprotected : goal.returns-else-is_unprotected
+returns-else-is_unprotected c =
+    elim c.if-cell-ne0.branch [
+      | then-cell-ne0 w ↦
+          c.if-is_unprotected.false
+          ∙ sym (are_apart _ _ (inr (inl (sym w.is_unprotected.ensures ∙ sym w.value-is ∙ c.if-is_unprotected.false))))
+      | else-cell-ne0 w ↦ c.if-is_unprotected.false ∙ sym (are_apart _ _ (inl w.if-cell-ne0.false))
+    ]

@@ -1,13 +1,15 @@
 use mathlib.Core.Path.{sym, ap, ◌∙◌}
 use mathlib.Core.Bool.{not}
-use Rattle.words.specs.Choice.{◌and◌}
+use Rattle.words.proofs.Choosing.{first_decides, first_fails}
 use Rattle.fields.specs.Fields.{starts_field}
 use Rattle.fields.proofs.starts_field.Goals as goal
 
 pub returns-then-is_unprotected : goal.returns-then-is_unprotected
-unfolding starts_field ◌and◌
-returns-then-is_unprotected c = rw (sym c.is_unprotected.ensures ∙ c.if-is_unprotected.true) (ap not c.is_joined.ensures)
+unfolding starts_field
+returns-then-is_unprotected c =
+    ap not c.is_joined.ensures ∙ sym (first_decides _ _ (sym c.is_unprotected.ensures ∙ c.if-is_unprotected.true))
 
-pub returns : goal.returns
-unfolding starts_field ◌and◌
-returns c = rw (sym c.is_unprotected.ensures ∙ c.if-is_unprotected.false)
+pub returns-else-is_unprotected : goal.returns-else-is_unprotected
+unfolding starts_field
+returns-else-is_unprotected c =
+    c.if-is_unprotected.false ∙ sym (first_fails _ _ (sym c.is_unprotected.ensures ∙ c.if-is_unprotected.false))

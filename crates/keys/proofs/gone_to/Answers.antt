@@ -1,10 +1,10 @@
 use Rattle.keys.specs.Keys.{gone_to}
 use Rattle.keys.proofs.gone_to.Goals as goal
 
-pub returns-in-At : goal.returns-in-At
+pub returns-in-Some : goal.returns-in-Some
 unfolding gone_to
-returns-in-At c = rw (c.moved_to.ensures, c.in-At.is)
+returns-in-Some c = rw (c.moved_to.ensures, c.in-Some.is)
 
-pub returns-in-Nowhere : goal.returns-in-Nowhere
+pub returns-in-None : goal.returns-in-None
 unfolding gone_to
-returns-in-Nowhere c = rw c.in-Nowhere.is
+returns-in-None c = rw c.in-None.is

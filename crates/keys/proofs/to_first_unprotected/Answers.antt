@@ -11,14 +11,14 @@ pub first_unprotected-sought-requires : goal.first_unprotected-sought-requires
 unfolding to_first_unprotected gone_to or_else
 first_unprotected-sought-requires c = let known = measured c.requires in (known.some_columns, known.most)
 
-pub returns-in-At : goal.returns-in-At
+pub returns-in-Some : goal.returns-in-Some
 unfolding to_first_unprotected gone_to or_else
-returns-in-At c = rw (c.quiet.ensures _, c.moved_to.ensures, ← (measured c.requires).as_many, sym c.first_unprotected-sought.ensures ∙ c.in-At.is)
+returns-in-Some c = rw (c.quiet.ensures _, c.moved_to.ensures, ← (measured c.requires).as_many, sym c.first_unprotected-sought.ensures ∙ c.in-Some.is)
 
-pub returns-in-Nowhere : goal.returns-in-Nowhere
+pub returns-in-None : goal.returns-in-None
 unfolding to_first_unprotected gone_to or_else
-returns-in-Nowhere c =
+returns-in-None c =
     let columns = c.args.state.size.columns in
     let known = measured c.requires in
     let first = place_is columns 0 1 1 0 0 known.some_columns (omega (arith, zero-mul columns)) (omega arith) (omega arith) in
-    rw (c.quiet-in-Nowhere.ensures _, c.moved_to-in-Nowhere.ensures, ← known.as_many, sym c.first_unprotected-sought.ensures ∙ c.in-Nowhere.is, ← first)
+    rw (c.quiet-in-None.ensures _, c.moved_to-in-None.ensures, ← known.as_many, sym c.first_unprotected-sought.ensures ∙ c.in-None.is, ← first)

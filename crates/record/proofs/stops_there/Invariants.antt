@@ -1,5 +1,4 @@
 use mathlib.Core.Path.{◌≡◌}
-use Prim.Native.Nat.{◌-◌, ◌≤◌}
 use lib.ListN.{length}
 use Rattle.words.proofs.Writing.{up_to}
 use Rattle.record.proofs.Reading.{stops_read}
@@ -7,7 +6,4 @@ use Rattle.record.proofs.stops_there.Given as goal
 
 abbrev pub invariant-loop-i : goal.invariant-loop-i
 invariant-loop-i l =
-    (l.i ≤ 160) × (length l.stops ≡ 160) × (length l.initial.stops ≡ 160) × (l.stops ≡ up_to l.i (stops_read l.bytes) l.initial.stops)
-
-abbrev pub decreases-loop-i : goal.decreases-loop-i
-decreases-loop-i l = 160 - l.i
+    (length l.stops ≡ 160) × (length l.initial.stops ≡ 160) × (l.stops ≡ up_to l.i (stops_read l.bytes) l.initial.stops)

@@ -1,9 +1,8 @@
-use mathlib.Core.Path.{◌≡◌, sym, ap, ◌∙◌}
+use mathlib.Core.Path.{ap, ◌∙◌}
 use mathlib.Core.List.{List, ◌++◌}
-use Prim.Native.Nat.{ℕ, ◌+◌, ◌-◌, ◌≤◌}
+use Prim.Native.Nat.{ℕ, ◌-◌, ◌≤◌}
 use native.Mathlib.Omega.{arith}
 use lib.ListN.{length, take, drop}
-use Rattle.words.specs.Lists.{each}
 use Rattle.words.proofs.Choosing.{then_case, else_case}
 use Rattle.words.proofs.Writing.{length-each, next_changed, all_written, each_part, inside, outside_range}
 use Rattle.page.specs.Marks.{with_modified}

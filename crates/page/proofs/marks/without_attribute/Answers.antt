@@ -1,5 +1,3 @@
-use Prim.Native.Nat.{◌<◌}
-use Rattle.page.specs.Marks.{bit_of}
 use Rattle.page.proofs.Bits.{cleared_by_mask, bit-lt}
 use Rattle.page.proofs.marks.without_attribute.Goals as goal
 

@@ -1,11 +1,6 @@
-use mathlib.Core.Path.{sym, ap, ◌∙◌}
-use mathlib.Core.Bool.{Bool, ◌&&◌}
-use lib.ListN.{drop}
-use Prim.Native.Nat.{◌+◌}
+use mathlib.Core.Path.{◌∙◌}
 use Rattle.std.proofs.Common.{arith}
 use Rattle.std.proofs.lemmas.Bool.Decides.{nat_tests}
-use Rattle.words.specs.Lists.{every}
-use Rattle.page.specs.Marks.{valid_character}
 use Rattle.page.proofs.Asking.{next_asked, all_asked, next_within}
 use Rattle.page.proofs.tests.characters_are_valid.Goals as goal
 

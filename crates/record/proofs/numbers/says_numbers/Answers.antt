@@ -1,5 +1,5 @@
 use mathlib.Core.Path.{◌≡◌, refl, sym, ap, ◌∙◌}
-use mathlib.Core.Bool.{Bool}
+use mathlib.Core.Bool.{◌&&◌}
 use Prim.Native.Nat.{ℕ, ◌+◌, ◌*◌, ◌<◌, ◌≤◌}
 use native.Mathlib.Omega.{arith}
 use borrow.Author.Rules.{rules}
@@ -27,8 +27,7 @@ loop-i-preserved c =
     c.number_there.ensures ∙ sym (rw place at (each_there (number_at 2 bytes) 2 0 0 (length numbers) c.loop-i.i here)) in (
       search rules,
       c.loop-i.invariant.1 ∙ next_compared said numbers c.loop-i.i in-said here c.loop-i.all
-          ∙ ap (λ (t : Bool). t and same_bytes (drop (c.loop-i.i + 1) said) (drop (c.loop-i.i + 1) numbers))
-          (ap (λ (n : ℕ). c.loop-i.all and eqb n (get_or numbers c.loop-i.i 0)) (sym number) ∙ sym c.both-all.ensures),
+          ∙ ap (λ (n : ℕ). (c.loop-i.all && eqb n (get_or numbers c.loop-i.i 0)) and same_bytes (drop (c.loop-i.i + 1) said) (drop (c.loop-i.i + 1) numbers)) (sym number),
     )
 
 pub returns : goal.returns

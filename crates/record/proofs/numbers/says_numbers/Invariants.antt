@@ -1,5 +1,5 @@
 use mathlib.Core.Path.{◌≡◌}
-use Prim.Native.Nat.{◌-◌, ◌≤◌}
+use Prim.Native.Nat.{◌≤◌}
 use lib.ListN.{length, drop}
 use Rattle.words.specs.Choice.{◌and◌}
 use Rattle.record.specs.Bytes.{number_at, read_each, same_bytes}
@@ -10,6 +10,3 @@ abbrev pub invariant-loop-i : goal.invariant-loop-i
 invariant-loop-i l =
     (l.i ≤ length l.numbers)
     × (same_bytes (read_each (number_at 2 l.bytes) 2 0 (length l.numbers)) l.numbers ≡ (l.all and same_bytes (drop l.i (read_each (number_at 2 l.bytes) 2 0 (length l.numbers))) (drop l.i l.numbers)))
-
-abbrev pub decreases-loop-i : goal.decreases-loop-i
-decreases-loop-i l = length l.numbers - l.i
