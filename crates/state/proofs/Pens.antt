@@ -96,33 +96,29 @@ module _ (pen : ℕ) where
         }
 
 -- The pens that set one attribute: the code has one function for all of them, that of the page.
-module _ (pen : ℕ) where
-  pub bold_is : with_attribute Bold pen ≡ pen_bold pen
-  bold_is = refl
+pub record ByAttribute (pen : ℕ) : Type 0 where
+  pub bold : with_attribute Bold pen ≡ pen_bold pen
+  pub underlined : with_attribute Underlined pen ≡ pen_underlined pen
+  pub blinking : with_attribute Blinking pen ≡ pen_blinking pen
+  pub reversed : with_attribute Reversed pen ≡ pen_reversed pen
+  pub concealed : with_attribute Concealed pen ≡ pen_concealed pen
+  pub required : with_attribute Required pen ≡ pen_required pen
+  pub protected : with_attribute Protected (pen_unprotected pen) ≡ pen_protected pen
+  pub numeric : with_attribute Numeric (pen_unprotected pen) ≡ pen_numeric pen
+  pub alphabetic : with_attribute Alphabetic (pen_unprotected pen) ≡ pen_alphabetic pen
 
-  pub underlined_is : with_attribute Underlined pen ≡ pen_underlined pen
-  underlined_is = refl
-
-  pub blinking_is : with_attribute Blinking pen ≡ pen_blinking pen
-  blinking_is = refl
-
-  pub reversed_is : with_attribute Reversed pen ≡ pen_reversed pen
-  reversed_is = refl
-
-  pub concealed_is : with_attribute Concealed pen ≡ pen_concealed pen
-  concealed_is = refl
-
-  pub required_is : with_attribute Required pen ≡ pen_required pen
-  required_is = refl
-
-  pub protected_is : with_attribute Protected (pen_unprotected pen) ≡ pen_protected pen
-  protected_is = refl
-
-  pub numeric_is : with_attribute Numeric (pen_unprotected pen) ≡ pen_numeric pen
-  numeric_is = refl
-
-  pub alphabetic_is : with_attribute Alphabetic (pen_unprotected pen) ≡ pen_alphabetic pen
-  alphabetic_is = refl
+pub by_attribute : (pen : ℕ) → ByAttribute pen
+by_attribute pen = record {
+  bold = refl;
+  underlined = refl;
+  blinking = refl;
+  reversed = refl;
+  concealed = refl;
+  required = refl;
+  protected = refl;
+  numeric = refl;
+  alphabetic = refl;
+}
 
 -- Runs of bits cleared by masks, in a pen of 16 bits.
 module _ (pen : ℕ) (fits : pen < 2 ^ 16) where
