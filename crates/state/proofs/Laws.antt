@@ -1,14 +1,12 @@
 -- The loops over tab stops, a turn at a time, and the columns that they end at.
 use mathlib.Core.Path.{◌≡◌, refl, sym, ap, ◌∙◌}
-use mathlib.Core.Bool.{Bool, true, false, not, cond, ◌&&◌, ◌||◌}
+use mathlib.Core.Bool.{Bool, true, false, not}
 use mathlib.Core.List.{List}
 use Prim.Native.Nat.{ℕ, zero, suc, ◌+◌, ◌-◌, ◌<◌, ◌≤◌, min}
 use native.Mathlib.Nat.{add-zero}
 use native.Mathlib.Omega.{arith}
 use lib.ListN.{length, get_or, take, drop, length-drop}
 use Rattle.std.proofs.lemmas.List.{take_all, drop_min}
-use Rattle.std.proofs.lemmas.Bool.Decides.{nat_tests}
-use Rattle.words.specs.Choice.{If◌then◌else◌, ◌and◌, ◌or◌}
 use Rattle.words.specs.Lists.{every}
 use Rattle.words.proofs.Choosing.{either_line, less_or_not, then_case, else_case}
 use Rattle.state.specs.Tabs.{stop_right, stop_left, stops_on, stops_back}
@@ -17,25 +15,6 @@ use Rattle.state.specs.Tests.{stops_fit}
 -- A row or a column that the page has.
 abbrev pub OneTo : ℕ → ℕ → Type 0
 OneTo last at = (1 ≤ at) × (at ≤ last)
-
--- The code asks by the library's `&&` and `||`, the definitions by their own words.
-pub both_tests : (a b : Bool) → (a and b) ≡ (a && b)
-unfolding ◌and◌
-both_tests true b = refl
-both_tests false b = refl
-
-pub either_tests : (a b : Bool) → (a or b) ≡ (a || b)
-unfolding ◌or◌
-either_tests true b = refl
-either_tests false b = refl
-
-pub choices : {A : Type 0} (test : Bool) (a b : A) → (If test then a else b) ≡ cond test a b
-unfolding If◌then◌else◌
-choices true a b = refl
-choices false a b = refl
-
--- What `grind` is handed where a function asks what a definition asks.
-pub ruleset code_tests = (nat_tests, both_tests, either_tests, choices)
 
 -- The stops past the last column.
 pub stops_past : (columns : ℕ) (stops : List Bool) → length stops ≡ 160 → stops_fit columns stops ≡ every not (take (160 - min columns 160) (drop (min columns 160) stops))

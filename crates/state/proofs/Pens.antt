@@ -1,10 +1,13 @@
 -- What each pen has of the one before. Those that set a visual mark are instances of page/proofs/Bits.antt.
 use mathlib.Core.Path.{◌≡◌, refl, ◌∙◌}
 use mathlib.Core.Bool.{Bool, true, false}
-use Prim.Native.Nat.{ℕ, ◌<◌, ◌≤◌}
+use Prim.Native.Nat.{ℕ, ◌-◌, ◌^◌, ◌<◌, ◌≤◌}
 use native.Mathlib.Omega.{arith}
+use Rattle.std.specs.Prelude.{bit_and}
+use Rattle.std.proofs.lemmas.Nat.{and-not, and_comm}
+use Rattle.std.proofs.lemmas.Nat.Bits.{and_high}
 use Rattle.page.specs.declared.Attribute.TheVariants.{Protected, Bold, Underlined, Blinking, Reversed, Concealed, Numeric, Alphabetic, Required}
-use Rattle.page.specs.Marks.{with_attribute, has_bit, without_bit, is_protected, is_modified, is_numeric, is_alphabetic, is_required}
+use Rattle.page.specs.Marks.{with_attribute, has_bit, without_bits, without_bit, is_protected, is_modified, is_numeric, is_alphabetic, is_required}
 use Rattle.page.proofs.Bits.{StayOutside, lower_bit, higher_bit, other_bit, stays_below, cleared_outside, cleared_inside, cleared_others, cleared_bit, set_others, set_bit}
 use Rattle.state.specs.Pen.{pen_unprotected, pen_protected, pen_numeric, pen_alphabetic, pen_required, pen_plain, pen_bold, pen_underlined, pen_blinking, pen_reversed, pen_concealed}
 
@@ -93,30 +96,36 @@ module _ (pen : ℕ) where
         }
 
 -- The pens that set one attribute: the code has one function for all of them, that of the page.
-module _ (pen : ℕ) where
-  pub bold_is : with_attribute Bold pen ≡ pen_bold pen
-  bold_is = refl
+pub record ByAttribute (pen : ℕ) : Type 0 where
+  pub bold : with_attribute Bold pen ≡ pen_bold pen
+  pub underlined : with_attribute Underlined pen ≡ pen_underlined pen
+  pub blinking : with_attribute Blinking pen ≡ pen_blinking pen
+  pub reversed : with_attribute Reversed pen ≡ pen_reversed pen
+  pub concealed : with_attribute Concealed pen ≡ pen_concealed pen
+  pub required : with_attribute Required pen ≡ pen_required pen
+  pub protected : with_attribute Protected (pen_unprotected pen) ≡ pen_protected pen
+  pub numeric : with_attribute Numeric (pen_unprotected pen) ≡ pen_numeric pen
+  pub alphabetic : with_attribute Alphabetic (pen_unprotected pen) ≡ pen_alphabetic pen
 
-  pub underlined_is : with_attribute Underlined pen ≡ pen_underlined pen
-  underlined_is = refl
+pub by_attribute : (pen : ℕ) → ByAttribute pen
+by_attribute pen = record {
+  bold = refl;
+  underlined = refl;
+  blinking = refl;
+  reversed = refl;
+  concealed = refl;
+  required = refl;
+  protected = refl;
+  numeric = refl;
+  alphabetic = refl;
+}
 
-  pub blinking_is : with_attribute Blinking pen ≡ pen_blinking pen
-  blinking_is = refl
+-- Runs of bits cleared by masks, in a pen of 16 bits.
+module _ (pen : ℕ) (fits : pen < 2 ^ 16) where
+  pub plain_by_mask : bit_and pen (2 ^ 16 - 1 - 0x7C) ≡ pen_plain pen
+  plain_by_mask =
+      omega (arith, and-not 16 0x7C pen (omega arith) fits, and_comm pen (2 ^ 16 - 1 - 0x7C), and_comm pen 0x7C, and_high pen 5 2)
 
-  pub reversed_is : with_attribute Reversed pen ≡ pen_reversed pen
-  reversed_is = refl
-
-  pub concealed_is : with_attribute Concealed pen ≡ pen_concealed pen
-  concealed_is = refl
-
-  pub required_is : with_attribute Required pen ≡ pen_required pen
-  required_is = refl
-
-  pub protected_is : with_attribute Protected (pen_unprotected pen) ≡ pen_protected pen
-  protected_is = refl
-
-  pub numeric_is : with_attribute Numeric (pen_unprotected pen) ≡ pen_numeric pen
-  numeric_is = refl
-
-  pub alphabetic_is : with_attribute Alphabetic (pen_unprotected pen) ≡ pen_alphabetic pen
-  alphabetic_is = refl
+  pub kind_by_mask : bit_and pen (2 ^ 16 - 1 - 0x380) ≡ without_bits 7 10 pen
+  kind_by_mask =
+      omega (arith, and-not 16 0x380 pen (omega arith) fits, and_comm pen (2 ^ 16 - 1 - 0x380), and_comm pen 0x380, and_high pen 3 7)

@@ -6,19 +6,24 @@ ghost use Rattle.state.specs.State.{with_modes};
 use crate::{Modes, State};
 use page::{Attribute, Mark};
 
+// The visual marks, bits 2 to 6.
+const VISUAL: Mark = 0x7C;
+
+// Numeric, alphabetic and required, bits 7 to 9.
+const KIND: Mark = 0x380;
+
 // ESC W and o 0: what is written is unprotected, of no kind.
 pub fn pen_unprotected(pen: Mark) -> Mark
     ensures { result ≡ pen_unprotected pen }
 {
-    let open = page::without_attribute(pen, Attribute::Protected);
-    open / 1024 * 1024 + open % 128
+    page::without_attribute(pen, Attribute::Protected) & !KIND
 }
 
 // m 0: no visual marks; the kind stays.
 pub fn pen_plain(pen: Mark) -> Mark
     ensures { result ≡ pen_plain pen }
 {
-    pen / 128 * 128 + pen % 4
+    pen & !VISUAL
 }
 
 impl State {

@@ -9,7 +9,7 @@ use Rattle.std.specs.List.{list_all}
 use Rattle.words.specs.Choice.{If◌then◌else◌}
 use Rattle.words.specs.Lists.{every}
 use Rattle.words.proofs.Walking.{next_element}
-use Rattle.state.proofs.Laws.{both_tests}
+use Rattle.words.proofs.Testing.{both_tests}
 use Rattle.table.specs.Settings.{pen_after, pen_after_all}
 
 -- The library's word for the definitions' own.

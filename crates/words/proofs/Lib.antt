@@ -6,3 +6,4 @@ pub mod Ranges
 pub mod Elements
 pub mod Output
 pub mod Pieces
+pub mod Testing

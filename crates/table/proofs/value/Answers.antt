@@ -1,5 +1,5 @@
 use native.Mathlib.Omega.{arith}
-use Rattle.state.proofs.Laws.{code_tests}
+use Rattle.words.proofs.Testing.{code_tests}
 use Rattle.table.specs.Table.{value_of}
 use Rattle.table.proofs.value.Goals as goal
 

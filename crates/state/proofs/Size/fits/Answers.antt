@@ -3,7 +3,7 @@ use native.Mathlib.Nat.{mul-le-mul}
 use native.Mathlib.Omega.{arith}
 use Rattle.state.specs.Tests.{size_fits}
 use Rattle.state.proofs.Keeping.{size_bounds}
-use Rattle.state.proofs.Laws.{code_tests}
+use Rattle.words.proofs.Testing.{code_tests}
 use Rattle.state.proofs.Size.fits.Goals as goal
 
 pub returns-then-not-is_listed : goal.returns-then-not-is_listed

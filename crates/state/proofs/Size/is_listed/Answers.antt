@@ -1,6 +1,6 @@
 use native.Mathlib.Omega.{arith}
 use Rattle.state.specs.Tests.{listed_size}
-use Rattle.state.proofs.Laws.{code_tests}
+use Rattle.words.proofs.Testing.{code_tests}
 use Rattle.state.proofs.Size.is_listed.Goals as goal
 
 pub returns-then-is_listed_rows : goal.returns-then-is_listed_rows

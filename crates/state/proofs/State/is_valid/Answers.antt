@@ -1,6 +1,6 @@
 use native.Mathlib.Omega.{arith}
 use Rattle.state.specs.Tests.{valid_state}
-use Rattle.state.proofs.Laws.{code_tests}
+use Rattle.words.proofs.Testing.{code_tests}
 use Rattle.state.proofs.State.is_valid.Goals as goal
 
 pub returns-then-is_valid_message : goal.returns-then-is_valid_message

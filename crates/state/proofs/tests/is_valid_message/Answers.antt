@@ -1,6 +1,6 @@
 use native.Mathlib.Omega.{arith}
 use Rattle.state.specs.Tests.{valid_message}
-use Rattle.state.proofs.Laws.{code_tests}
+use Rattle.words.proofs.Testing.{code_tests}
 use Rattle.state.proofs.tests.is_valid_message.Goals as goal
 
 pub returns-in-0 : goal.returns-in-0

@@ -1,6 +1,6 @@
 use native.Mathlib.Omega.{arith}
 use Rattle.state.specs.Pen.{valid_pen}
-use Rattle.state.proofs.Laws.{code_tests}
+use Rattle.words.proofs.Testing.{code_tests}
 use Rattle.state.proofs.tests.is_valid_pen.Goals as goal
 
 pub returns-then-is_valid_mark : goal.returns-then-is_valid_mark

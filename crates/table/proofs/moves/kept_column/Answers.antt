@@ -1,5 +1,5 @@
 use native.Mathlib.Omega.{arith}
-use Rattle.state.proofs.Laws.{code_tests}
+use Rattle.words.proofs.Testing.{code_tests}
 use Rattle.table.specs.Moves.{kept_column}
 use Rattle.table.proofs.moves.kept_column.Goals as goal
 

@@ -1,26 +1,11 @@
-use mathlib.Core.Path.{◌≡◌, refl, sym, ap, ◌∙◌}
-use mathlib.Core.Bool.{Bool, true, not}
-use Prim.Native.Nat.{ℕ}
+use mathlib.Core.Path.{◌≡◌}
 use native.Mathlib.Omega.{arith}
-use borrow.Author.Tests.{ne_eqb, eqb-true}
-use lib.Dec.{eqb}
-use Rattle.words.specs.Choice.{If◌then◌else◌, ◌and◌, ◌or◌, ◌is◌to◌}
-use Rattle.words.proofs.Choosing.{second_decides}
+use Rattle.words.specs.Choice.{If◌then◌else◌, ◌is◌to◌}
+use Rattle.words.proofs.Testing.{code_tests}
 use Rattle.state.specs.Moves.{up_by, down_by, right_by, left_by, to_margin}
 use Rattle.steps.specs.Light.{light_step}
 use Rattle.table.specs.Moves.{is_plain_move, move_step}
-use Rattle.words.specs.Lists.{all_from}
-use Rattle.words.proofs.Ranges.{in_range}
 use Rattle.table.proofs.moves.move_command.Goals as goal
-
--- of the moves that look at no tab stop f is left
-abbrev hasLine : ℕ → Bool
-hasLine final =
-    not (is_plain_move final) or eqb final 0x41 or eqb final 0x42 or eqb final 0x43 or eqb final 0x44 or eqb final 0x45 or eqb final 0x46 or eqb final 0x47 or eqb final 0x48 or eqb final 0x64 or eqb final 0x66
-
-all_have : all_from hasLine 0x40 63 ≡ true
-unfolding all_from is_plain_move not ◌and◌ ◌or◌ ◌is◌to◌
-all_have = refl
 
 pub returns-in-65 : goal.returns-in-65
 unfolding move_step light_step up_by down_by right_by left_by to_margin If◌then◌else◌
@@ -59,21 +44,8 @@ unfolding move_step light_step up_by down_by right_by left_by to_margin If◌the
 returns-in-100 c = λ page. rw (c.to_row.ensures page, c.value-first.ensures, c.in-100.is)
 
 pub returns-in_default : goal.returns-in_default
-unfolding move_step light_step If◌then◌else◌ not
+unfolding move_step light_step is_plain_move If◌then◌else◌ ◌is◌to◌
 returns-in_default c =
     λ page.
-    let other = c.in_default.in_default-own.rest in
-    let some : hasLine c.args.letter ≡ true = in_range hasLine 0x40 63 c.args.letter all_have c.requires.le_letter.0 (omega (arith, c.requires.le_letter.1)) in
-    let left : hasLine c.args.letter ≡ eqb c.args.letter 0x66 =
-    second_decides _ _ (ap not c.requires.le_letter.2)
-    ∙ second_decides _ _ (ne_eqb _ _ other.0.0.0.0.0.0.0.0.1)
-    ∙ second_decides _ _ (ne_eqb _ _ other.0.0.0.0.0.0.0.1)
-    ∙ second_decides _ _ (ne_eqb _ _ other.0.0.0.0.0.0.1)
-    ∙ second_decides _ _ (ne_eqb _ _ other.0.0.0.0.0.1)
-    ∙ second_decides _ _ (ne_eqb _ _ other.0.0.0.0.1)
-    ∙ second_decides _ _ (ne_eqb _ _ other.0.0.0.1)
-    ∙ second_decides _ _ (ne_eqb _ _ other.0.0.1)
-    ∙ second_decides _ _ (ne_eqb _ _ other.0.1)
-    ∙ second_decides _ _ (ne_eqb _ _ other.1) in
-    let is_f : c.args.letter ≡ 0x66 = eqb-true _ _ (sym left ∙ some) in
+    let is_f : c.args.letter ≡ 0x66 = grind (arith, code_tests) in
     rw (c.to_place-in_default.ensures page, c.kept_column.ensures, c.value-second.ensures, c.value-first.ensures, is_f)

@@ -1,5 +1,5 @@
 use native.Mathlib.Omega.{arith}
-use Rattle.state.proofs.Laws.{code_tests}
+use Rattle.words.proofs.Testing.{code_tests}
 use Rattle.steps.specs.Light.{light_step}
 use Rattle.table.specs.Moves.{to_row}
 use Rattle.table.proofs.moves.to_row.Goals as goal

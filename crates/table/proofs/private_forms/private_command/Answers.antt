@@ -1,5 +1,5 @@
 use native.Mathlib.Omega.{arith}
-use Rattle.state.proofs.Laws.{code_tests}
+use Rattle.words.proofs.Testing.{code_tests}
 use Rattle.steps.specs.Light.{light_step}
 use Rattle.table.specs.PrivateForms.{private_step}
 use Rattle.table.proofs.private_forms.private_command.Goals as goal

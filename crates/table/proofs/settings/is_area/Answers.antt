@@ -1,5 +1,5 @@
 use native.Mathlib.Omega.{arith}
-use Rattle.state.proofs.Laws.{code_tests}
+use Rattle.words.proofs.Testing.{code_tests}
 use Rattle.table.specs.Settings.{is_area}
 use Rattle.table.proofs.settings.is_area.Goals as goal
 

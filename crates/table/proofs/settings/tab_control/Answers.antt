@@ -1,5 +1,6 @@
-use borrow.Author.Tests.{ne_eqb}
+use native.Mathlib.Omega.{arith}
 use Rattle.words.specs.Choice.{If◌then◌else◌}
+use Rattle.words.proofs.Testing.{code_tests}
 use Rattle.table.specs.Settings.{tab_control}
 use Rattle.table.proofs.settings.tab_control.Goals as goal
 
@@ -17,4 +18,4 @@ returns-in-5 c = λ page. rw (c.quiet-in-5.ensures page, c.clear_stops.ensures, 
 
 pub returns-in_default : goal.returns-in_default
 unfolding tab_control If◌then◌else◌
-returns-in_default c = λ page. let other = c.in_default.in_default-own.rest in rw (c.refuse.ensures page) (simp (ne_eqb _ _ other.1, ne_eqb _ _ other.0.1, ne_eqb _ _ other.0.0.1))
+returns-in_default c = λ page. rw (c.refuse.ensures page) (grind (arith, code_tests))
