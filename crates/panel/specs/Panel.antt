@@ -1,14 +1,16 @@
 -- Document 02, M-100: what the three functions that C calls give back and leave.
 use Rattle.std.specs.Prelude.{◌≡◌, not, ℕ, ◌*◌, ◌<◌, eqb, leb, ltb, length, Result, Ok, Err}
+use Rattle.std.specs.Borrow.{MutBor}
 use mathlib.Core.List.{List, [], ◌∷◌, ◌++◌, flat_map}
 use Rattle.words.specs.Choice.{If◌then◌else◌, ◌and◌}
 use Rattle.words.specs.Output.{placed}
 use Rattle.page.specs.Page.{Page, page_of}
 use Rattle.state.specs.Tests.{size_fits}
-use Rattle.steps.specs.Steps.{Terminal}
+use Rattle.steps.specs.Steps.{Terminal, terminal_of}
 use Rattle.state.specs.declared.State.{State}
 use Rattle.terminal.specs.declared.Answer.{Answer}
-use Rattle.terminal.specs.Answers.{Outcome, number_of}
+use Rattle.terminal.specs.declared.Reply.{Reply}
+use Rattle.terminal.specs.Answers.{Outcome, number_of, given}
 use Rattle.terminal.specs.Calls.{start_call, host_call, key_call}
 use Rattle.record.specs.Bytes.{number_bytes, number_at, read_each}
 use Rattle.record.specs.Record.{record_length, record_of, state_in, is_good}
@@ -147,11 +149,10 @@ abbrev pub number_told : Result ℕ Answer → ℕ
 number_told (Ok number) = number
 number_told (Err refusal) = number_of refusal
 
--- Nothing that is lent to a call on a terminal is wrong: its state, and its marks.
-pub record Admitted (packed characters marks result : List ℕ) (state : State) (own : List ℕ) : Type 0 where
+-- Nothing that is lent to a call on a terminal is wrong, and these are its marks.
+pub record Admitted (packed characters marks result own : List ℕ) : Type 0 where
   pub right_lengths : wrong_length packed result ≡ 0
   pub good_content : wrong_content packed (page_of characters own) ≡ 0
-  pub state_said : state ≡ state_in packed
   pub marks_read : own ≡ marks_in (length characters) marks
 
 -- Something is: whatever the call was, this is all that it gives and leaves.
@@ -159,3 +160,10 @@ abbrev pub Turned : List ℕ → List ℕ → List ℕ → List ℕ → Answer �
 Turned packed characters marks result refusal told =
     (output : List ℕ) (call : Terminal → Outcome) →
     handed_back (number_of refusal) (lent_of packed characters marks output told) ≡ on_terminal call (lent_of packed characters marks output result)
+
+-- A function of the code, by what it may hand back, does a call: on a state, a page's characters and marks, and the output.
+abbrev pub Does : (State → MutBor (List ℕ) → MutBor (List ℕ) → MutBor (List ℕ) → Reply → MutBor (List ℕ) → MutBor (List ℕ) → MutBor (List ℕ) → Type 0) → (Terminal → List ℕ → Outcome) → Type 0
+Does may call =
+    (state : State) (characters marks output : MutBor (List ℕ)) (reply : Reply) (characters' marks' output' : MutBor (List ℕ)) →
+    may state characters marks output reply characters' marks' output' →
+    given reply (page_of characters'.now marks'.now) output'.now ≡ call (terminal_of state characters.now marks.now) output.now

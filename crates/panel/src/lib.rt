@@ -3,13 +3,14 @@
 // crate panel_c exports the three under the same names.
 #![tactic(auto)]
 
-ghost use Rattle.std.specs.Prelude.{◌≡◌, [], ◌*◌, ◌≤◌, length, MatchResult};
+ghost use Rattle.std.specs.Prelude.{◌≡◌, [], List, ℕ, ◌*◌, ◌≤◌, length, MatchResult};
 ghost use Rattle.words.specs.Output.{placed};
 ghost use Rattle.page.specs.Page.{page_of};
-ghost use Rattle.terminal.specs.Answers.{number_of};
-ghost use Rattle.record.specs.Record.{record_of, state_in};
+ghost use Rattle.steps.specs.Steps.{Terminal};
+ghost use Rattle.terminal.specs.Answers.{Outcome, number_of};
+ghost use Rattle.record.specs.Record.{record_of};
 ghost use Rattle.panel.specs.Panel.{lent_of, result_bytes, marks_said, mark_bytes, wrong_length, wrong_content};
-ghost use Rattle.panel.specs.Panel.{RefusedBy, number_told, Admitted, Turned};
+ghost use Rattle.panel.specs.Panel.{RefusedBy, number_told, Admitted, Turned, Does, handed_back, on_terminal};
 ghost use Rattle.panel.specs.Panel.{PanelStartAllows, PanelHostAllows, PanelKeyAllows};
 
 use page::Mark;
@@ -84,15 +85,15 @@ fn pack_marks(marks: &mut [u8], own: &[Mark])
 }
 
 // What an entry handed back, told to C.
-fn hand_on(packed: &mut [u8], marks: &mut [u8], own: &[Mark], res: &mut [u8], reply: Reply) -> u8
+fn hand_on(packed: &mut [u8], marks: &mut [u8], own: &[Mark], res: &mut [u8], reply: &Reply) -> u8
     requires packed_len { length packed.old ≡ 195 }
     requires own_len { length own.now * 2 ≤ length marks.old }
     requires res_len { length res.old ≡ 13 }
-    ensures value { result ≡ number_of reply.answer }
-    ensures packed_after { packed.new ≡ record_of reply.state }
+    ensures value { result ≡ number_of reply.now.answer }
+    ensures packed_after { packed.new ≡ record_of reply.now.state }
     ensures marks_after { marks.new ≡ placed 0 (mark_bytes own.now) marks.old }
     ensures res_after { res.new
-        ≡ result_bytes (number_of reply.answer) reply.taken reply.sent reply.stored }
+        ≡ result_bytes (number_of reply.now.answer) reply.now.taken reply.now.sent reply.now.stored }
 {
     let number = terminal::number_of(reply.answer);
     pack(packed, reply.state);
@@ -116,10 +117,10 @@ fn wrong_length(packed: &[u8], res: &[u8]) -> Result<(), Answer>
     Ok(())
 }
 
-// The state that the record says. Bad content is refused, but a wrong size before it.
-fn wrong_content(packed: &[u8], characters: &[u8], marks: &[Mark]) -> Result<State, Answer>
+// Bad content is refused, but a wrong size before it.
+fn wrong_content(packed: &[u8], characters: &[u8], marks: &[Mark]) -> Result<(), Answer>
     ensures { MatchResult result
-        (λ state. (wrong_content packed.now (page_of characters.now marks.now) ≡ 0) × (state ≡ state_in packed.now))
+        (λ _. wrong_content packed.now (page_of characters.now marks.now) ≡ 0)
         (λ refusal. RefusedBy refusal (wrong_content packed.now (page_of characters.now marks.now))) }
 {
     let state = record::state_in(packed);
@@ -129,29 +130,29 @@ fn wrong_content(packed: &[u8], characters: &[u8], marks: &[Mark]) -> Result<Sta
     if !record::is_good(packed) {
         return Err(Answer::WrongState);
     }
-    Ok(state)
+    Ok(())
 }
 
-// The state of a terminal that is lent, with its marks as our own; or the refusal, told to C if it isn't M-100's own.
+// What is lent to a call on a terminal, tested; its marks are read as our own. A refusal is told to C, but M-100's own.
 fn admit(
     packed: &[u8],
     characters: &[u8],
     marks: &[u8],
     own: &mut [Mark],
     res: &mut [u8],
-) -> Result<State, Answer>
+) -> Result<(), Answer>
     requires { length own.old ≡ marks_said (length characters.now) (length marks.now) }
     ensures { MatchResult result
-        (λ state. Admitted packed.now characters.now marks.now res.old state own.new × (res.new ≡ res.old))
+        (λ _. Admitted packed.now characters.now marks.now res.old own.new × (res.new ≡ res.old))
         (λ refusal. Turned packed.now characters.now marks.now res.old refusal res.new) }
 {
     wrong_length(packed, res)?;
     record::read_numbers(marks, own);
-    let state = wrong_content(packed, characters, own);
-    if let Err(refusal) = state {
+    let tested = wrong_content(packed, characters, own);
+    if let Err(refusal) = tested {
         tell(res, terminal::number_of(refusal), 0, 0, 0);
     }
-    state
+    tested
 }
 
 // A start, host bytes and a key, on marks of our own: those that the bytes lent say, and the entries work on.
@@ -172,51 +173,28 @@ fn start_on(
     wrong_length(packed, res)?;
     record::read_numbers(marks, own);
     let reply = terminal::start(rows, columns, characters, own);
-    Ok(hand_on(packed, marks, own, res, reply))
+    Ok(hand_on(packed, marks, own, res, &reply))
 }
 
-fn host_on(
+// A call on a terminal that is lent: of host bytes, or of a key.
+fn call_on<F: FnOnce(State, &mut [u8], &mut [Mark], &mut [u8]) -> Reply>(
     packed: &mut [u8],
     characters: &mut [u8],
     marks: &mut [u8],
     own: &mut [Mark],
-    bytes: &[u8],
     out: &mut [u8],
     res: &mut [u8],
+    entry: F,
 ) -> Result<u8, Answer>
-    requires { length own.old ≡ marks_said (length characters.old) (length marks.old) }
-    ensures { PanelHostAllows
-        (lent_of packed.old characters.old marks.old out.old
-        res.old)
-        bytes.now (number_told result)
-        (lent_of packed.new characters.new marks.new out.new
-        res.new) }
+    requires own_len { length own.old ≡ marks_said (length characters.old) (length marks.old) }
+    requires callable { F.IsAlwaysCallable entry }
+    ensures { (call : Terminal → List ℕ → Outcome) → Does (F.post entry) call →
+        handed_back (number_told result) (lent_of packed.new characters.new marks.new out.new res.new)
+        ≡ on_terminal (λ t. call t out.old) (lent_of packed.old characters.old marks.old out.old res.old) }
 {
-    let state = admit(packed, characters, marks, own, res)?;
-    let reply = terminal::host(state, characters, own, bytes, out);
-    Ok(hand_on(packed, marks, own, res, reply))
-}
-
-fn key_on(
-    packed: &mut [u8],
-    characters: &mut [u8],
-    marks: &mut [u8],
-    own: &mut [Mark],
-    key: usize,
-    out: &mut [u8],
-    res: &mut [u8],
-) -> Result<u8, Answer>
-    requires { length own.old ≡ marks_said (length characters.old) (length marks.old) }
-    ensures { PanelKeyAllows
-        (lent_of packed.old characters.old marks.old out.old
-        res.old)
-        key (number_told result)
-        (lent_of packed.new characters.new marks.new out.new
-        res.new) }
-{
-    let state = admit(packed, characters, marks, own, res)?;
-    let reply = terminal::key(state, characters, own, key, out);
-    Ok(hand_on(packed, marks, own, res, reply))
+    admit(packed, characters, marks, own, res)?;
+    let reply = entry(record::state_in(packed), characters, own, out);
+    Ok(hand_on(packed, marks, own, res, &reply))
 }
 
 // The number that C is given.
@@ -270,14 +248,14 @@ pub fn panel_host(
 {
     let cells = marks_said(characters.len(), marks.len());
     let mut own = [0; MOST_CELLS];
-    number_told(host_on(
+    number_told(call_on(
         packed,
         characters,
         marks,
         &mut own[..cells],
-        bytes,
         out,
         res,
+        |state, characters, own, out| terminal::host(state, characters, own, bytes, out),
     ))
 }
 
@@ -299,5 +277,13 @@ pub fn panel_key(
 {
     let cells = marks_said(characters.len(), marks.len());
     let mut own = [0; MOST_CELLS];
-    number_told(key_on(packed, characters, marks, &mut own[..cells], key, out, res))
+    number_told(call_on(
+        packed,
+        characters,
+        marks,
+        &mut own[..cells],
+        out,
+        res,
+        |state, characters, own, out| terminal::key(state, characters, own, key, out),
+    ))
 }

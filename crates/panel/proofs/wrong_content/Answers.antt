@@ -29,8 +29,6 @@ pub returns : goal.returns
 unfolding wrong_content
 returns c =
     let page = page_of c.args.characters.now c.args.marks.now in
-    let same = ap (λ (s : State). size_fits s.size page) (sym c.state_in-state.ensures) in (
-      else_case {A = ℕ} _ _ _ (ap not (same ∙ sym c.fits.ensures ∙ c.if-not-fits.false))
-          ∙ else_case {A = ℕ} _ _ _ (ap not (sym c.is_good.ensures ∙ c.if-not-is_good.false)),
-      c.state_in-state.ensures,
-    )
+    let same = ap (λ (s : State). size_fits s.size page) (sym c.state_in-state.ensures) in
+    else_case {A = ℕ} _ _ _ (ap not (same ∙ sym c.fits.ensures ∙ c.if-not-fits.false))
+    ∙ else_case {A = ℕ} _ _ _ (ap not (sym c.is_good.ensures ∙ c.if-not-is_good.false))
