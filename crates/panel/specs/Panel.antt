@@ -1,13 +1,12 @@
 -- Document 02, M-100: what the three functions that C calls give back and leave.
 use Rattle.std.specs.Prelude.{◌≡◌, not, ℕ, ◌*◌, ◌<◌, eqb, leb, ltb, length, Result, Ok, Err}
-use Rattle.std.specs.Borrow.{MutBor}
+use Rattle.std.specs.Borrow.{Bor, MutBor}
 use mathlib.Core.List.{List, [], ◌∷◌, ◌++◌, flat_map}
 use Rattle.words.specs.Choice.{If◌then◌else◌, ◌and◌}
 use Rattle.words.specs.Output.{placed}
 use Rattle.page.specs.Page.{Page, page_of}
 use Rattle.state.specs.Tests.{size_fits}
 use Rattle.steps.specs.Steps.{Terminal, terminal_of}
-use Rattle.state.specs.declared.State.{State}
 use Rattle.terminal.specs.declared.Answer.{Answer}
 use Rattle.terminal.specs.declared.Reply.{Reply}
 use Rattle.terminal.specs.Answers.{Outcome, number_of, given}
@@ -161,9 +160,10 @@ Turned packed characters marks result refusal told =
     (output : List ℕ) (call : Terminal → Outcome) →
     handed_back (number_of refusal) (lent_of packed characters marks output told) ≡ on_terminal call (lent_of packed characters marks output result)
 
--- A function of the code, by what it may hand back, does a call: on a state, a page's characters and marks, and the output.
-abbrev pub Does : (State → MutBor (List ℕ) → MutBor (List ℕ) → MutBor (List ℕ) → Reply → MutBor (List ℕ) → MutBor (List ℕ) → MutBor (List ℕ) → Type 0) → (Terminal → List ℕ → Outcome) → Type 0
+-- A function of the code, by what it may hand back, does a call: on a record, a page's characters and marks, the output.
+abbrev pub Does : (Bor (List ℕ) → MutBor (List ℕ) → MutBor (List ℕ) → MutBor (List ℕ) → Reply → MutBor (List ℕ) → MutBor (List ℕ) → MutBor (List ℕ) → Type 0) → (Terminal → List ℕ → Outcome) → Type 0
 Does may call =
-    (state : State) (characters marks output : MutBor (List ℕ)) (reply : Reply) (characters' marks' output' : MutBor (List ℕ)) →
-    may state characters marks output reply characters' marks' output' →
-    given reply (page_of characters'.now marks'.now) output'.now ≡ call (terminal_of state characters.now marks.now) output.now
+    (packed : Bor (List ℕ)) (characters marks output : MutBor (List ℕ)) (reply : Reply) (characters' marks' output' : MutBor (List ℕ)) →
+    may packed characters marks output reply characters' marks' output' →
+    given reply (page_of characters'.now marks'.now) output'.now
+    ≡ call (terminal_of (state_in packed.now) characters.now marks.now) output.now

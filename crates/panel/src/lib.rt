@@ -85,19 +85,16 @@ fn pack_marks(marks: &mut [u8], own: &[Mark])
 }
 
 // What an entry handed back, told to C.
-fn hand_on(packed: &mut [u8], marks: &mut [u8], own: &[Mark], res: &mut [u8], reply: &Reply) -> u8
+fn hand_on(packed: &mut [u8], res: &mut [u8], reply: Reply) -> u8
     requires packed_len { length packed.old ≡ 195 }
-    requires own_len { length own.now * 2 ≤ length marks.old }
     requires res_len { length res.old ≡ 13 }
-    ensures value { result ≡ number_of reply.now.answer }
-    ensures packed_after { packed.new ≡ record_of reply.now.state }
-    ensures marks_after { marks.new ≡ placed 0 (mark_bytes own.now) marks.old }
+    ensures value { result ≡ number_of reply.answer }
+    ensures packed_after { packed.new ≡ record_of reply.state }
     ensures res_after { res.new
-        ≡ result_bytes (number_of reply.now.answer) reply.now.taken reply.now.sent reply.now.stored }
+        ≡ result_bytes (number_of reply.answer) reply.taken reply.sent reply.stored }
 {
     let number = terminal::number_of(reply.answer);
     pack(packed, reply.state);
-    pack_marks(marks, own);
     tell(res, number, reply.taken, reply.sent, reply.stored);
     number
 }
@@ -173,11 +170,12 @@ fn start_on(
     wrong_length(packed, res)?;
     record::read_numbers(marks, own);
     let reply = terminal::start(rows, columns, characters, own);
-    Ok(hand_on(packed, marks, own, res, &reply))
+    pack_marks(marks, own);
+    Ok(hand_on(packed, res, reply))
 }
 
 // A call on a terminal that is lent: of host bytes, or of a key.
-fn call_on<F: FnOnce(State, &mut [u8], &mut [Mark], &mut [u8]) -> Reply>(
+fn call_on<F: FnOnce(&[u8], &mut [u8], &mut [Mark], &mut [u8]) -> Reply>(
     packed: &mut [u8],
     characters: &mut [u8],
     marks: &mut [u8],
@@ -193,8 +191,9 @@ fn call_on<F: FnOnce(State, &mut [u8], &mut [Mark], &mut [u8]) -> Reply>(
         ≡ on_terminal (λ t. call t out.old) (lent_of packed.old characters.old marks.old out.old res.old) }
 {
     admit(packed, characters, marks, own, res)?;
-    let reply = entry(record::state_in(packed), characters, own, out);
-    Ok(hand_on(packed, marks, own, res, &reply))
+    let reply = entry(packed, characters, own, out);
+    pack_marks(marks, own);
+    Ok(hand_on(packed, res, reply))
 }
 
 // The number that C is given.
@@ -255,7 +254,9 @@ pub fn panel_host(
         &mut own[..cells],
         out,
         res,
-        |state, characters, own, out| terminal::host(state, characters, own, bytes, out),
+        |packed, characters, own, out| {
+            terminal::host(record::state_in(packed), characters, own, bytes, out)
+        },
     ))
 }
 
@@ -284,6 +285,8 @@ pub fn panel_key(
         &mut own[..cells],
         out,
         res,
-        |state, characters, own, out| terminal::key(state, characters, own, key, out),
+        |packed, characters, own, out| {
+            terminal::key(record::state_in(packed), characters, own, key, out)
+        },
     ))
 }

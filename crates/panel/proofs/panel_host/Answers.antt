@@ -4,6 +4,7 @@ use Prim.Native.Nat.{ℕ}
 use Rattle.steps.specs.Steps.{Terminal}
 use Rattle.terminal.specs.Calls.{host_call}
 use Rattle.panel.specs.Panel.{panel_host}
+use borrow.Author.Rules.{rules}
 use Rattle.panel.proofs.Marks.{own_fit, own_length}
 use Rattle.panel.proofs.panel_host.Goals as goal
 
@@ -19,4 +20,4 @@ call_on-requires-clause-own_len c = let said = c.marks_said-cells.ensures in own
 pub returns : goal.returns
 unfolding panel_host
 returns c =
-    rw c.number_told.ensures (c.call_on.ensures (λ (t : Terminal) (output : List ℕ). host_call t c.args.bytes.now output) (λ state characters marks output reply characters' marks' output' post. cc))
+    rw c.number_told.ensures (c.call_on.ensures (λ (t : Terminal) (output : List ℕ). host_call t c.args.bytes.now output) (λ packed characters marks output reply characters' marks' output' post. search rules))

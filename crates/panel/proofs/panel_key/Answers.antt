@@ -4,6 +4,7 @@ use Prim.Native.Nat.{ℕ}
 use Rattle.steps.specs.Steps.{Terminal}
 use Rattle.terminal.specs.Calls.{key_call}
 use Rattle.panel.specs.Panel.{panel_key}
+use borrow.Author.Rules.{rules}
 use Rattle.panel.proofs.Marks.{own_fit, own_length}
 use Rattle.panel.proofs.panel_key.Goals as goal
 
@@ -19,4 +20,4 @@ call_on-requires-clause-own_len c = let said = c.marks_said-cells.ensures in own
 pub returns : goal.returns
 unfolding panel_key
 returns c =
-    rw c.number_told.ensures (c.call_on.ensures (λ (t : Terminal) (output : List ℕ). key_call t c.args.key output) (λ state characters marks output reply characters' marks' output' post. cc))
+    rw c.number_told.ensures (c.call_on.ensures (λ (t : Terminal) (output : List ℕ). key_call t c.args.key output) (λ packed characters marks output reply characters' marks' output' post. search rules))

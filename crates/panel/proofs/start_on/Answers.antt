@@ -27,8 +27,8 @@ read_numbers-requires c =
 pub hand_on-requires-clause-packed_len : goal.hand_on-requires-clause-packed_len
 hand_on-requires-clause-packed_len c = (right_lengths c.args.packed.now c.args.res.now (omega (arith, c.in_ok-wrong_length.ensures))).0
 
-pub hand_on-requires-clause-own_len : goal.hand_on-requires-clause-own_len
-hand_on-requires-clause-own_len c =
+pub pack_marks-requires : goal.pack_marks-requires
+pack_marks-requires c =
     omega (arith, c.requires, said_there (length c.args.characters.now) (length c.args.marks.now), c.start-reply.auto, c.read_numbers.auto)
 
 pub hand_on-requires-clause-res_len : goal.hand_on-requires-clause-res_len
@@ -41,6 +41,6 @@ returns c =
     let lent = lent_of c.args.packed.now c.args.characters.now marks [] c.args.res.now in
     let own = c.read_numbers.ensures ∙ ap (read_each (number_at 2 marks) 2 0) c.requires in
     let told = c.hand_on.ensures in
-    handed_on lent c.start-reply.result _ _ told.value told.packed_after told.marks_after told.res_after
+    handed_on lent c.start-reply.result _ _ told.value told.packed_after c.pack_marks.ensures told.res_after
     ∙ start_done lent 0 (sym c.in_ok-wrong_length.ensures) c.args.rows c.args.columns (omega arith) _
     (c.start-reply.ensures ∙ ap (λ (l : List ℕ). start_call size (page_of c.args.characters.now l)) own)
