@@ -85,7 +85,7 @@ fn pack_marks(marks: &mut [u8], own: &[Mark])
 }
 
 // What an entry handed back, told to C.
-fn hand_on(packed: &mut [u8], res: &mut [u8], reply: Reply) -> u8
+fn hand_on(reply: Reply, packed: &mut [u8], res: &mut [u8]) -> u8
     requires packed_len { length packed.old ≡ 195 }
     requires res_len { length res.old ≡ 13 }
     ensures value { result ≡ number_of reply.answer }
@@ -169,9 +169,9 @@ fn start_on(
 {
     wrong_length(packed, res)?;
     record::read_numbers(marks, own);
-    let reply = terminal::start(rows, columns, characters, own);
+    let number = hand_on(terminal::start(rows, columns, characters, own), packed, res);
     pack_marks(marks, own);
-    Ok(hand_on(packed, res, reply))
+    Ok(number)
 }
 
 // A call on a terminal that is lent: of host bytes, or of a key.
@@ -191,9 +191,9 @@ fn call_on<F: FnOnce(&[u8], &mut [u8], &mut [Mark], &mut [u8]) -> Reply>(
         ≡ on_terminal (λ t. call t out.old) (lent_of packed.old characters.old marks.old out.old res.old) }
 {
     admit(packed, characters, marks, own, res)?;
-    let reply = entry(packed, characters, own, out);
+    let number = hand_on(entry(packed, characters, own, out), packed, res);
     pack_marks(marks, own);
-    Ok(hand_on(packed, res, reply))
+    Ok(number)
 }
 
 // The number that C is given.

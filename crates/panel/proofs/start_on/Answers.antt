@@ -24,15 +24,15 @@ pub read_numbers-requires : goal.read_numbers-requires
 read_numbers-requires c =
     omega (arith, c.requires, said_there (length c.args.characters.now) (length c.args.marks.now))
 
-pub hand_on-requires-clause-packed_len : goal.hand_on-requires-clause-packed_len
-hand_on-requires-clause-packed_len c = (right_lengths c.args.packed.now c.args.res.now (omega (arith, c.in_ok-wrong_length.ensures))).0
+pub hand_on-number-requires-clause-packed_len : goal.hand_on-number-requires-clause-packed_len
+hand_on-number-requires-clause-packed_len c = (right_lengths c.args.packed.now c.args.res.now (omega (arith, c.in_ok-wrong_length.ensures))).0
 
 pub pack_marks-requires : goal.pack_marks-requires
 pack_marks-requires c =
-    omega (arith, c.requires, said_there (length c.args.characters.now) (length c.args.marks.now), c.start-reply.auto, c.read_numbers.auto)
+    omega (arith, c.requires, said_there (length c.args.characters.now) (length c.args.marks.now), c.start.auto, c.read_numbers.auto)
 
-pub hand_on-requires-clause-res_len : goal.hand_on-requires-clause-res_len
-hand_on-requires-clause-res_len c = (right_lengths c.args.packed.now c.args.res.now (omega (arith, c.in_ok-wrong_length.ensures))).1
+pub hand_on-number-requires-clause-res_len : goal.hand_on-number-requires-clause-res_len
+hand_on-number-requires-clause-res_len c = (right_lengths c.args.packed.now c.args.res.now (omega (arith, c.in_ok-wrong_length.ensures))).1
 
 pub returns : goal.returns
 returns c =
@@ -40,7 +40,7 @@ returns c =
     let marks = c.args.marks.now in
     let lent = lent_of c.args.packed.now c.args.characters.now marks [] c.args.res.now in
     let own = c.read_numbers.ensures ∙ ap (read_each (number_at 2 marks) 2 0) c.requires in
-    let told = c.hand_on.ensures in
-    handed_on lent c.start-reply.result _ _ told.value told.packed_after c.pack_marks.ensures told.res_after
+    let told = c.hand_on-number.ensures in
+    handed_on lent c.start.result _ _ told.value told.packed_after c.pack_marks.ensures told.res_after
     ∙ start_done lent 0 (sym c.in_ok-wrong_length.ensures) c.args.rows c.args.columns (omega arith) _
-    (c.start-reply.ensures ∙ ap (λ (l : List ℕ). start_call size (page_of c.args.characters.now l)) own)
+    (c.start.ensures ∙ ap (λ (l : List ℕ). start_call size (page_of c.args.characters.now l)) own)
