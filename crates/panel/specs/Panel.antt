@@ -1,15 +1,13 @@
 -- Document 02, M-100: what the three functions that C calls give back and leave.
 use Rattle.std.specs.Prelude.{◌≡◌, not, ℕ, ◌*◌, ◌<◌, eqb, leb, ltb, length, Result, Ok, Err}
-use Rattle.std.specs.Borrow.{Bor, MutBor}
 use mathlib.Core.List.{List, [], ◌∷◌, ◌++◌, flat_map}
 use Rattle.words.specs.Choice.{If◌then◌else◌, ◌and◌}
 use Rattle.words.specs.Output.{placed}
 use Rattle.page.specs.Page.{Page, page_of}
 use Rattle.state.specs.Tests.{size_fits}
-use Rattle.steps.specs.Steps.{Terminal, terminal_of}
+use Rattle.steps.specs.Steps.{Terminal}
 use Rattle.terminal.specs.declared.Answer.{Answer}
-use Rattle.terminal.specs.declared.Reply.{Reply}
-use Rattle.terminal.specs.Answers.{Outcome, number_of, given}
+use Rattle.terminal.specs.Answers.{Outcome, number_of}
 use Rattle.terminal.specs.Calls.{start_call, host_call, key_call}
 use Rattle.record.specs.Bytes.{number_bytes, number_at, read_each}
 use Rattle.record.specs.Record.{record_length, record_of, state_in, is_good}
@@ -159,11 +157,3 @@ abbrev pub Turned : List ℕ → List ℕ → List ℕ → List ℕ → Answer �
 Turned packed characters marks result refusal told =
     (output : List ℕ) (call : Terminal → Outcome) →
     handed_back (number_of refusal) (lent_of packed characters marks output told) ≡ on_terminal call (lent_of packed characters marks output result)
-
--- A function of the code, by what it may hand back, does a call: on a record, a page's characters and marks, the output.
-abbrev pub Does : (Bor (List ℕ) → MutBor (List ℕ) → MutBor (List ℕ) → MutBor (List ℕ) → Reply → MutBor (List ℕ) → MutBor (List ℕ) → MutBor (List ℕ) → Type 0) → (Terminal → List ℕ → Outcome) → Type 0
-Does may call =
-    (packed : Bor (List ℕ)) (characters marks output : MutBor (List ℕ)) (reply : Reply) (characters' marks' output' : MutBor (List ℕ)) →
-    may packed characters marks output reply characters' marks' output' →
-    given reply (page_of characters'.now marks'.now) output'.now
-    ≡ call (terminal_of (state_in packed.now) characters.now marks.now) output.now
