@@ -6,8 +6,9 @@
 ghost use Rattle.std.specs.Prelude.{◌≡◌, [], List, ℕ, ◌*◌, ◌≤◌, length, MatchResult};
 ghost use Rattle.words.specs.Output.{placed};
 ghost use Rattle.page.specs.Page.{page_of};
+ghost use Rattle.state.specs.Tests.{size_fits};
 ghost use Rattle.terminal.specs.Answers.{number_of};
-ghost use Rattle.record.specs.Record.{record_of};
+ghost use Rattle.record.specs.Record.{record_of, state_in};
 ghost use Rattle.panel.specs.Panel.{lent_of, result_bytes, marks_said, mark_bytes, wrong_length, wrong_content};
 ghost use Rattle.panel.specs.Panel.{RefusedBy, number_told, Admitted, Turned};
 ghost use Rattle.panel.specs.Panel.{PanelStartAllows, PanelHostAllows, PanelKeyAllows};
@@ -113,14 +114,20 @@ fn wrong_length(packed: &[u8], res: &[u8]) -> Result<(), Answer>
     Ok(())
 }
 
+// The size that the record says is listed, and the page lent is of it.
+fn size_fits(packed: &[u8], characters: &[u8], marks: &[Mark]) -> bool
+    ensures { result ≡ size_fits (state_in packed.now).size (page_of characters.now marks.now) }
+{
+    record::state_in(packed).size.fits(characters, marks)
+}
+
 // Bad content is refused, but a wrong size before it.
 fn wrong_content(packed: &[u8], characters: &[u8], marks: &[Mark]) -> Result<(), Answer>
     ensures { MatchResult result
         (λ _. wrong_content packed.now (page_of characters.now marks.now) ≡ 0)
         (λ refusal. RefusedBy refusal (wrong_content packed.now (page_of characters.now marks.now))) }
 {
-    let state = record::state_in(packed);
-    if !state.size.fits(characters, marks) {
+    if !size_fits(packed, characters, marks) {
         return Err(Answer::WrongSize);
     }
     if !record::is_good(packed) {

@@ -9,26 +9,20 @@ use Rattle.panel.specs.Panel.{wrong_content}
 use Rattle.panel.proofs.Laws.{refused_size, refused_state}
 use Rattle.panel.proofs.wrong_content.Goals as goal
 
-pub returns-then-not-fits : goal.returns-then-not-fits
+pub returns-then-not-size_fits : goal.returns-then-not-size_fits
 unfolding wrong_content
-returns-then-not-fits c =
-    let page = page_of c.args.characters.now c.args.marks.now in
-    let same = ap (λ (s : State). size_fits s.size page) (sym c.state_in-state.ensures) in
-    refused_size _ (then_case {A = ℕ} _ _ _ (ap not (same ∙ sym c.fits.ensures ∙ c.if-not-fits.true)))
+returns-then-not-size_fits c =
+    refused_size _ (then_case {A = ℕ} _ _ _ (ap not (sym c.size_fits.ensures ∙ c.if-not-size_fits.true)))
 
 pub returns-then-not-is_good : goal.returns-then-not-is_good
 unfolding wrong_content
 returns-then-not-is_good c =
-    let page = page_of c.args.characters.now c.args.marks.now in
-    let same = ap (λ (s : State). size_fits s.size page) (sym c.state_in-state.ensures) in
     refused_state _
-    (else_case {A = ℕ} _ _ _ (ap not (same ∙ sym c.fits.ensures ∙ c.if-not-fits.false))
+    (else_case {A = ℕ} _ _ _ (ap not (sym c.size_fits.ensures ∙ c.if-not-size_fits.false))
     ∙ then_case {A = ℕ} _ _ _ (ap not (sym c.is_good.ensures ∙ c.if-not-is_good.true)))
 
 pub returns : goal.returns
 unfolding wrong_content
 returns c =
-    let page = page_of c.args.characters.now c.args.marks.now in
-    let same = ap (λ (s : State). size_fits s.size page) (sym c.state_in-state.ensures) in
-    else_case {A = ℕ} _ _ _ (ap not (same ∙ sym c.fits.ensures ∙ c.if-not-fits.false))
+    else_case {A = ℕ} _ _ _ (ap not (sym c.size_fits.ensures ∙ c.if-not-size_fits.false))
     ∙ else_case {A = ℕ} _ _ _ (ap not (sym c.is_good.ensures ∙ c.if-not-is_good.false))
