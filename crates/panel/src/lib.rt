@@ -180,8 +180,7 @@ fn start_on(
     Ok(number)
 }
 
-// These two share `admit` and `hand_on`. As one function with a closure between them, panel_host took 336 bytes of stack
-// more than docs/PROMISES.md says.
+// Two functions: as one with a closure for the call, panel_host took more bytes of stack than docs/PROMISES.md says.
 fn host_on(
     packed: &mut [u8],
     characters: &mut [u8],

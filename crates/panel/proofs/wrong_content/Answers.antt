@@ -2,9 +2,6 @@ use mathlib.Core.Path.{sym, ap, ◌∙◌}
 use mathlib.Core.Bool.{not}
 use Prim.Native.Nat.{ℕ}
 use Rattle.words.proofs.Choosing.{then_case, else_case}
-use Rattle.page.specs.Page.{page_of}
-use Rattle.state.specs.declared.State.{State}
-use Rattle.state.specs.Tests.{size_fits}
 use Rattle.panel.specs.Panel.{wrong_content}
 use Rattle.panel.proofs.Laws.{refused_size, refused_state}
 use Rattle.panel.proofs.wrong_content.Goals as goal
