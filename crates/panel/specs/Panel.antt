@@ -156,4 +156,5 @@ pub record Admitted (packed characters marks result own : List ℕ) : Type 0 whe
 abbrev pub Turned : List ℕ → List ℕ → List ℕ → List ℕ → Answer → List ℕ → Type 0
 Turned packed characters marks result refusal told =
     (output : List ℕ) (call : Terminal → Outcome) →
-    handed_back (number_of refusal) (lent_of packed characters marks output told) ≡ on_terminal call (lent_of packed characters marks output result)
+    handed_back (number_of refusal) (lent_of packed characters marks output told)
+    ≡ on_terminal call (lent_of packed characters marks output result)
