@@ -9,12 +9,13 @@ use Rattle.words.specs.Output.{placed}
 use Rattle.words.proofs.Choosing.{then_case, else_case, either_line}
 use Rattle.page.specs.Page.{Page}
 use Rattle.steps.specs.Steps.{Terminal}
+use Rattle.terminal.specs.declared.Answer.TheVariants.{WrongSize, WrongState}
 use Rattle.terminal.specs.declared.Reply.{Reply}
 use Rattle.terminal.specs.Answers.{Outcome, number_of, given}
 use Rattle.terminal.specs.Calls.{start_call}
 use Rattle.record.specs.Bytes.{number_bytes}
 use Rattle.record.specs.Record.{record_of}
-use Rattle.panel.specs.Panel.{Lent, lent_of, result_length, result_bytes, mark_bytes, page_in, terminal_in, handed_back, untouched, refused_with, left_by, wrong_length, wrong_content, panel_start, on_terminal}
+use Rattle.panel.specs.Panel.{Lent, lent_of, result_length, result_bytes, mark_bytes, page_in, terminal_in, handed_back, untouched, refused_with, left_by, wrong_length, wrong_content, panel_start, on_terminal, RefusedBy}
 
 pub result_length_lem : (number taken sent stored : ℕ) → length (result_bytes number taken sent stored) ≡ result_length
 unfolding result_bytes number_bytes
@@ -29,6 +30,15 @@ right_lengths packed result =
     (λ thirteen. either_line (λ (wrong : ℕ). wrong ≤ 0 → (length packed ≡ 195) × (length result ≡ 13)) _ _ _
     (λ _ none. absurd (omega arith))
     (λ long none. (eqb-true _ _ (not-false _ long), eqb-true _ _ (not-false _ thirteen))))
+
+-- The refusals of this crate's own tests.
+pub refused_size : (number : ℕ) → number ≡ 1 → RefusedBy WrongSize number
+unfolding number_of
+refused_size number is = record { some = omega arith; told = sym is }
+
+pub refused_state : (number : ℕ) → number ≡ 2 → RefusedBy WrongState number
+unfolding number_of
+refused_state number is = record { some = omega arith; told = sym is }
 
 -- What an entry handed back, told to C.
 pub handed_on : (lent : Lent) (reply : Reply) (page : Page) (output : List ℕ) {number : ℕ} {packed marks result : List ℕ} → number ≡ number_of reply.answer → packed ≡ record_of reply.state → marks ≡ placed 0 (mark_bytes page.marks) lent.marks → result ≡ result_bytes (number_of reply.answer) reply.taken reply.sent reply.stored → handed_back number (lent_of packed page.characters marks output result) ≡ left_by lent (given reply page output)

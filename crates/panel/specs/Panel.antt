@@ -1,12 +1,13 @@
 -- Document 02, M-100: what the three functions that C calls give back and leave.
-use Rattle.std.specs.Prelude.{◌≡◌, not, ℕ, ◌*◌, eqb, leb, ltb, length}
+use Rattle.std.specs.Prelude.{◌≡◌, not, ℕ, ◌*◌, ◌<◌, eqb, leb, ltb, length, Result, Ok, Err}
 use mathlib.Core.List.{List, [], ◌∷◌, ◌++◌, flat_map}
 use Rattle.words.specs.Choice.{If◌then◌else◌, ◌and◌}
 use Rattle.words.specs.Output.{placed}
 use Rattle.page.specs.Page.{Page, page_of}
 use Rattle.state.specs.Tests.{size_fits}
 use Rattle.steps.specs.Steps.{Terminal}
-use Rattle.terminal.specs.Answers.{Outcome}
+use Rattle.terminal.specs.declared.Answer.{Answer}
+use Rattle.terminal.specs.Answers.{Outcome, number_of}
 use Rattle.terminal.specs.Calls.{start_call, host_call, key_call}
 use Rattle.record.specs.Bytes.{number_bytes, number_at, read_each}
 use Rattle.record.specs.Record.{record_length, record_of, state_in, is_good}
@@ -135,3 +136,25 @@ PanelHostAllows lent bytes number left = handed_back number left ≡ panel_host 
 
 abbrev pub PanelKeyAllows : Lent → ℕ → ℕ → Lent → Type 0
 PanelKeyAllows lent key number left = handed_back number left ≡ panel_key lent key
+
+-- What the parts of the code tell one another. A refusal has a number, which is not 0.
+pub record RefusedBy (refusal : Answer) (number : ℕ) : Type 0 where
+  pub some : 0 < number
+  pub told : number_of refusal ≡ number
+
+abbrev pub number_told : Result ℕ Answer → ℕ
+number_told (Ok number) = number
+number_told (Err refusal) = number_of refusal
+
+-- Nothing that is lent to a call on a terminal is wrong, and these are its marks.
+pub record Admitted (packed characters marks result own : List ℕ) : Type 0 where
+  pub right_lengths : wrong_length packed result ≡ 0
+  pub good_content : wrong_content packed (page_of characters own) ≡ 0
+  pub marks_read : own ≡ marks_in (length characters) marks
+
+-- Something is: whatever the call was, this is all that it gives and leaves.
+abbrev pub Turned : List ℕ → List ℕ → List ℕ → List ℕ → Answer → List ℕ → Type 0
+Turned packed characters marks result refusal told =
+    (output : List ℕ) (call : Terminal → Outcome) →
+    handed_back (number_of refusal) (lent_of packed characters marks output told)
+    ≡ on_terminal call (lent_of packed characters marks output result)

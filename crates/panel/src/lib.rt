@@ -3,17 +3,19 @@
 // crate panel_c exports the three under the same names.
 #![tactic(auto)]
 
-ghost use Rattle.std.specs.Prelude.{◌≡◌, [], ◌*◌, ◌≤◌, length};
+ghost use Rattle.std.specs.Prelude.{◌≡◌, [], List, ℕ, ◌*◌, ◌≤◌, length, MatchResult};
 ghost use Rattle.words.specs.Output.{placed};
 ghost use Rattle.page.specs.Page.{page_of};
+ghost use Rattle.state.specs.Tests.{size_fits};
 ghost use Rattle.terminal.specs.Answers.{number_of};
-ghost use Rattle.record.specs.Record.{record_of};
+ghost use Rattle.record.specs.Record.{record_of, state_in};
 ghost use Rattle.panel.specs.Panel.{lent_of, result_bytes, marks_said, mark_bytes, wrong_length, wrong_content};
+ghost use Rattle.panel.specs.Panel.{RefusedBy, number_told, Admitted, Turned};
 ghost use Rattle.panel.specs.Panel.{PanelStartAllows, PanelHostAllows, PanelKeyAllows};
 
 use page::Mark;
 use state::State;
-use terminal::Reply;
+use terminal::{Answer, Reply};
 
 // As many bytes as the result slice has.
 pub const RESULT_LENGTH: usize = 13;
@@ -47,8 +49,7 @@ fn tell(res: &mut [u8], number: u8, taken: usize, sent: usize, stored: usize)
     requires { length res.old ≡ 13 }
     ensures { res.new ≡ result_bytes number taken sent stored }
 {
-    let bytes = result_bytes(number, taken, sent, stored);
-    output::put_all(res, 0, &bytes);
+    res.copy_from_slice(&result_bytes(number, taken, sent, stored));
 }
 
 // The state's record. One that is the same already is not written: a refused call writes nothing there.
@@ -57,23 +58,20 @@ fn pack(packed: &mut [u8], state: State)
     ensures { packed.new ≡ record_of state }
 {
     let bytes = record::record_of(state);
-    if record::same_bytes(packed, &bytes) {
-        return;
+    if packed[..] != bytes[..] {
+        packed.copy_from_slice(&bytes);
     }
-    output::put_all(packed, 0, &bytes);
 }
 
 // How many marks so many bytes say for so many cells.
 fn marks_said(cells: usize, bytes: usize) -> usize
     ensures { result ≡ marks_said cells bytes }
 {
-    if MOST_CELLS < cells {
-        return 0;
+    if cells <= MOST_CELLS && bytes == cells * 2 {
+        cells
+    } else {
+        0
     }
-    if bytes != cells * 2 {
-        return 0;
-    }
-    cells
 }
 
 // The page's marks. Those that are the same already are not written: a refused call writes nothing there.
@@ -81,14 +79,13 @@ fn pack_marks(marks: &mut [u8], own: &[Mark])
     requires { length own.now * 2 ≤ length marks.old }
     ensures { marks.new ≡ placed 0 (mark_bytes own.now) marks.old }
 {
-    if record::says_numbers(marks, own) {
-        return;
+    if !record::says_numbers(marks, own) {
+        record::put_numbers(marks, 0, own);
     }
-    record::put_numbers(marks, 0, own);
 }
 
 // What an entry handed back, told to C.
-fn hand_on(packed: &mut [u8], res: &mut [u8], reply: Reply) -> u8
+fn hand_on(reply: Reply, packed: &mut [u8], res: &mut [u8]) -> u8
     requires packed_len { length packed.old ≡ 195 }
     requires res_len { length res.old ≡ 13 }
     ensures value { result ≡ number_of reply.answer }
@@ -96,40 +93,69 @@ fn hand_on(packed: &mut [u8], res: &mut [u8], reply: Reply) -> u8
     ensures res_after { res.new
         ≡ result_bytes (number_of reply.answer) reply.taken reply.sent reply.stored }
 {
-    let answer = reply.answer;
-    let state = reply.state;
-    let number = terminal::number_of(answer);
-    pack(packed, state);
+    let number = terminal::number_of(reply.answer);
+    pack(packed, reply.state);
     tell(res, number, reply.taken, reply.sent, reply.stored);
     number
 }
 
-// M-100's own refusals, which write nothing: 1 or 2, else 0.
-fn wrong_length(packed: &[u8], res: &[u8]) -> u8
-    ensures { result ≡ wrong_length packed.now res.now }
+// M-100's own refusals, which write nothing.
+fn wrong_length(packed: &[u8], res: &[u8]) -> Result<(), Answer>
+    ensures { MatchResult result
+        (λ _. wrong_length packed.now res.now ≡ 0)
+        (λ refusal. RefusedBy refusal (wrong_length packed.now res.now)) }
 {
     if res.len() != RESULT_LENGTH {
-        return 1;
+        return Err(Answer::WrongSize);
     }
     if packed.len() != record::LENGTH {
-        return 2;
+        return Err(Answer::WrongState);
     }
-    0
+    Ok(())
 }
 
-// Bad content is 2, but a wrong size is 1 before it.
-fn wrong_content(packed: &[u8], characters: &[u8], marks: &[Mark]) -> u8
-    ensures { result ≡ wrong_content packed.now
-        (page_of characters.now marks.now) }
+// The size that the record says is listed, and the page lent is of it.
+fn size_fits(packed: &[u8], characters: &[u8], marks: &[Mark]) -> bool
+    ensures { result ≡ size_fits (state_in packed.now).size (page_of characters.now marks.now) }
 {
-    let state = record::state_in(packed);
-    if !state.size.fits(characters, marks) {
-        return 1;
+    record::state_in(packed).size.fits(characters, marks)
+}
+
+// Bad content is refused, but a wrong size before it.
+fn wrong_content(packed: &[u8], characters: &[u8], marks: &[Mark]) -> Result<(), Answer>
+    ensures { MatchResult result
+        (λ _. wrong_content packed.now (page_of characters.now marks.now) ≡ 0)
+        (λ refusal. RefusedBy refusal (wrong_content packed.now (page_of characters.now marks.now))) }
+{
+    if !size_fits(packed, characters, marks) {
+        return Err(Answer::WrongSize);
     }
     if !record::is_good(packed) {
-        return 2;
+        return Err(Answer::WrongState);
     }
-    0
+    Ok(())
+}
+
+// What is lent to a call on a terminal, tested; its marks are read as our own. A refusal is told to C, but M-100's own.
+fn admit(
+    packed: &[u8],
+    characters: &[u8],
+    marks: &[u8],
+    own: &mut [Mark],
+    res: &mut [u8],
+) -> Result<(), Answer>
+    requires { length own.old ≡ marks_said (length characters.now) (length marks.now) }
+    ensures { MatchResult result
+        (λ _. Admitted packed.now characters.now marks.now res.old own.new × (res.new ≡ res.old))
+        (λ refusal. Turned packed.now characters.now marks.now res.old refusal res.new) }
+{
+    wrong_length(packed, res)?;
+    record::read_numbers(marks, own);
+    let tested = wrong_content(packed, characters, own);
+    if let Err(refusal) = tested {
+        tell(res, terminal::number_of(refusal), 0, 0, 0);
+    }
+    tested
 }
 
 // A start, host bytes and a key, on marks of our own: those that the bytes lent say, and the entries work on.
@@ -141,22 +167,20 @@ fn start_on(
     marks: &mut [u8],
     own: &mut [Mark],
     res: &mut [u8],
-) -> u8
+) -> Result<u8, Answer>
     requires { length own.old ≡ marks_said (length characters.old) (length marks.old) }
     ensures { PanelStartAllows rows columns
         (lent_of packed.old characters.old marks.old [] res.old)
-        result (lent_of packed.new characters.new marks.new [] res.new) }
+        (number_told result) (lent_of packed.new characters.new marks.new [] res.new) }
 {
-    let wrong = wrong_length(packed, res);
-    if 0 < wrong {
-        return wrong;
-    }
+    wrong_length(packed, res)?;
     record::read_numbers(marks, own);
-    let reply = terminal::start(rows, columns, characters, own);
+    let number = hand_on(terminal::start(rows, columns, characters, own), packed, res);
     pack_marks(marks, own);
-    hand_on(packed, res, reply)
+    Ok(number)
 }
 
+// Two functions: as one with a closure for the call, panel_host took more bytes of stack than docs/PROMISES.md says.
 fn host_on(
     packed: &mut [u8],
     characters: &mut [u8],
@@ -165,29 +189,24 @@ fn host_on(
     bytes: &[u8],
     out: &mut [u8],
     res: &mut [u8],
-) -> u8
+) -> Result<u8, Answer>
     requires { length own.old ≡ marks_said (length characters.old) (length marks.old) }
     ensures { PanelHostAllows
         (lent_of packed.old characters.old marks.old out.old
         res.old)
-        bytes.now result
+        bytes.now (number_told result)
         (lent_of packed.new characters.new marks.new out.new
         res.new) }
 {
-    let wrong = wrong_length(packed, res);
-    if 0 < wrong {
-        return wrong;
-    }
-    record::read_numbers(marks, own);
-    let bad = wrong_content(packed, characters, own);
-    if 0 < bad {
-        tell(res, bad, 0, 0, 0);
-        return bad;
-    }
+    admit(packed, characters, marks, own, res)?;
     let state = record::state_in(packed);
-    let reply = terminal::host(state, characters, own, bytes, out);
+    let number = hand_on(
+        terminal::host(state, characters, own, bytes, out),
+        packed,
+        res,
+    );
     pack_marks(marks, own);
-    hand_on(packed, res, reply)
+    Ok(number)
 }
 
 fn key_on(
@@ -198,29 +217,27 @@ fn key_on(
     key: usize,
     out: &mut [u8],
     res: &mut [u8],
-) -> u8
+) -> Result<u8, Answer>
     requires { length own.old ≡ marks_said (length characters.old) (length marks.old) }
     ensures { PanelKeyAllows
         (lent_of packed.old characters.old marks.old out.old
         res.old)
-        key result
+        key (number_told result)
         (lent_of packed.new characters.new marks.new out.new
         res.new) }
 {
-    let wrong = wrong_length(packed, res);
-    if 0 < wrong {
-        return wrong;
-    }
-    record::read_numbers(marks, own);
-    let bad = wrong_content(packed, characters, own);
-    if 0 < bad {
-        tell(res, bad, 0, 0, 0);
-        return bad;
-    }
+    admit(packed, characters, marks, own, res)?;
     let state = record::state_in(packed);
-    let reply = terminal::key(state, characters, own, key, out);
+    let number = hand_on(terminal::key(state, characters, own, key, out), packed, res);
     pack_marks(marks, own);
-    hand_on(packed, res, reply)
+    Ok(number)
+}
+
+// The number that C is given.
+fn number_told(told: Result<u8, Answer>) -> u8
+    ensures { result ≡ number_told told }
+{
+    told.unwrap_or_else(terminal::number_of)
 }
 
 // A fresh page of so many rows and columns.
@@ -238,7 +255,7 @@ pub fn panel_start(
 {
     let cells = marks_said(characters.len(), marks.len());
     let mut own = [0; MOST_CELLS];
-    start_on(
+    number_told(start_on(
         rows,
         columns,
         packed,
@@ -246,7 +263,7 @@ pub fn panel_start(
         marks,
         &mut own[..cells],
         res,
-    )
+    ))
 }
 
 // Host bytes, at most 65,536. What is sent is written from the output's start on.
@@ -267,7 +284,7 @@ pub fn panel_host(
 {
     let cells = marks_said(characters.len(), marks.len());
     let mut own = [0; MOST_CELLS];
-    host_on(
+    number_told(host_on(
         packed,
         characters,
         marks,
@@ -275,7 +292,7 @@ pub fn panel_host(
         bytes,
         out,
         res,
-    )
+    ))
 }
 
 // A key, by its number. What is sent is written from the output's start on.
@@ -296,5 +313,5 @@ pub fn panel_key(
 {
     let cells = marks_said(characters.len(), marks.len());
     let mut own = [0; MOST_CELLS];
-    key_on(packed, characters, marks, &mut own[..cells], key, out, res)
+    number_told(key_on(packed, characters, marks, &mut own[..cells], key, out, res))
 }

@@ -1,5 +1,5 @@
 -- Host bytes are read on, byte by byte, to the first that brings something about, or to the last of them.
-use Rattle.std.specs.Prelude.{Bool, true, false, List, [], ◌∷◌, ℕ, ◌+◌}
+use Rattle.std.specs.Prelude.{◌≡◌, Bool, true, false, List, [], ◌∷◌, ℕ, ◌+◌, ◌<◌, length, drop}
 use Rattle.words.specs.Choice.{If◌then◌else◌}
 use Rattle.sequence.specs.declared.HalfRead.{HalfRead}
 use Rattle.sequence.specs.declared.Event.{Event}
@@ -30,3 +30,9 @@ read_from half (byte ∷ next ∷ later) at =
     let further = read_from (advance_of half byte).half (next ∷ later) (at + 1) in
     If is_nothing (advance_of half byte).event then further
     else read_to half byte at
+
+-- What was read of bytes from a place on, where a record is: it brought something about, and reading on gives the same.
+pub record ReadWhole (half : HalfRead) (bytes : List ℕ) (at : ℕ) (reading : Reading) : Type 0 where
+  pub something : is_nothing reading.event ≡ false
+  pub here : at < length bytes
+  pub same : reading ≡ read_from half (drop at bytes) at

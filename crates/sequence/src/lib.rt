@@ -6,9 +6,9 @@ ghost use Rattle.std.specs.Prelude.{◌≡◌, true, ◌≤◌};
 ghost use Rattle.words.specs.Choice.{◌is◌to◌};
 ghost use Rattle.sequence.specs.Record.{largest_argument, arguments_fit, valid_half_read};
 ghost use Rattle.sequence.specs.Record.{with_digit, with_next_argument};
-ghost use Rattle.sequence.specs.Reading.{is_control, is_cancel, refuses, outside_sequence, after_esc};
-ghost use Rattle.sequence.specs.Reading.{after_intermediate, after_bracket, right_after_bracket, after_private_mark};
-ghost use Rattle.sequence.specs.Reading.{sequence_read_on, inside_sequence, advance_of};
+ghost use Rattle.sequence.specs.Reading.{reads_on, ends, refuses, is_control, is_cancel, outside_sequence};
+ghost use Rattle.sequence.specs.Reading.{after_esc, after_intermediate, after_bracket, right_after_bracket};
+ghost use Rattle.sequence.specs.Reading.{after_private_mark, sequence_read_on, inside_sequence, advance_of};
 
 // What is half read.
 pub const NONE: u8 = 0;
@@ -27,6 +27,7 @@ pub const AFTER_PRIVATE_MARK: u8 = 5;
 // A sequence of which some bytes have been read. The last of `count` arguments is still being read.
 #[derive(Clone, Copy)]
 pub struct HalfRead {
+    // A number: C's record keeps any byte here, and the entries answer 2 to a bad one (`state_in`, `valid_half_read`).
     pub kind: u8,
     pub arguments: [u16; 8],
     pub count: u8,
@@ -76,65 +77,40 @@ pub const NOTHING_READ: HalfRead = HalfRead {
 
 pub const ESC_READ: HalfRead = HalfRead {
     kind: AFTER_ESC,
-    arguments: [0; 8],
-    count: 0,
-    spoilt: false,
+    ..NOTHING_READ
 };
 
 const INTERMEDIATE_READ: HalfRead = HalfRead {
     kind: AFTER_INTERMEDIATE,
-    arguments: [0; 8],
-    count: 0,
-    spoilt: false,
+    ..NOTHING_READ
 };
 
 const ARGUMENT_READ: HalfRead = HalfRead {
     kind: AFTER_BRACKET,
-    arguments: [0; 8],
     count: 1,
-    spoilt: false,
+    ..NOTHING_READ
 };
 
 pub const BRACKET_READ: HalfRead = HalfRead {
     kind: BRACKET_ALONE,
-    arguments: [0; 8],
-    count: 1,
-    spoilt: false,
+    ..ARGUMENT_READ
 };
 
 const PRIVATE_MARK_READ: HalfRead = HalfRead {
     kind: AFTER_PRIVATE_MARK,
-    arguments: [0; 8],
-    count: 1,
-    spoilt: false,
+    ..ARGUMENT_READ
 };
 
 const SPOILT: HalfRead = HalfRead {
-    kind: AFTER_BRACKET,
-    arguments: [0; 8],
-    count: 1,
     spoilt: true,
-};
-
-// What several rules give: a sequence dropped, a new one started.
-const DROPPED: Advanced = Advanced {
-    half: NOTHING_READ,
-    event: Event::Nothing,
-};
-
-const STARTED_ANEW: Advanced = Advanced {
-    half: ESC_READ,
-    event: Event::Nothing,
+    ..ARGUMENT_READ
 };
 
 // Whether n is low to high.
 pub fn is_between(n: u8, low: u8, high: u8) -> bool
     ensures { result ≡ (n is low to high) }
 {
-    if n < low {
-        return false;
-    }
-    n <= high
+    low <= n && n <= high
 }
 
 // What is text outside a sequence, and belongs to one inside it.
@@ -148,80 +124,64 @@ pub fn is_text(byte: u8) -> bool
 fn is_control(byte: u8) -> bool
     ensures { result ≡ is_control byte }
 {
-    match byte {
-        0x08 => true,
-        0x0D => true,
-        0x0A => true,
-        0x09 => true,
-        _ => false,
-    }
+    matches!(byte, 0x08 | 0x0D | 0x0A | 0x09)
 }
 
 // 18 and 1A, at which a sequence is forgotten.
 fn is_cancel(byte: u8) -> bool
     ensures { result ≡ is_cancel byte }
 {
-    match byte {
-        0x18 => true,
-        0x1A => true,
-        _ => false,
+    matches!(byte, 0x18 | 0x1A)
+}
+
+// The sequence is read on, and nothing happens yet.
+fn reads_on(half: HalfRead) -> Advanced
+    ensures { result ≡ reads_on half }
+{
+    Advanced {
+        half,
+        event: Event::Nothing,
     }
 }
 
-// A refused command, for a reason, at a byte: the sequence is over.
-fn refused(reason: Reason, byte: u8) -> Advanced
-    ensures { result ≡ refuses reason byte }
+// The sequence is over, with an event.
+fn ends(event: Event) -> Advanced
+    ensures { result ≡ ends event }
 {
     Advanced {
         half: NOTHING_READ,
-        event: Event::Refused(reason, byte),
+        event,
     }
+}
+
+// A refused command, for a reason, at a byte.
+fn refused(reason: Reason, byte: u8) -> Advanced
+    ensures { result ≡ refuses reason byte }
+{
+    ends(Event::Refused(reason, byte))
 }
 
 // Any byte where nothing is half read.
 fn outside_sequence(byte: u8) -> Advanced
     ensures { result ≡ outside_sequence byte }
 {
-    if is_text(byte) {
-        return Advanced {
-            half: NOTHING_READ,
-            event: Event::Text(byte),
-        };
+    match byte {
+        _ if is_text(byte) => ends(Event::Text(byte)),
+        _ if is_control(byte) => ends(Event::Control(byte)),
+        0x1B => reads_on(ESC_READ),
+        0x80.. => refused(Reason::HighByte, byte),
+        _ => ends(Event::Nothing),
     }
-    if is_control(byte) {
-        return Advanced {
-            half: NOTHING_READ,
-            event: Event::Control(byte),
-        };
-    }
-    if byte == 0x1B {
-        return STARTED_ANEW;
-    }
-    if 0x80 <= byte {
-        return refused(Reason::HighByte, byte);
-    }
-    DROPPED
 }
 
 // 20 to 7E after ESC.
 fn after_esc(byte: u8) -> Advanced
     ensures { result ≡ after_esc byte }
 {
-    if byte <= 0x2F {
-        return Advanced {
-            half: INTERMEDIATE_READ,
-            event: Event::Nothing,
-        };
-    }
-    if byte == b'[' {
-        return Advanced {
-            half: BRACKET_READ,
-            event: Event::Nothing,
-        };
-    }
-    Advanced {
-        half: NOTHING_READ,
-        event: Event::EscCommand(byte),
+    match byte {
+        ..=0x2F => reads_on(INTERMEDIATE_READ),
+        b'[' => reads_on(BRACKET_READ),
+        _ => ends(Event::EscCommand(byte)),
     }
 }
 
@@ -229,49 +189,37 @@ fn after_esc(byte: u8) -> Advanced
 fn after_intermediate(byte: u8) -> Advanced
     ensures { result ≡ after_intermediate byte }
 {
-    if byte <= 0x2F {
-        return Advanced {
-            half: INTERMEDIATE_READ,
-            event: Event::Nothing,
-        };
+    match byte {
+        ..=0x2F => reads_on(INTERMEDIATE_READ),
+        _ => refused(Reason::UnknownCommand, byte),
     }
-    refused(Reason::UnknownCommand, byte)
 }
 
 // 20 to 7E right after ESC [.
 fn right_after_bracket(byte: u8) -> Advanced
     ensures { result ≡ right_after_bracket byte }
 {
-    if byte == b'>' {
-        return Advanced {
-            half: PRIVATE_MARK_READ,
-            event: Event::Nothing,
-        };
+    match byte {
+        b'>' => reads_on(PRIVATE_MARK_READ),
+        _ => ARGUMENT_READ.after_bracket(byte),
     }
-    ARGUMENT_READ.after_bracket(byte)
 }
 
 // The largest that argument `i`, counted from 0, may be where `reached` of them are reached.
 fn largest_argument(i: usize, reached: usize) -> u16
     ensures { result ≡ largest_argument i reached }
 {
-    if i < reached {
-        return 9999;
-    }
-    0
+    if i < reached { 9999 } else { 0 }
 }
 
 // No argument is larger than it may be.
 fn arguments_fit(arguments: [u16; 8], reached: usize) -> bool
     ensures { result ≡ arguments_fit reached 0 arguments }
 {
-    let mut i: usize = 0;
-    while i < 8 {
-        let largest = largest_argument(i, reached);
-        if largest < arguments[i] {
+    for (i, argument) in arguments.iter().enumerate() {
+        if largest_argument(i, reached) < *argument {
             return false;
         }
-        i += 1;
     }
     true
 }
@@ -281,42 +229,23 @@ impl HalfRead {
     pub fn is_valid(self) -> bool
         ensures { result ≡ valid_half_read self }
     {
-        let arguments = self.arguments;
-        let count = self.count;
         if self.spoilt {
-            if self.kind != AFTER_BRACKET {
-                return false;
+            return self.kind == AFTER_BRACKET
+                && self.count == 1
+                && arguments_fit(self.arguments, 0);
+        }
+        match self.kind {
+            AFTER_BRACKET => {
+                is_between(self.count, 1, 8)
+                    && arguments_fit(self.arguments, usize::from(self.count))
             }
-            if count != 1 {
-                return false;
+            BRACKET_ALONE => self.count == 1 && arguments_fit(self.arguments, 0),
+            AFTER_PRIVATE_MARK => self.count == 1 && arguments_fit(self.arguments, 1),
+            NONE | AFTER_ESC | AFTER_INTERMEDIATE => {
+                self.count == 0 && arguments_fit(self.arguments, 0)
             }
-            return arguments_fit(arguments, 0);
+            _ => false,
         }
-        if self.kind == AFTER_BRACKET {
-            if is_between(count, 1, 8) {
-                return arguments_fit(arguments, count as usize);
-            }
-            return false;
-        }
-        if self.kind == BRACKET_ALONE {
-            if count != 1 {
-                return false;
-            }
-            return arguments_fit(arguments, 0);
-        }
-        if self.kind == AFTER_PRIVATE_MARK {
-            if count != 1 {
-                return false;
-            }
-            return arguments_fit(arguments, count as usize);
-        }
-        if AFTER_INTERMEDIATE < self.kind {
-            return false;
-        }
-        if count != 0 {
-            return false;
-        }
-        arguments_fit(arguments, 0)
     }
 
     // A digit is put at the end of the last argument.
@@ -327,8 +256,8 @@ impl HalfRead {
         if self.spoilt { // nothing adds to it
             return self;
         }
-        let last = (self.count - 1) as usize;
-        let value = self.arguments[last] as u32 * 10 + digit as u32;
+        let last = usize::from(self.count - 1);
+        let value = u32::from(self.arguments[last]) * 10 + u32::from(digit);
         if 9999 < value {
             return SPOILT;
         }
@@ -347,9 +276,10 @@ impl HalfRead {
         if 8 <= self.count {
             return SPOILT;
         }
-        let mut half = self;
-        half.count = self.count + 1;
-        half
+        HalfRead {
+            count: self.count + 1,
+            ..self
+        }
     }
 
     // 20 to 7E after ESC [ and more.
@@ -357,30 +287,12 @@ impl HalfRead {
         requires { (1 ≤ self.count) × (self.count ≤ 8) }
         ensures { result ≡ after_bracket self byte }
     {
-        if is_between(byte, b'0', b'9') {
-            return Advanced {
-                half: self.with_digit(byte - b'0'),
-                event: Event::Nothing,
-            };
-        }
-        if byte == b';' {
-            return Advanced {
-                half: self.with_next_argument(),
-                event: Event::Nothing,
-            };
-        }
-        if byte < 0x40 {
-            return Advanced {
-                half: SPOILT,
-                event: Event::Nothing,
-            };
-        }
-        if self.spoilt { // whatever the final byte is
-            return refused(Reason::BrokenSequence, byte);
-        }
-        Advanced {
-            half: NOTHING_READ,
-            event: Event::BracketCommand(byte),
+        match byte {
+            b'0'..=b'9' => reads_on(self.with_digit(byte - b'0')),
+            b';' => reads_on(self.with_next_argument()),
+            ..0x40 => reads_on(SPOILT),
+            _ if self.spoilt => refused(Reason::BrokenSequence, byte), // whatever the final byte is
+            _ => ends(Event::BracketCommand(byte)),
         }
     }
 
@@ -389,21 +301,10 @@ impl HalfRead {
         requires { (1 ≤ self.count) × (self.count ≤ 8) }
         ensures { result ≡ after_private_mark self byte }
     {
-        if is_between(byte, b'0', b'9') {
-            return Advanced {
-                half: self.with_digit(byte - b'0'),
-                event: Event::Nothing,
-            };
-        }
-        if byte < 0x40 { // a semicolon too: there is one argument
-            return Advanced {
-                half: SPOILT,
-                event: Event::Nothing,
-            };
-        }
-        Advanced {
-            half: NOTHING_READ,
-            event: Event::PrivateCommand(byte),
+        match byte {
+            b'0'..=b'9' => reads_on(self.with_digit(byte - b'0')),
+            ..0x40 => reads_on(SPOILT), // a semicolon too: there is one argument
+            _ => ends(Event::PrivateCommand(byte)),
         }
     }
 
@@ -413,19 +314,13 @@ impl HalfRead {
         requires fact { self.kind ≡ 0 → ⊥ }
         ensures { result ≡ sequence_read_on self byte }
     {
-        if self.kind == AFTER_ESC {
-            return after_esc(byte);
+        match self.kind {
+            AFTER_ESC => after_esc(byte),
+            AFTER_INTERMEDIATE => after_intermediate(byte),
+            BRACKET_ALONE => right_after_bracket(byte),
+            AFTER_PRIVATE_MARK => self.after_private_mark(byte),
+            _ => self.after_bracket(byte),
         }
-        if self.kind == AFTER_INTERMEDIATE {
-            return after_intermediate(byte);
-        }
-        if self.kind == BRACKET_ALONE {
-            return right_after_bracket(byte);
-        }
-        if self.kind == AFTER_PRIVATE_MARK {
-            return self.after_private_mark(byte);
-        }
-        self.after_bracket(byte)
     }
 
     // Any byte inside a sequence.
@@ -434,19 +329,13 @@ impl HalfRead {
         requires fact { self.kind ≡ 0 → ⊥ }
         ensures { result ≡ inside_sequence self byte }
     {
-        if is_cancel(byte) {
-            return DROPPED;
+        match byte {
+            _ if is_cancel(byte) => ends(Event::Nothing),
+            0x1B => reads_on(ESC_READ), // and not refused
+            _ if is_text(byte) => self.sequence_read_on(byte),
+            0x80.. => refused(Reason::HighByte, byte),
+            _ => refused(Reason::BrokenSequence, byte), // and not executed
         }
-        if byte == 0x1B {
-            return STARTED_ANEW; // and not refused
-        }
-        if is_text(byte) {
-            return self.sequence_read_on(byte);
-        }
-        if 0x80 <= byte {
-            return refused(Reason::HighByte, byte);
-        }
-        refused(Reason::BrokenSequence, byte) // and not executed
     }
 
     // The record and the event after one host byte.
@@ -454,9 +343,9 @@ impl HalfRead {
         requires { valid_half_read self ≡ true }
         ensures { result ≡ advance_of self byte }
     {
-        if self.kind == NONE {
-            return outside_sequence(byte);
+        match self.kind {
+            NONE => outside_sequence(byte),
+            _ => self.inside_sequence(byte),
         }
-        self.inside_sequence(byte)
     }
 }

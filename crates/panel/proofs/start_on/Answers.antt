@@ -1,8 +1,9 @@
-use mathlib.Core.Path.{ap, ◌∙◌}
+use mathlib.Core.Path.{sym, ap, ◌∙◌}
 use mathlib.Core.List.{List, []}
 use Prim.Native.Nat.{ℕ}
 use native.Mathlib.Omega.{arith}
 use lib.ListN.{length}
+use Rattle.std.proofs.lemmas.Result.{err_from_is_err_and}
 use Rattle.page.specs.Page.{page_of}
 use Rattle.state.specs.declared.Size.{Size}
 use Rattle.terminal.specs.Calls.{start_call}
@@ -12,23 +13,26 @@ use Rattle.panel.proofs.Marks.{said_there}
 use Rattle.panel.proofs.Laws.{right_lengths, handed_on, start_untouched, start_done}
 use Rattle.panel.proofs.start_on.Goals as goal
 
-pub returns-then-wrong-gt0 : goal.returns-then-wrong-gt0
-returns-then-wrong-gt0 c =
+pub returns-in_err-wrong_length : goal.returns-in_err-wrong_length
+returns-in_err-wrong_length c =
     let lent = lent_of c.args.packed.now c.args.characters.now c.args.marks.now [] c.args.res.now in
-    start_untouched lent _ c.wrong_length-wrong.ensures c.args.rows c.args.columns c.if-wrong-gt0.true
+    let refused = err_from_is_err_and c.from_residual.result c.from_residual.ensures.1 in
+    let told = c.in_err-wrong_length.ensures in
+    rw (refused.1, refused.2) (start_untouched lent _ told.told c.args.rows c.args.columns (omega (arith, told.some, told.told)))
 
 pub read_numbers-requires : goal.read_numbers-requires
 read_numbers-requires c =
     omega (arith, c.requires, said_there (length c.args.characters.now) (length c.args.marks.now))
 
+pub hand_on-number-requires-clause-packed_len : goal.hand_on-number-requires-clause-packed_len
+hand_on-number-requires-clause-packed_len c = (right_lengths c.args.packed.now c.args.res.now (omega (arith, c.in_ok-wrong_length.ensures))).0
+
 pub pack_marks-requires : goal.pack_marks-requires
 pack_marks-requires c =
-    omega (arith, c.requires, said_there (length c.args.characters.now) (length c.args.marks.now), c.start-reply.auto, c.read_numbers.auto)
+    omega (arith, c.requires, said_there (length c.args.characters.now) (length c.args.marks.now), c.start.auto, c.read_numbers.auto)
 
-pub hand_on-requires : goal.hand_on-requires
-hand_on-requires c =
-    let right = right_lengths _ _ (rw c.wrong_length-wrong.ensures at c.if-wrong-gt0.false) in
-    record { packed_len = right.0; res_len = right.1 }
+pub hand_on-number-requires-clause-res_len : goal.hand_on-number-requires-clause-res_len
+hand_on-number-requires-clause-res_len c = (right_lengths c.args.packed.now c.args.res.now (omega (arith, c.in_ok-wrong_length.ensures))).1
 
 pub returns : goal.returns
 returns c =
@@ -36,7 +40,7 @@ returns c =
     let marks = c.args.marks.now in
     let lent = lent_of c.args.packed.now c.args.characters.now marks [] c.args.res.now in
     let own = c.read_numbers.ensures ∙ ap (read_each (number_at 2 marks) 2 0) c.requires in
-    let told = c.hand_on.ensures in
-    handed_on lent c.start-reply.result _ _ told.value told.packed_after c.pack_marks.ensures told.res_after
-    ∙ start_done lent _ c.wrong_length-wrong.ensures c.args.rows c.args.columns c.if-wrong-gt0.false _
-    (c.start-reply.ensures ∙ ap (λ (l : List ℕ). start_call size (page_of c.args.characters.now l)) own)
+    let told = c.hand_on-number.ensures in
+    handed_on lent c.start.result _ _ told.value told.packed_after c.pack_marks.ensures told.res_after
+    ∙ start_done lent 0 (sym c.in_ok-wrong_length.ensures) c.args.rows c.args.columns (omega arith) _
+    (c.start.ensures ∙ ap (λ (l : List ℕ). start_call size (page_of c.args.characters.now l)) own)

@@ -2,31 +2,24 @@ use mathlib.Core.Path.{sym, ap, ◌∙◌}
 use mathlib.Core.Bool.{not}
 use Prim.Native.Nat.{ℕ}
 use Rattle.words.proofs.Choosing.{then_case, else_case}
-use Rattle.page.specs.Page.{page_of}
-use Rattle.state.specs.declared.State.{State}
-use Rattle.state.specs.Tests.{size_fits}
 use Rattle.panel.specs.Panel.{wrong_content}
+use Rattle.panel.proofs.Laws.{refused_size, refused_state}
 use Rattle.panel.proofs.wrong_content.Goals as goal
 
-pub returns-then-not-fits : goal.returns-then-not-fits
+pub returns-then-not-size_fits : goal.returns-then-not-size_fits
 unfolding wrong_content
-returns-then-not-fits c =
-    let page = page_of c.args.characters.now c.args.marks.now in
-    let same = ap (λ (s : State). size_fits s.size page) (sym c.state_in-state.ensures) in
-    sym (then_case {A = ℕ} _ _ _ (ap not (same ∙ sym c.fits.ensures ∙ c.if-not-fits.true)))
+returns-then-not-size_fits c =
+    refused_size _ (then_case {A = ℕ} _ _ _ (ap not (sym c.size_fits.ensures ∙ c.if-not-size_fits.true)))
 
 pub returns-then-not-is_good : goal.returns-then-not-is_good
 unfolding wrong_content
 returns-then-not-is_good c =
-    let page = page_of c.args.characters.now c.args.marks.now in
-    let same = ap (λ (s : State). size_fits s.size page) (sym c.state_in-state.ensures) in
-    sym (else_case {A = ℕ} _ _ _ (ap not (same ∙ sym c.fits.ensures ∙ c.if-not-fits.false))
+    refused_state _
+    (else_case {A = ℕ} _ _ _ (ap not (sym c.size_fits.ensures ∙ c.if-not-size_fits.false))
     ∙ then_case {A = ℕ} _ _ _ (ap not (sym c.is_good.ensures ∙ c.if-not-is_good.true)))
 
 pub returns : goal.returns
 unfolding wrong_content
 returns c =
-    let page = page_of c.args.characters.now c.args.marks.now in
-    let same = ap (λ (s : State). size_fits s.size page) (sym c.state_in-state.ensures) in
-    sym (else_case {A = ℕ} _ _ _ (ap not (same ∙ sym c.fits.ensures ∙ c.if-not-fits.false))
-    ∙ else_case {A = ℕ} _ _ _ (ap not (sym c.is_good.ensures ∙ c.if-not-is_good.false)))
+    else_case {A = ℕ} _ _ _ (ap not (sym c.size_fits.ensures ∙ c.if-not-size_fits.false))
+    ∙ else_case {A = ℕ} _ _ _ (ap not (sym c.is_good.ensures ∙ c.if-not-is_good.false))

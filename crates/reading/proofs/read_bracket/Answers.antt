@@ -1,31 +1,32 @@
-use mathlib.Core.Path.{sym, ap, ◌∙◌}
+use mathlib.Core.Path.{◌≡◌, refl, sym, ap, ◌∙◌}
+use mathlib.Core.Bool.{true}
 use mathlib.Core.List.{List}
-use Prim.Native.Nat.{ℕ, ◌<◌}
-use lib.ListN.{length}
-use Rattle.words.proofs.Choosing.{true_is_not_false}
+use Prim.Native.Nat.{ℕ}
+use native.Mathlib.Omega.{arith}
+use lib.ListN.{get_or}
+use Rattle.std.proofs.lemmas.Option.{IfSome_then}
+use Rattle.words.specs.Choice.{◌is◌to◌}
+use Rattle.words.proofs.Choosing.{range_is}
+use Rattle.sequence.specs.Record.{argument_read, bracket_read}
 use Rattle.reading.specs.declared.Reading.{Reading}
-use Rattle.reading.specs.Ahead.{is_nothing}
+use Rattle.reading.specs.Ahead.{is_nothing, ReadWhole}
 use Rattle.reading.proofs.Laws.{from_argument, to_final_at_once}
 use Rattle.reading.proofs.read_bracket.Goals as goal
 
-pub returns-then-bytes-from : goal.returns-then-bytes-from
-unfolding is_nothing
-returns-then-bytes-from c = λ something. absurd (true_is_not_false something)
-
-pub returns-then-is_between : goal.returns-then-is_between
-returns-then-is_between c =
+pub returns-in-48-to-59 : goal.returns-in-48-to-59
+returns-in-48-to-59 c =
     let bytes : List ℕ = c.args.bytes.now in
-    let argument = sym c.is_between.ensures ∙ c.if-is_between.true in
-    λ something.
-    let read = c.read_arguments.ensures something in
-    (read.0, read.1 ∙ from_argument bytes _ read.0 argument (sym (ap (λ (r : Reading). is_nothing r.event) read.1) ∙ something))
+    let read = c.in_ok-byte.ensures.lookup.3 in
+    let argument : (get_or bytes c.args.from 0 is 0x30 to 0x3B) ≡ true = rw (← read.1 0) (range_is _ _ _ (omega arith) (omega arith)) in
+    IfSome_then _ {P = ReadWhole argument_read bytes c.args.from} {Q = ReadWhole bracket_read bytes c.args.from} c.read_arguments.ensures
+    (λ r told.
+    let something = sym (ap (λ (r : Reading). is_nothing r.event) told.same) ∙ told.something in
+    record { something = told.something; here = told.here; same = told.same ∙ from_argument bytes _ told.here argument something })
 
-pub returns-then-is_between-2 : goal.returns-then-is_between-2
-returns-then-is_between-2 c =
-    let bytes : List ℕ = c.args.bytes.now in
-    let here : c.args.from < length bytes = c.if-bytes-from.false in
-    λ something. (here, sym (to_final_at_once bytes _ here (sym c.is_between-2.ensures ∙ c.if-is_between-2.true)))
-
-pub returns : goal.returns
+pub returns-in-64-to-126 : goal.returns-in-64-to-126
 unfolding is_nothing
-returns c = λ something. absurd (true_is_not_false something)
+returns-in-64-to-126 c =
+    let bytes : List ℕ = c.args.bytes.now in
+    let read = c.in_ok-byte.ensures.lookup.3 in
+    let final : (get_or bytes c.args.from 0 is 0x40 to 0x7E) ≡ true = rw (← read.1 0) (range_is _ _ _ (omega arith) (omega arith)) in
+    rw (read.1 0) (record { something = refl; here = read.0; same = sym (to_final_at_once bytes _ read.0 final) })

@@ -1,11 +1,12 @@
+use native.Mathlib.Omega.{arith}
 use Rattle.words.proofs.Choosing.{tests}
 use Rattle.sequence.specs.Reading.{after_intermediate}
 use Rattle.sequence.proofs.after_intermediate.Goals as goal
 
-pub returns-then-byte-le47 : goal.returns-then-byte-le47
+pub returns-in-0-to-47 : goal.returns-in-0-to-47
 unfolding after_intermediate
-returns-then-byte-le47 c = search tests
+returns-in-0-to-47 c = rw c.reads_on.ensures (search (arith, tests))
 
-pub returns : goal.returns
+pub returns-in_default : goal.returns-in_default
 unfolding after_intermediate
-returns c = rw c.refused.ensures (search tests)
+returns-in_default c = rw c.refused.ensures (search (arith, tests))

@@ -1,11 +1,12 @@
-use Rattle.words.proofs.Choosing.{tests}
 use Rattle.words.specs.Choice.{◌is◌to◌}
+use native.Mathlib.Omega.{arith}
+use Rattle.words.proofs.Choosing.{tests}
 use Rattle.sequence.proofs.is_between.Goals as goal
 
-pub returns-then-n-low : goal.returns-then-n-low
+pub returns-then-low-n : goal.returns-then-low-n
 unfolding ◌is◌to◌
-returns-then-n-low c = search tests
+returns-then-low-n c = search (arith, tests)
 
-pub returns : goal.returns
+pub returns-else-low-n : goal.returns-else-low-n
 unfolding ◌is◌to◌
-returns c = search tests
+returns-else-low-n c = search (arith, tests)

@@ -1,11 +1,12 @@
-use Rattle.words.proofs.Choosing.{tests}
+use native.Mathlib.Omega.{arith}
 use Rattle.sequence.specs.Reading.{advance_of}
+use Rattle.sequence.proofs.Laws.{reading}
 use Rattle.sequence.proofs.HalfRead.advance.Goals as goal
 
-pub returns-then-self-eq-NONE : goal.returns-then-self-eq-NONE
+pub returns-in-0 : goal.returns-in-0
 unfolding advance_of
-returns-then-self-eq-NONE c = search tests
+returns-in-0 c = search (arith, reading)
 
-pub returns : goal.returns
+pub returns-in_default : goal.returns-in_default
 unfolding advance_of
-returns c = search tests
+returns-in_default c = search (arith, reading)

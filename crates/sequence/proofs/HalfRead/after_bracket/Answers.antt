@@ -1,33 +1,25 @@
-use mathlib.Core.Path.{sym, ◌∙◌}
-use Rattle.words.proofs.Choosing.{range_holds}
-use borrow.Author.Rules.{rules}
+use native.Mathlib.Omega.{arith}
 use Rattle.sequence.specs.Reading.{after_bracket}
 use Rattle.sequence.proofs.Laws.{reading}
+use Rattle.words.specs.Choice.{◌is◌to◌}
 use Rattle.sequence.proofs.HalfRead.after_bracket.Goals as goal
 
-pub overflow_sub-byte : goal.overflow_sub-byte
-overflow_sub-byte c = (range_holds _ _ _ (sym c.is_between.ensures ∙ c.if-is_between.true)).0
+pub returns-in-59 : goal.returns-in-59
+unfolding ◌is◌to◌ after_bracket
+returns-in-59 c = rw c.reads_on.ensures (rw c.with_next_argument.ensures (search (arith, reading)))
 
-pub with_digit-requires : goal.with_digit-requires
-with_digit-requires c =
-    let digit = range_holds _ _ _ (sym c.is_between.ensures ∙ c.if-is_between.true) in search rules
+pub returns-in-48-to-57 : goal.returns-in-48-to-57
+unfolding ◌is◌to◌ after_bracket
+returns-in-48-to-57 c = rw c.reads_on-in-48-to-57.ensures (rw c.with_digit.ensures (search (arith, reading)))
 
-pub returns-then-is_between : goal.returns-then-is_between
-unfolding after_bracket
-returns-then-is_between c = rw c.with_digit.ensures (search reading)
+pub returns-in_default : goal.returns-in_default
+unfolding ◌is◌to◌ after_bracket
+returns-in_default c = rw c.refused.ensures (search (arith, reading))
 
-pub returns-then-byte-eq59 : goal.returns-then-byte-eq59
-unfolding after_bracket
-returns-then-byte-eq59 c = rw c.with_next_argument.ensures (search reading)
+pub returns-in_default-2 : goal.returns-in_default-2
+unfolding ◌is◌to◌ after_bracket
+returns-in_default-2 c = rw c.ends.ensures (search (arith, reading))
 
-pub returns-then-byte-lt64 : goal.returns-then-byte-lt64
-unfolding after_bracket
-returns-then-byte-lt64 c = search reading
-
-pub returns-then-self : goal.returns-then-self
-unfolding after_bracket
-returns-then-self c = rw c.refused.ensures (search reading)
-
-pub returns : goal.returns
-unfolding after_bracket
-returns c = search reading
+pub returns-in-0-to-63 : goal.returns-in-0-to-63
+unfolding ◌is◌to◌ after_bracket
+returns-in-0-to-63 c = rw c.reads_on-in-0-to-63.ensures (search (arith, reading))

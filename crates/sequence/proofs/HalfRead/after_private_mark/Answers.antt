@@ -1,25 +1,17 @@
-use mathlib.Core.Path.{sym, ◌∙◌}
-use Rattle.words.proofs.Choosing.{range_holds}
-use borrow.Author.Rules.{rules}
+use native.Mathlib.Omega.{arith}
 use Rattle.sequence.specs.Reading.{after_private_mark}
 use Rattle.sequence.proofs.Laws.{reading}
+use Rattle.words.specs.Choice.{◌is◌to◌}
 use Rattle.sequence.proofs.HalfRead.after_private_mark.Goals as goal
 
-pub overflow_sub-byte : goal.overflow_sub-byte
-overflow_sub-byte c = (range_holds _ _ _ (sym c.is_between.ensures ∙ c.if-is_between.true)).0
+pub returns-in-48-to-57 : goal.returns-in-48-to-57
+unfolding ◌is◌to◌ after_private_mark
+returns-in-48-to-57 c = rw c.reads_on.ensures (rw c.with_digit.ensures (search (arith, reading)))
 
-pub with_digit-requires : goal.with_digit-requires
-with_digit-requires c =
-    let digit = range_holds _ _ _ (sym c.is_between.ensures ∙ c.if-is_between.true) in search rules
+pub returns-in_default : goal.returns-in_default
+unfolding ◌is◌to◌ after_private_mark
+returns-in_default c = rw c.ends.ensures (search (arith, reading))
 
-pub returns-then-is_between : goal.returns-then-is_between
-unfolding after_private_mark
-returns-then-is_between c = rw c.with_digit.ensures (search reading)
-
-pub returns-then-byte-lt64 : goal.returns-then-byte-lt64
-unfolding after_private_mark
-returns-then-byte-lt64 c = search reading
-
-pub returns : goal.returns
-unfolding after_private_mark
-returns c = search reading
+pub returns-in-0-to-63 : goal.returns-in-0-to-63
+unfolding ◌is◌to◌ after_private_mark
+returns-in-0-to-63 c = rw c.reads_on-in-0-to-63.ensures (search (arith, reading))

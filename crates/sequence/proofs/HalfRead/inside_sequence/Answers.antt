@@ -1,23 +1,24 @@
+use native.Mathlib.Omega.{arith}
 use Rattle.sequence.specs.Reading.{inside_sequence}
 use Rattle.sequence.proofs.Laws.{reading}
 use Rattle.sequence.proofs.HalfRead.inside_sequence.Goals as goal
 
 pub returns-then-is_cancel : goal.returns-then-is_cancel
 unfolding inside_sequence
-returns-then-is_cancel c = search reading
+returns-then-is_cancel c = search (arith, reading)
 
-pub returns-then-byte-eq27 : goal.returns-then-byte-eq27
+pub returns-in_default-2 : goal.returns-in_default-2
 unfolding inside_sequence
-returns-then-byte-eq27 c = search reading
+returns-in_default-2 c = search (arith, reading)
 
-pub returns-then-is_text : goal.returns-then-is_text
+pub returns-in_default-3 : goal.returns-in_default-3
 unfolding inside_sequence
-returns-then-is_text c = search reading
+returns-in_default-3 c = search (arith, reading)
 
-pub returns-then-byte-ge128 : goal.returns-then-byte-ge128
+pub returns-in-128-to-255 : goal.returns-in-128-to-255
 unfolding inside_sequence
-returns-then-byte-ge128 c = rw c.refused.ensures (search reading)
+returns-in-128-to-255 c = search (arith, reading)
 
-pub returns : goal.returns
+pub returns-in-27 : goal.returns-in-27
 unfolding inside_sequence
-returns c = rw c.refused-2.ensures (search reading)
+returns-in-27 c = search (arith, reading)

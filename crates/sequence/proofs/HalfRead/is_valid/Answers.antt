@@ -1,51 +1,48 @@
+use native.Mathlib.Omega.{arith}
 use Rattle.words.proofs.Choosing.{tests}
 use Rattle.sequence.specs.Record.{valid_half_read}
 use Rattle.sequence.proofs.HalfRead.is_valid.Goals as goal
 
-pub returns-then-self-ne-AFTER_BRACKET : goal.returns-then-self-ne-AFTER_BRACKET
+pub returns-then-self-eq1 : goal.returns-then-self-eq1
 unfolding valid_half_read
-returns-then-self-ne-AFTER_BRACKET c = search tests
+returns-then-self-eq1 c = search (arith, tests)
 
-pub returns-then-count-ne1 : goal.returns-then-count-ne1
+pub returns-else-self-eq1 : goal.returns-else-self-eq1
 unfolding valid_half_read
-returns-then-count-ne1 c = search tests
-
-pub returns-then-self : goal.returns-then-self
-unfolding valid_half_read
-returns-then-self c = search tests
+returns-else-self-eq1 c = search (arith, tests)
 
 pub returns-then-is_between : goal.returns-then-is_between
 unfolding valid_half_read
-returns-then-is_between c = search tests
+returns-then-is_between c = search (arith, tests)
 
-pub returns-then-self-eq-AFTER_BRACKET : goal.returns-then-self-eq-AFTER_BRACKET
+pub returns-else-is_between : goal.returns-else-is_between
 unfolding valid_half_read
-returns-then-self-eq-AFTER_BRACKET c = search tests
+returns-else-is_between c = search (arith, tests)
 
-pub returns-then-count-ne1-2 : goal.returns-then-count-ne1-2
+pub returns-then-self-eq1-2 : goal.returns-then-self-eq1-2
 unfolding valid_half_read
-returns-then-count-ne1-2 c = search tests
+returns-then-self-eq1-2 c = search (arith, tests)
 
-pub returns-then-self-eq-BRACKET_ALONE : goal.returns-then-self-eq-BRACKET_ALONE
+pub returns-else-self-eq1-2 : goal.returns-else-self-eq1-2
 unfolding valid_half_read
-returns-then-self-eq-BRACKET_ALONE c = search tests
+returns-else-self-eq1-2 c = search (arith, tests)
 
-pub returns-then-count-ne1-3 : goal.returns-then-count-ne1-3
+pub returns-then-self-eq1-3 : goal.returns-then-self-eq1-3
 unfolding valid_half_read
-returns-then-count-ne1-3 c = search tests
+returns-then-self-eq1-3 c = search (arith, tests)
 
-pub returns-then-self-eq-AFTER_PRIVATE_MARK : goal.returns-then-self-eq-AFTER_PRIVATE_MARK
+pub returns-else-self-eq1-3 : goal.returns-else-self-eq1-3
 unfolding valid_half_read
-returns-then-self-eq-AFTER_PRIVATE_MARK c = search tests
+returns-else-self-eq1-3 c = search (arith, tests)
 
-pub returns-then-self-gt-AFTER_INTERMEDIATE : goal.returns-then-self-gt-AFTER_INTERMEDIATE
+pub returns-then-self-eq0 : goal.returns-then-self-eq0
 unfolding valid_half_read
-returns-then-self-gt-AFTER_INTERMEDIATE c = search tests
+returns-then-self-eq0 c = search (arith, tests)
 
-pub returns-then-count-ne0 : goal.returns-then-count-ne0
+pub returns-else-self-eq0 : goal.returns-else-self-eq0
 unfolding valid_half_read
-returns-then-count-ne0 c = search tests
+returns-else-self-eq0 c = search (arith, tests)
 
-pub returns : goal.returns
+pub returns-in_default : goal.returns-in_default
 unfolding valid_half_read
-returns c = search tests
+returns-in_default c = search (arith, tests)

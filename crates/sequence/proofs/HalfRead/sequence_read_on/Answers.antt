@@ -1,33 +1,31 @@
 use native.Mathlib.Omega.{arith}
-use Rattle.words.proofs.Choosing.{tests}
 use Rattle.sequence.specs.Reading.{sequence_read_on}
-use Rattle.sequence.proofs.Keeping.{arguments_counted, past_2}
+use Rattle.sequence.proofs.Laws.{reading}
+use Rattle.sequence.proofs.Keeping.{arguments_counted}
 use Rattle.sequence.proofs.HalfRead.sequence_read_on.Goals as goal
 
-pub returns-then-self-eq-AFTER_ESC : goal.returns-then-self-eq-AFTER_ESC
-unfolding sequence_read_on
-returns-then-self-eq-AFTER_ESC c = search tests
-
-pub returns-then-self-eq-AFTER_INTERMEDIATE : goal.returns-then-self-eq-AFTER_INTERMEDIATE
-unfolding sequence_read_on
-returns-then-self-eq-AFTER_INTERMEDIATE c = search tests
-
-pub returns-then-self-eq-BRACKET_ALONE : goal.returns-then-self-eq-BRACKET_ALONE
-unfolding sequence_read_on
-returns-then-self-eq-BRACKET_ALONE c = search tests
-
 pub after_private_mark-requires : goal.after_private_mark-requires
-after_private_mark-requires c =
-    arguments_counted _ c.requires.self_value (omega arith)
-
-pub returns-then-self-eq-AFTER_PRIVATE_MARK : goal.returns-then-self-eq-AFTER_PRIVATE_MARK
-unfolding sequence_read_on
-returns-then-self-eq-AFTER_PRIVATE_MARK c = search tests
+after_private_mark-requires c = arguments_counted _ c.requires.self_value (omega arith)
 
 pub after_bracket-requires : goal.after_bracket-requires
-after_bracket-requires c =
-    arguments_counted _ c.requires.self_value (past_2 _ c.requires.fact c.if-self-eq-AFTER_ESC.false c.if-self-eq-AFTER_INTERMEDIATE.false)
+after_bracket-requires c = arguments_counted _ c.requires.self_value (omega (arith, c.requires.fact))
 
-pub returns : goal.returns
+pub returns-in-1 : goal.returns-in-1
 unfolding sequence_read_on
-returns c = search tests
+returns-in-1 c = search (arith, reading)
+
+pub returns-in-2 : goal.returns-in-2
+unfolding sequence_read_on
+returns-in-2 c = search (arith, reading)
+
+pub returns-in-4 : goal.returns-in-4
+unfolding sequence_read_on
+returns-in-4 c = search (arith, reading)
+
+pub returns-in-5 : goal.returns-in-5
+unfolding sequence_read_on
+returns-in-5 c = search (arith, reading)
+
+pub returns-in_default : goal.returns-in_default
+unfolding sequence_read_on
+returns-in_default c = search (arith, reading)

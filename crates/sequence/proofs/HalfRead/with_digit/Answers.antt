@@ -8,8 +8,8 @@ returns-then-self c = search tests
 
 pub returns-then-value-gt9999 : goal.returns-then-value-gt9999
 unfolding with_digit
-returns-then-value-gt9999 c = search tests
+returns-then-value-gt9999 c = let large = rw (c.from.ensures, c.from-2.ensures, c.from-last.ensures) at c.if-value-gt9999.true in search tests
 
 pub returns : goal.returns
 unfolding with_digit
-returns c = search tests
+returns c = let small = rw (c.from.ensures, c.from-2.ensures, c.from-last.ensures) at c.if-value-gt9999.false in rw (c.from.ensures, c.from-2.ensures, c.from-last.ensures) (search tests)
