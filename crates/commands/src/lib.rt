@@ -10,15 +10,16 @@ ghost use Rattle.std.specs.Prelude.{◌≡◌, false, ◌≤◌, ◌+◌, length
 ghost use Rattle.sequence.specs.declared.Event.TheVariants.{Control, EscCommand, BracketCommand};
 ghost use Rattle.page.specs.Page.{Page, page_of};
 ghost use Rattle.state.specs.State.{OnPage, with_half};
-ghost use Rattle.sending.specs.Sending.{status_report};
+ghost use Rattle.state.specs.declared.State.{State};
 ghost use Rattle.steps.specs.Steps.{Valid, cursor_cell, row_start, terminal_of};
-ghost use Rattle.steps.specs.Told.{told, tells, written};
+ghost use Rattle.steps.specs.Told.{told, told_or, tells, written};
 ghost use Rattle.commands.specs.Text.{text_step, line_down, line_up, control_step};
 ghost use Rattle.commands.specs.Commands.{fresh_step, esc_step, erasing, erase_part, bracket_step};
 ghost use Rattle.commands.specs.Host.{FinalInTable, event_step};
 ghost use Rattle.commands.specs.Light.{is_light};
 
 pub use light::{is_light, light_step};
+use output::NoRoom;
 use page::Mark;
 use sequence::{Event, HalfRead, Reason};
 use state::State;
@@ -177,46 +178,24 @@ fn erase_row(
 // After ESC: S sends, and its transmission may not fit.
 fn esc_step(
     state: State,
-    half: HalfRead,
     characters: &mut [u8],
     marks: &mut [Mark],
     out: &mut [u8],
     at: usize,
     byte: u8,
-) -> Step
+) -> Result<Step, NoRoom>
     requires valid { Valid (terminal_of state characters.old marks.old) }
     requires at_in_bounds { (at ≤ length out.old) × (is_light state.size state.cursor (EscCommand byte) ≡ false) }
-    ensures { record { told = told result (page_of characters.new marks.new); output = out.new }
+    ensures { (before : State) →
+        record { told = told_or result before (page_of characters.new marks.new); output = out.new }
         ≡ written at out.old
-        (terminal_of (with_half state half) characters.old marks.old)
+        (terminal_of before characters.old marks.old)
         (esc_step byte (terminal_of state characters.old marks.old)) }
 {
     if byte == b'S' {
-        let before = state.with_half(half);
-        return sending::send_block(state, before, characters, marks, out, at, true);
+        return sending::send_block(state, characters, marks, out, at, true);
     }
-    silent_esc_step(state, characters, marks, byte)
-}
-
-// DSR.
-fn status_report(
-    state: State,
-    half: HalfRead,
-    out: &mut [u8],
-    at: usize,
-    letter: u8,
-    what: usize,
-) -> Step
-    requires on_page { OnPage state }
-    requires at_in_bounds { at ≤ length out.old }
-    ensures { (page : Page) →
-        record { told = told result page; output = out.new }
-        ≡ written at out.old
-        (record { state = with_half state half; page = page })
-        (status_report letter what (record { state = state; page = page })) }
-{
-    let before = state.with_half(half);
-    sending::status_report(state, before, out, at, letter, what)
+    Ok(silent_esc_step(state, characters, marks, byte))
 }
 
 // After ESC [, what is not light: the table is consulted before anything else.
@@ -228,38 +207,41 @@ fn bracket_step(
     out: &mut [u8],
     at: usize,
     letter: u8,
-) -> Step
+) -> Result<Step, NoRoom>
     requires valid { Valid (terminal_of state characters.old marks.old) }
     requires at_in_bounds { (at ≤ length out.old) × (0x40 ≤ letter) × (letter ≤ 0x7E) × (half.count ≤ 8) ×
         (is_light state.size state.cursor (BracketCommand letter) ≡ false) }
-    ensures { record { told = told result (page_of characters.new marks.new); output = out.new }
+    ensures { (before : State) →
+        record { told = told_or result before (page_of characters.new marks.new); output = out.new }
         ≡ written at out.old
-        (terminal_of (with_half state half) characters.old marks.old)
+        (terminal_of before characters.old marks.old)
         (bracket_step letter half (terminal_of state characters.old marks.old)) }
 {
     let arguments = half.arguments;
     let count = half.count;
     let most = table::most_arguments(letter);
     if most == 0 { // not listed
-        return steps::refuse(state, Reason::UnknownCommand, letter);
+        return Ok(steps::refuse(state, Reason::UnknownCommand, letter));
     }
     if most < count {
-        return steps::refuse(state, Reason::WrongArguments, letter);
+        return Ok(steps::refuse(state, Reason::WrongArguments, letter));
     }
     let what = table::value(letter, arguments, 0);
     let cells = characters.len();
-    match letter {
+    let step = match letter {
         b'I' => steps::quiet(state.tab_on(what)), // CHT
         b'Z' => steps::quiet(state.tab_back(what)), // CBT
         b'W' => table::settings::tab_control(state, letter, what), // CTC
         b'J' => erase_part(state, characters, marks, letter, what, 0, cells), // ED
         b'K' => erase_row(state, characters, marks, letter, what), // EL
-        _ => status_report(state, half, out, at, letter, what), // n: DSR
-    }
+        _ => return sending::status_report(state, out, at, letter, what), // n: DSR
+    };
+    Ok(step)
 }
 
 // The step of an event that is not light. `half` is the half-read record before the event's byte, which has a command's
-// arguments. A transmission is written into the output from `at` on; where it doesn't fit nothing happens.
+// arguments. A transmission is written into the output from `at` on; where it doesn't fit nothing happens, and the state
+// is the one before, with that record.
 pub fn heavy_step(
     state: State,
     half: HalfRead,
@@ -268,24 +250,22 @@ pub fn heavy_step(
     out: &mut [u8],
     at: usize,
     event: Event,
-) -> Step
+) -> Result<Step, NoRoom>
     requires valid { Valid (terminal_of state characters.old marks.old) }
     requires at_in_bounds { (at ≤ length out.old) × FinalInTable event × (half.count ≤ 8) ×
         (is_light state.size state.cursor event ≡ false) }
-    ensures { record { told = told result (page_of characters.new marks.new); output = out.new }
+    ensures { record { told = told_or result (with_half state half) (page_of characters.new marks.new); output = out.new }
         ≡ written at out.old
         (terminal_of (with_half state half) characters.old marks.old)
         (event_step half event (terminal_of state characters.old marks.old)) }
 {
     match event {
-        Event::Nothing => steps::quiet(state), // does not come here
-        Event::Text(character) => text(state, characters, marks, character),
-        Event::Control(code) => control(state, characters, marks, code),
-        Event::EscCommand(letter) => esc_step(state, half, characters, marks, out, at, letter),
+        Event::Text(character) => Ok(text(state, characters, marks, character)),
+        Event::Control(code) => Ok(control(state, characters, marks, code)),
+        Event::EscCommand(letter) => esc_step(state, characters, marks, out, at, letter),
         Event::BracketCommand(letter) => bracket_step(
             state, half, characters, marks, out, at, letter,
         ),
-        Event::PrivateCommand(_) => steps::quiet(state), // nor does this
-        Event::Refused(_, _) => steps::quiet(state), // or this
+        Event::Nothing | Event::PrivateCommand(_) | Event::Refused(_, _) => unreachable!(), // these are light
     }
 }

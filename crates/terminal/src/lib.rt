@@ -3,10 +3,8 @@
 #![tactic(auto)]
 
 ghost use Rattle.std.specs.Prelude.{◌≡◌, List, [], ℕ, ◌≤◌, length};
-ghost use Rattle.words.specs.Choice.{◌or◌};
 ghost use Rattle.page.specs.Page.{Page, page_of};
 ghost use Rattle.steps.specs.Steps.{Valid, terminal_of};
-ghost use Rattle.terminal.specs.Runs.{count_of};
 ghost use Rattle.terminal.specs.Answers.{number_of, given, unchanged};
 ghost use Rattle.terminal.specs.Tests.{passes_line2, Passes};
 ghost use Rattle.terminal.specs.Calls.{StartAllows, HostAllows, KeyAllows};
@@ -81,30 +79,7 @@ fn refuse_call(answer: Answer, state: State) -> Reply
 fn is_valid(state: State, characters: &[u8], marks: &[Mark]) -> bool
     ensures { result ≡ passes_line2 (terminal_of state characters.now marks.now) }
 {
-    if state.is_valid() {
-        return page::is_valid_page(characters, marks);
-    }
-    false
-}
-
-// One where a test holds.
-fn count_of(holds: bool) -> usize
-    ensures { result ≡ count_of holds }
-{
-    if holds {
-        return 1;
-    }
-    0
-}
-
-// At least one of two tests holds.
-fn either(one: bool, other: bool) -> bool
-    ensures { result ≡ (one or other) }
-{
-    if one {
-        return true;
-    }
-    other
+    state.is_valid() && page::is_valid_page(characters, marks)
 }
 
 // The steps of host bytes, stopping where a transmission exceeds the room left: text in runs, light events in place,
@@ -162,8 +137,9 @@ fn run(
                 }
             } else {
                 let next = here.with_half(after); // a copy: handing over the loop's own took longer
-                let step = commands::heavy_step(next, before, characters, marks, out, sent, event);
-                if step.exceeds {
+                let Ok(step) = commands::heavy_step(
+                    next, before, characters, marks, out, sent, event,
+                ) else {
                     here.half = before;
                     return Reply {
                         answer: Answer::NoRoom,
@@ -174,13 +150,13 @@ fn run(
                         refused,
                         protection,
                     };
-                }
+                };
                 here = step.state;
                 taken = read.end;
                 sent += step.sent;
                 stored += step.stored;
-                refused += count_of(step.refused);
-                protection = either(protection, step.protection);
+                refused += usize::from(step.refused);
+                protection |= step.protection;
             }
         }
     }
@@ -208,18 +184,16 @@ fn press(
         (terminal_of state characters.old marks.old) key out.old
         result (page_of characters.new marks.new) out.new }
 {
-    let step = keys::step(state, characters, marks, out, key);
-    if step.exceeds {
+    let Ok(step) = keys::step(state, characters, marks, out, key) else {
         return refuse_call(Answer::NoRoom, state);
-    }
-    let after = step.state;
+    };
     Reply {
         answer: Answer::Done,
-        state: after,
+        state: step.state,
         taken: 0,
         sent: step.sent,
         stored: step.stored,
-        refused: count_of(step.refused),
+        refused: usize::from(step.refused),
         protection: step.protection,
     }
 }
