@@ -9,7 +9,7 @@ mod texts;
 ghost use Rattle.std.specs.Prelude.{◌≡◌, false, ◌≤◌, ◌+◌, length};
 ghost use Rattle.sequence.specs.declared.Event.TheVariants.{Control, EscCommand, BracketCommand};
 ghost use Rattle.page.specs.Page.{Page, page_of};
-ghost use Rattle.state.specs.State.{OnPage, with_half};
+ghost use Rattle.state.specs.State.{OnPage};
 ghost use Rattle.state.specs.declared.State.{State};
 ghost use Rattle.steps.specs.Steps.{Valid, cursor_cell, row_start, terminal_of};
 ghost use Rattle.steps.specs.Told.{told, told_or, tells, written};
@@ -240,8 +240,7 @@ fn bracket_step(
 }
 
 // The step of an event that is not light. `half` is the half-read record before the event's byte, which has a command's
-// arguments. A transmission is written into the output from `at` on; where it doesn't fit nothing happens, and the state
-// is the one before, with that record.
+// arguments. A transmission is written into the output from `at` on; where it doesn't fit nothing happens.
 pub fn heavy_step(
     state: State,
     half: HalfRead,
@@ -254,9 +253,10 @@ pub fn heavy_step(
     requires valid { Valid (terminal_of state characters.old marks.old) }
     requires at_in_bounds { (at ≤ length out.old) × FinalInTable event × (half.count ≤ 8) ×
         (is_light state.size state.cursor event ≡ false) }
-    ensures { record { told = told_or result (with_half state half) (page_of characters.new marks.new); output = out.new }
+    ensures { (before : State) →
+        record { told = told_or result before (page_of characters.new marks.new); output = out.new }
         ≡ written at out.old
-        (terminal_of (with_half state half) characters.old marks.old)
+        (terminal_of before characters.old marks.old)
         (event_step half event (terminal_of state characters.old marks.old)) }
 {
     match event {

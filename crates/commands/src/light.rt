@@ -29,31 +29,16 @@ fn is_light_control(size: Size, cursor: Cursor, code: u8) -> bool
 fn is_light_letter(letter: u8) -> bool
     ensures { result ≡ is_light_letter letter }
 {
-    match letter {
-        b'V' => true,
-        b'W' => true,
-        _ => false,
-    }
+    matches!(letter, b'V' | b'W')
 }
 
 fn is_light_final(letter: u8) -> bool
     ensures { result ≡ is_light_final letter }
 {
-    if letter < b'A' {
-        return false;
-    }
-    if letter <= b'H' {
-        return true;
-    }
-    match letter {
-        b'd' => true,
-        b'f' => true,
-        b'o' => true,
-        b'm' => true,
-        b'h' => true,
-        b'l' => true,
-        _ => false,
-    }
+    matches!(
+        letter,
+        b'A'..=b'H' | b'd' | b'f' | b'o' | b'm' | b'h' | b'l'
+    )
 }
 
 // Whether the event is light.
@@ -79,13 +64,11 @@ fn light_control(state: State, code: u8) -> Light
         light_step result (record { state = state; page = page })
         ≡ control_step code (record { state = state; page = page }) }
 {
-    if code == 0x08 {
-        return steps::moves_to(state.left_by(1));
+    match code {
+        0x08 => steps::moves_to(state.left_by(1)),
+        0x0A => steps::moves_to(state.down_by(1)),
+        _ => steps::moves_to(state.to_margin()),
     }
-    if code == 0x0A {
-        return steps::moves_to(state.down_by(1));
-    }
-    steps::moves_to(state.to_margin())
 }
 
 // SPA, and EPA.
@@ -143,7 +126,7 @@ pub fn light_step(state: State, half: HalfRead, event: Event) -> Light
 {
     match event {
         Event::Nothing => steps::moves_to(state),
-        Event::Text(_) => steps::moves_to(state), // does not come here
+        Event::Text(_) => unreachable!(), // this is not light
         Event::Control(code) => light_control(state, code),
         Event::EscCommand(letter) => light_letter(state, letter),
         Event::BracketCommand(letter) => light_final(state, half, letter),

@@ -1,5 +1,5 @@
-// What sends: a report, or a block, full or changed. Where the transmission doesn't fit nothing happens, and of the state
-// that the caller had before the command's last byte the contracts say that it is the one that is left.
+// What sends: a report, or a block, full or changed. Where the transmission doesn't fit nothing happens: whatever state
+// the caller had before, the contracts say that it is left (`before`).
 #![tactic(auto)]
 
 ghost use Rattle.std.specs.Prelude.{◌≡◌, false, ◌≤◌, length};

@@ -16,16 +16,24 @@ use steps::Light;
 // Each has a number, and a line of document 01's table: `number_of` and `gives` of specs/Answers.antt.
 #[derive(Clone, Copy)]
 pub enum Answer {
-    Done,
-    WrongSize,
-    WrongState,
-    NoRoom,
-    UnknownKey,
-    Locked,
-    TooLong,
-    NoCell,
-    NotTaken,
-    RequiredBlank,
+    Done = 0,
+    WrongSize = 1,
+    WrongState = 2,
+    NoRoom = 3,
+    UnknownKey = 4,
+    Locked = 5,
+    TooLong = 6,
+    NoCell = 7,
+    NotTaken = 8,
+    RequiredBlank = 9,
+}
+
+impl From<Answer> for u8 {
+    ghost from_gives = { λ answer number. number ≡ number_of answer };
+
+    fn from(answer: Answer) -> u8 {
+        answer as u8
+    }
 }
 
 #[derive(Clone, Copy)]
@@ -45,18 +53,7 @@ pub struct Reply {
 pub fn number_of(answer: Answer) -> u8
     ensures { result ≡ number_of answer }
 {
-    match answer {
-        Answer::Done => 0,
-        Answer::WrongSize => 1,
-        Answer::WrongState => 2,
-        Answer::NoRoom => 3,
-        Answer::UnknownKey => 4,
-        Answer::Locked => 5,
-        Answer::TooLong => 6,
-        Answer::NoCell => 7,
-        Answer::NotTaken => 8,
-        Answer::RequiredBlank => 9,
-    }
+    u8::from(answer)
 }
 
 // A call that changes nothing.

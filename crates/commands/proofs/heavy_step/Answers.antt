@@ -25,22 +25,22 @@ bracket_step-requires c = let told = c.in-BracketCommand.is in
 pub returns-in-Text : goal.returns-in-Text
 unfolding event_step
 returns-in-Text c =
-    rw c.in-Text.is
+    λ before. rw c.in-Text.is
     (told_silent _ _ _ _ _ _ c.text.ensures (text_silent _ _))
 
 pub returns-in-Control : goal.returns-in-Control
 unfolding event_step
 returns-in-Control c =
-    rw c.in-Control.is
+    λ before. rw c.in-Control.is
     (told_silent _ _ _ _ _ _ c.control.ensures (control_silent _ _))
 
 pub returns-in-EscCommand : goal.returns-in-EscCommand
 unfolding event_step
-returns-in-EscCommand c = rw c.in-EscCommand.is (c.esc_step.ensures _)
+returns-in-EscCommand c = λ before. rw c.in-EscCommand.is (c.esc_step.ensures before)
 
 pub returns-in-BracketCommand : goal.returns-in-BracketCommand
 unfolding event_step
-returns-in-BracketCommand c = rw c.in-BracketCommand.is (c.bracket_step.ensures _)
+returns-in-BracketCommand c = λ before. rw c.in-BracketCommand.is (c.bracket_step.ensures before)
 
 -- What is left is light.
 pub unreachable-requires : goal.unreachable-requires

@@ -4,7 +4,7 @@ use native.Mathlib.Omega.{arith}
 use borrow.Author.Rules.{rules}
 use borrow.Author.Tests.{eqb-true}
 use Rattle.words.proofs.Choosing.{both}
-use Rattle.state.specs.State.{refused}
+use Rattle.state.specs.State.{refused, with_half}
 use Rattle.state.proofs.Keeping.{parts, half_keeps_valid}
 use Rattle.sequence.proofs.Keeping.{nothing_valid}
 use Rattle.steps.specs.Light.{light_step}
@@ -138,14 +138,14 @@ unfolding number_of
 returns-in_default c =
     let more = c.loop-taken-test.true in
     let read = c.read-read.ensures in
-    let told = rw c.with_half-next.ensures at c.heavy_step.ensures in
+    let told = rw c.with_half-next.ensures at (c.heavy_step.ensures (with_half c.loop-taken.here c.read-read.result.before)) in
     stops_full _ _ _ _ _ _ _ _ _ _ c.loop-taken.invariant.0 more _ read _ _ c.heavy_step.result _ told c.in_default.not-Ok c.requires.valid c.requires.bytes_len_bound
 
 pub overflow_add-sent : goal.overflow_add-sent
 overflow_add-sent c =
     let more = c.loop-taken-test.true in
     let read = c.read-read.ensures in
-    let told = rw c.with_half-next.ensures at c.in-Ok.ensures in
+    let told = rw c.with_half-next.ensures at (c.in-Ok.ensures (with_half c.loop-taken.here c.read-read.result.before)) in
     let on = goes_heavily _ _ _ _ _ _ _ _ _ _ c.loop-taken.invariant.0 more _ read _ _ c.in-Ok.step told in
     omega (arith, on.room, c.well_formed)
 
@@ -153,7 +153,7 @@ pub overflow_add-stored-else-is_light : goal.overflow_add-stored-else-is_light
 overflow_add-stored-else-is_light c =
     let more = c.loop-taken-test.true in
     let read = c.read-read.ensures in
-    let told = rw c.with_half-next.ensures at c.in-Ok.ensures in
+    let told = rw c.with_half-next.ensures at (c.in-Ok.ensures (with_half c.loop-taken.here c.read-read.result.before)) in
     let on = goes_heavily _ _ _ _ _ _ _ _ _ _ c.loop-taken.invariant.0 more _ read _ _ c.in-Ok.step told in
     omega (arith, on.few, on.inside, c.requires.bytes_len_bound)
 
@@ -161,7 +161,7 @@ pub overflow_add-refused-else-is_light : goal.overflow_add-refused-else-is_light
 overflow_add-refused-else-is_light c =
     let more = c.loop-taken-test.true in
     let read = c.read-read.ensures in
-    let told = rw c.with_half-next.ensures at c.in-Ok.ensures in
+    let told = rw c.with_half-next.ensures at (c.in-Ok.ensures (with_half c.loop-taken.here c.read-read.result.before)) in
     let on = goes_heavily _ _ _ _ _ _ _ _ _ _ c.loop-taken.invariant.0 more _ read _ _ c.in-Ok.step told in
     omega (arith, c.from-refused.ensures, counted_one c.in-Ok.step.refused, on.few_refused, on.inside, c.requires.bytes_len_bound)
 
@@ -175,7 +175,7 @@ pub loop-taken-preserved : goal.loop-taken-preserved
 loop-taken-preserved c =
     let more = c.loop-taken-test.true in
     let read = c.read-read.ensures in
-    let told = rw c.with_half-next.ensures at c.in-Ok.ensures in
+    let told = rw c.with_half-next.ensures at (c.in-Ok.ensures (with_half c.loop-taken.here c.read-read.result.before)) in
     let on = goes_heavily _ _ _ _ _ _ _ _ _ _ c.loop-taken.invariant.0 more _ read _ _ c.in-Ok.step told in
     (rw (c.from-refused.ensures, counted_one c.in-Ok.step.refused, joined c.loop-taken.protection c.in-Ok.step.protection) on, search rules, search rules, search rules)
 
