@@ -51,7 +51,7 @@ fn line_down(state: State, characters: &mut [u8], marks: &mut [Mark]) -> Step
     steps::stored(state, cells, true)
 }
 
-// RI.
+// RI: IND turned round. One function with closures for test, move and scroll would be longer than both.
 fn line_up(state: State, characters: &mut [u8], marks: &mut [Mark]) -> Step
     requires { Valid (terminal_of state characters.old marks.old) }
     ensures { told result (page_of characters.new marks.new)

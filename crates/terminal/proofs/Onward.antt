@@ -1,7 +1,7 @@
 -- A call on its way, over steps that send nothing: bytes that are read on, light steps, a run of text.
 use mathlib.Core.Path.{◌≡◌, refl, sym, ap, ◌∙◌, subst}
 use mathlib.Core.Bool.{Bool, true, false}
-use mathlib.Core.List.{List, []}
+use mathlib.Core.List.{List}
 use Prim.Native.Nat.{ℕ, zero, suc, ◌+◌, ◌-◌, ◌<◌, ◌≤◌}
 use native.Mathlib.Omega.{arith}
 use borrow.Author.Tests.{eq-eqb}
@@ -26,7 +26,6 @@ use Rattle.steps.specs.declared.Step.{Step}
 use Rattle.steps.specs.Told.{Told, told, told_or, written}
 use Rattle.steps.specs.Steps.{Terminal, Valid, bytes_of, with_state}
 use Rattle.steps.specs.declared.Light.{Light}
-use Rattle.steps.specs.declared.Light.TheVariants as light
 use Rattle.steps.specs.Light.{light_step}
 use Rattle.commands.specs.Text.{text_step, text_length, after_text}
 use Rattle.commands.specs.Host.{FinalInTable, event_step, host_step}

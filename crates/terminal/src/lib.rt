@@ -2,18 +2,19 @@
 // What each gives and leaves is defined in specs/Calls.antt.
 #![tactic(auto)]
 
-ghost use Rattle.std.specs.Prelude.{◌≡◌, List, [], ℕ, ◌≤◌, length};
+ghost use Rattle.std.specs.Prelude.{◌≡◌, List, [], ℕ, ◌≤◌, length, MatchResult};
 ghost use Rattle.page.specs.Page.{Page, page_of};
 ghost use Rattle.steps.specs.Steps.{Valid, terminal_of};
 ghost use Rattle.terminal.specs.Answers.{number_of, given, unchanged};
 ghost use Rattle.terminal.specs.Tests.{passes_line2, Passes};
-ghost use Rattle.terminal.specs.Calls.{StartAllows, HostAllows, KeyAllows};
+ghost use Rattle.terminal.specs.Calls.{host_call, key_call, StartAllows, HostAllows, KeyAllows};
 
 use page::Mark;
 use state::{Size, State};
 use steps::Light;
 
-// Each has a number, and a line of document 01's table: `number_of` and `gives` of specs/Answers.antt.
+// Each has a number, and a line of document 01's table: `number_of` and `gives` of specs/Answers.antt. (No Result: 3 comes
+// with steps done.)
 #[derive(Clone, Copy)]
 pub enum Answer {
     Done = 0,
@@ -100,6 +101,7 @@ fn run(
     let mut stored = 0;
     let mut refused = 0;
     let mut protection = false;
+    // a while: a turn takes a byte or many
     while taken < bytes.len() {
         let half = here.half;
         if reading::takes_text(half, bytes[taken]) {
@@ -218,6 +220,26 @@ pub fn start(rows: usize, columns: usize, characters: &mut [u8], marks: &mut [Ma
     }
 }
 
+// Lines 1, 2 and 6 let host bytes pass, or the first that does not gives its answer.
+fn allows_bytes(state: State, characters: &[u8], marks: &[Mark], bytes: &[u8]) -> Result<(), Answer>
+    ensures { MatchResult result
+        (λ _. (Valid (terminal_of state characters.now marks.now)) × (length bytes.now ≤ 65536))
+        (λ answer. (output : List ℕ) →
+        unchanged answer (terminal_of state characters.now marks.now) output
+        ≡ host_call (terminal_of state characters.now marks.now) bytes.now output) }
+{
+    if !state.size.fits(characters, marks) {
+        return Err(Answer::WrongSize);
+    }
+    if !is_valid(state, characters, marks) {
+        return Err(Answer::WrongState);
+    }
+    if 65536 < bytes.len() {
+        return Err(Answer::TooLong);
+    }
+    Ok(())
+}
+
 // Host bytes, at most 65,536. Transmissions are written from the output's start on.
 pub fn host(
     state: State,
@@ -230,16 +252,42 @@ pub fn host(
         (terminal_of state characters.old marks.old) bytes.now out.old
         result (page_of characters.new marks.new) out.new }
 {
+    match allows_bytes(state, characters, marks, bytes) {
+        Ok(()) => run(state, characters, marks, bytes, out),
+        Err(answer) => refuse_call(answer, state),
+    }
+}
+
+// Lines 1, 2, 4, 5, 7, 8 and 9 let a key pass, or the first that does not gives its answer.
+fn allows_key(state: State, characters: &[u8], marks: &[Mark], key: usize) -> Result<(), Answer>
+    ensures { MatchResult result
+        (λ _. Passes (terminal_of state characters.now marks.now) key)
+        (λ answer. (output : List ℕ) →
+        unchanged answer (terminal_of state characters.now marks.now) output
+        ≡ key_call (terminal_of state characters.now marks.now) key output) }
+{
     if !state.size.fits(characters, marks) {
-        return refuse_call(Answer::WrongSize, state);
+        return Err(Answer::WrongSize);
     }
     if !is_valid(state, characters, marks) {
-        return refuse_call(Answer::WrongState, state);
+        return Err(Answer::WrongState);
     }
-    if 65536 < bytes.len() {
-        return refuse_call(Answer::TooLong, state);
+    if !keys::is_known(key) {
+        return Err(Answer::UnknownKey);
     }
-    run(state, characters, marks, bytes, out)
+    if keys::is_locked_out(key, state) {
+        return Err(Answer::Locked);
+    }
+    if keys::lacks_cell(key, state, characters, marks) {
+        return Err(Answer::NoCell);
+    }
+    if keys::is_not_taken(key, state, characters, marks) {
+        return Err(Answer::NotTaken);
+    }
+    if keys::is_held_back(key, state, characters, marks) {
+        return Err(Answer::RequiredBlank);
+    }
+    Ok(())
 }
 
 // A key, by its number. Its transmission is written from the output's start on.
@@ -254,26 +302,8 @@ pub fn key(
         (terminal_of state characters.old marks.old) key out.old
         result (page_of characters.new marks.new) out.new }
 {
-    if !state.size.fits(characters, marks) {
-        return refuse_call(Answer::WrongSize, state);
+    match allows_key(state, characters, marks, key) {
+        Ok(()) => press(state, characters, marks, key, out),
+        Err(answer) => refuse_call(answer, state),
     }
-    if !is_valid(state, characters, marks) {
-        return refuse_call(Answer::WrongState, state);
-    }
-    if !keys::is_known(key) {
-        return refuse_call(Answer::UnknownKey, state);
-    }
-    if keys::is_locked_out(key, state) {
-        return refuse_call(Answer::Locked, state);
-    }
-    if keys::lacks_cell(key, state, characters, marks) {
-        return refuse_call(Answer::NoCell, state);
-    }
-    if keys::is_not_taken(key, state, characters, marks) {
-        return refuse_call(Answer::NotTaken, state);
-    }
-    if keys::is_held_back(key, state, characters, marks) {
-        return refuse_call(Answer::RequiredBlank, state);
-    }
-    press(state, characters, marks, key, out)
 }

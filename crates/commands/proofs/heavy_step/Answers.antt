@@ -1,8 +1,6 @@
-use mathlib.Core.Path.{refl, sym, ap, ◌∙◌}
+use mathlib.Core.Path.{sym, ap, ◌∙◌}
 use mathlib.Core.Logic.{⊎_elim}
-use Rattle.page.specs.Page.{page_of}
 use Rattle.words.proofs.Choosing.{true_is_not_false}
-use Rattle.steps.specs.Steps.{bytes_of}
 use Rattle.steps.proofs.Writing.{told_silent}
 use Rattle.commands.specs.Host.{event_step}
 use Rattle.commands.specs.Light.{is_light}

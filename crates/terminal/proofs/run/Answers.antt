@@ -4,7 +4,7 @@ use native.Mathlib.Omega.{arith}
 use borrow.Author.Rules.{rules}
 use borrow.Author.Tests.{eqb-true}
 use Rattle.words.proofs.Choosing.{both}
-use Rattle.state.specs.State.{refused, with_half}
+use Rattle.state.specs.State.{with_half}
 use Rattle.state.proofs.Keeping.{parts, half_keeps_valid}
 use Rattle.sequence.proofs.Keeping.{nothing_valid}
 use Rattle.steps.specs.Light.{light_step}

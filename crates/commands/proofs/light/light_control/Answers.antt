@@ -1,4 +1,3 @@
-use mathlib.Core.Path.{◌≡◌}
 use borrow.Author.Tests.{ne_eqb}
 use Rattle.words.specs.Choice.{If◌then◌else◌}
 use Rattle.state.specs.Moves.{down_by, left_by, to_margin}

@@ -1,7 +1,6 @@
-use mathlib.Core.Path.{refl, sym, ◌∙◌}
+use mathlib.Core.Path.{sym, ◌∙◌}
 use native.Mathlib.Nat.{zero-mul}
 use native.Mathlib.Omega.{arith}
-use borrow.Author.Rules.{rules}
 use Rattle.places.proofs.Counting.{cell_is}
 use Rattle.steps.proofs.Measuring.{measured}
 use Rattle.commands.proofs.Runs.{sets_out, goes_on, stops_here, ends_here, next_in_row, cell_in_row, next_row, cell_in_next_row, round_the_page}
