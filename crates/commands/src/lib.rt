@@ -32,8 +32,13 @@ fn text(state: State, characters: &mut [u8], marks: &mut [Mark], character: u8) 
     ensures { told result (page_of characters.new marks.new)
         ≡ tells (text_step character (terminal_of state characters.old marks.old)) }
 {
-    let place = state.place();
-    page::store_text(characters, marks, place.cell, character, state.modes.pen);
+    page::store_text(
+        characters,
+        marks,
+        state.place().cell,
+        character,
+        state.modes.pen,
+    );
     steps::stored(state.to_next_cell(), 1, true)
 }
 
@@ -139,8 +144,7 @@ fn erase_part(
     ensures { told result (page_of characters.new marks.new)
         ≡ tells (erase_part letter what first end (terminal_of state characters.old marks.old)) }
 {
-    let place = state.place();
-    let cell = place.cell;
+    let cell = state.place().cell;
     match what {
         0 => erase_cells(state, characters, marks, cell, end),
         1 => erase_cells(state, characters, marks, first, cell + 1),
@@ -162,8 +166,7 @@ fn erase_row(
         ≡ tells (erase_part letter what (row_start state) (row_start state + state.size.columns)
         (terminal_of state characters.old marks.old)) }
 {
-    let place = state.place();
-    let first = place.cell - (state.cursor.column - 1);
+    let first = state.place().cell - (state.cursor.column - 1);
     erase_part(
         state,
         characters,
@@ -217,16 +220,14 @@ fn bracket_step(
         (terminal_of before characters.old marks.old)
         (bracket_step letter half (terminal_of state characters.old marks.old)) }
 {
-    let arguments = half.arguments;
-    let count = half.count;
     let most = table::most_arguments(letter);
     if most == 0 { // not listed
         return Ok(steps::refuse(state, Reason::UnknownCommand, letter));
     }
-    if most < count {
+    if most < half.count {
         return Ok(steps::refuse(state, Reason::WrongArguments, letter));
     }
-    let what = table::value(letter, arguments, 0);
+    let what = table::value(letter, half.arguments, 0);
     let cells = characters.len();
     let step = match letter {
         b'I' => steps::quiet(state.tab_on(what)), // CHT

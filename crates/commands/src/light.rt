@@ -78,10 +78,10 @@ fn light_letter(state: State, letter: u8) -> Light
         light_step result (record { state = state; page = page })
         ≡ esc_step letter (record { state = state; page = page }) }
 {
-    if letter == b'V' {
-        return table::settings::set_area(state, 1);
+    match letter {
+        b'V' => table::settings::set_area(state, 1),
+        _ => table::settings::set_area(state, 0),
     }
-    table::settings::set_area(state, 0)
 }
 
 // After ESC [; the table is consulted before anything else, and lists each of these.
@@ -112,8 +112,7 @@ fn private_command(state: State, half: HalfRead, letter: u8) -> Light
         light_step result (record { state = state; page = page })
         ≡ private_step letter (argument_of half 0) (record { state = state; page = page }) }
 {
-    let arguments = half.arguments;
-    table::private_forms::private_command(state, letter, arguments[0])
+    table::private_forms::private_command(state, letter, half.arguments[0])
 }
 
 // What a light event does. `half` is the half-read record before its byte, which has a command's arguments.

@@ -32,16 +32,14 @@ pub enum Light {
 pub fn moves_to(state: State) -> Light
     ensures { result ≡ Light.Cursor state.cursor }
 {
-    let cursor = state.cursor;
-    Light::Cursor(cursor)
+    Light::Cursor(state.cursor)
 }
 
 // Pen and mode become those of a state.
 pub fn sets(state: State) -> Light
     ensures { result ≡ Light.Modes state.modes }
 {
-    let modes = state.modes;
-    Light::Modes(modes)
+    Light::Modes(state.modes)
 }
 
 // The state changes, and nothing is stored, sent or refused.

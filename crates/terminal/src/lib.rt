@@ -105,23 +105,18 @@ fn run(
     while taken < bytes.len() {
         let half = here.half;
         if reading::takes_text(half, bytes[taken]) {
-            let nothing = sequence::NOTHING_READ;
-            here.half = nothing;
+            here.half = sequence::NOTHING_READ;
             let run = commands::text_run(here, characters, marks, bytes, taken);
-            let cursor = run.cursor;
-            here.cursor = cursor;
+            here.cursor = run.cursor;
             stored += run.end - taken;
             protection = true;
             taken = run.end;
         } else {
             let read = reading::read(half, bytes, taken);
-            let event = read.event;
-            let before = read.before;
-            let after = read.after;
-            if commands::is_light(here.size, here.cursor, event) {
-                here.half = after;
+            if commands::is_light(here.size, here.cursor, read.event) {
+                here.half = read.after;
                 taken = read.end;
-                let light = commands::light_step(here, before, event);
+                let light = commands::light_step(here, read.before, read.event);
                 match light {
                     Light::Cursor(cursor) => {
                         here.cursor = cursor;
@@ -135,11 +130,17 @@ fn run(
                     }
                 }
             } else {
-                let next = here.with_half(after); // a copy: handing over the loop's own took longer
+                let next = here.with_half(read.after); // a copy: handing over the loop's own took longer
                 let Ok(step) = commands::heavy_step(
-                    next, before, characters, marks, out, sent, event,
+                    next,
+                    read.before,
+                    characters,
+                    marks,
+                    out,
+                    sent,
+                    read.event,
                 ) else {
-                    here.half = before;
+                    here.half = read.before;
                     return Reply {
                         answer: Answer::NoRoom,
                         state: here,
