@@ -9,16 +9,17 @@ mod texts;
 ghost use Rattle.std.specs.Prelude.{◌≡◌, false, ◌≤◌, ◌+◌, length};
 ghost use Rattle.sequence.specs.declared.Event.TheVariants.{Control, EscCommand, BracketCommand};
 ghost use Rattle.page.specs.Page.{Page, page_of};
-ghost use Rattle.state.specs.State.{OnPage, with_half};
-ghost use Rattle.sending.specs.Sending.{status_report};
+ghost use Rattle.state.specs.State.{OnPage};
+ghost use Rattle.state.specs.declared.State.{State};
 ghost use Rattle.steps.specs.Steps.{Valid, cursor_cell, row_start, terminal_of};
-ghost use Rattle.steps.specs.Told.{told, tells, written};
+ghost use Rattle.steps.specs.Told.{told, told_or, tells, written};
 ghost use Rattle.commands.specs.Text.{text_step, line_down, line_up, control_step};
 ghost use Rattle.commands.specs.Commands.{fresh_step, esc_step, erasing, erase_part, bracket_step};
 ghost use Rattle.commands.specs.Host.{FinalInTable, event_step};
 ghost use Rattle.commands.specs.Light.{is_light};
 
 pub use light::{is_light, light_step};
+use output::NoRoom;
 use page::Mark;
 use sequence::{Event, HalfRead, Reason};
 use state::State;
@@ -31,8 +32,13 @@ fn text(state: State, characters: &mut [u8], marks: &mut [Mark], character: u8) 
     ensures { told result (page_of characters.new marks.new)
         ≡ tells (text_step character (terminal_of state characters.old marks.old)) }
 {
-    let place = state.place();
-    page::store_text(characters, marks, place.cell, character, state.modes.pen);
+    page::store_text(
+        characters,
+        marks,
+        state.place().cell,
+        character,
+        state.modes.pen,
+    );
     steps::stored(state.to_next_cell(), 1, true)
 }
 
@@ -50,7 +56,7 @@ fn line_down(state: State, characters: &mut [u8], marks: &mut [Mark]) -> Step
     steps::stored(state, cells, true)
 }
 
-// RI.
+// RI: IND turned round. One function with closures for test, move and scroll would be longer than both.
 fn line_up(state: State, characters: &mut [u8], marks: &mut [Mark]) -> Step
     requires { Valid (terminal_of state characters.old marks.old) }
     ensures { told result (page_of characters.new marks.new)
@@ -138,8 +144,7 @@ fn erase_part(
     ensures { told result (page_of characters.new marks.new)
         ≡ tells (erase_part letter what first end (terminal_of state characters.old marks.old)) }
 {
-    let place = state.place();
-    let cell = place.cell;
+    let cell = state.place().cell;
     match what {
         0 => erase_cells(state, characters, marks, cell, end),
         1 => erase_cells(state, characters, marks, first, cell + 1),
@@ -161,8 +166,7 @@ fn erase_row(
         ≡ tells (erase_part letter what (row_start state) (row_start state + state.size.columns)
         (terminal_of state characters.old marks.old)) }
 {
-    let place = state.place();
-    let first = place.cell - (state.cursor.column - 1);
+    let first = state.place().cell - (state.cursor.column - 1);
     erase_part(
         state,
         characters,
@@ -177,46 +181,24 @@ fn erase_row(
 // After ESC: S sends, and its transmission may not fit.
 fn esc_step(
     state: State,
-    half: HalfRead,
     characters: &mut [u8],
     marks: &mut [Mark],
     out: &mut [u8],
     at: usize,
     byte: u8,
-) -> Step
+) -> Result<Step, NoRoom>
     requires valid { Valid (terminal_of state characters.old marks.old) }
     requires at_in_bounds { (at ≤ length out.old) × (is_light state.size state.cursor (EscCommand byte) ≡ false) }
-    ensures { record { told = told result (page_of characters.new marks.new); output = out.new }
+    ensures { (before : State) →
+        record { told = told_or result before (page_of characters.new marks.new); output = out.new }
         ≡ written at out.old
-        (terminal_of (with_half state half) characters.old marks.old)
+        (terminal_of before characters.old marks.old)
         (esc_step byte (terminal_of state characters.old marks.old)) }
 {
     if byte == b'S' {
-        let before = state.with_half(half);
-        return sending::send_block(state, before, characters, marks, out, at, true);
+        return sending::send_block(state, characters, marks, out, at, true);
     }
-    silent_esc_step(state, characters, marks, byte)
-}
-
-// DSR.
-fn status_report(
-    state: State,
-    half: HalfRead,
-    out: &mut [u8],
-    at: usize,
-    letter: u8,
-    what: usize,
-) -> Step
-    requires on_page { OnPage state }
-    requires at_in_bounds { at ≤ length out.old }
-    ensures { (page : Page) →
-        record { told = told result page; output = out.new }
-        ≡ written at out.old
-        (record { state = with_half state half; page = page })
-        (status_report letter what (record { state = state; page = page })) }
-{
-    let before = state.with_half(half);
-    sending::status_report(state, before, out, at, letter, what)
+    Ok(silent_esc_step(state, characters, marks, byte))
 }
 
 // After ESC [, what is not light: the table is consulted before anything else.
@@ -228,34 +210,34 @@ fn bracket_step(
     out: &mut [u8],
     at: usize,
     letter: u8,
-) -> Step
+) -> Result<Step, NoRoom>
     requires valid { Valid (terminal_of state characters.old marks.old) }
     requires at_in_bounds { (at ≤ length out.old) × (0x40 ≤ letter) × (letter ≤ 0x7E) × (half.count ≤ 8) ×
         (is_light state.size state.cursor (BracketCommand letter) ≡ false) }
-    ensures { record { told = told result (page_of characters.new marks.new); output = out.new }
+    ensures { (before : State) →
+        record { told = told_or result before (page_of characters.new marks.new); output = out.new }
         ≡ written at out.old
-        (terminal_of (with_half state half) characters.old marks.old)
+        (terminal_of before characters.old marks.old)
         (bracket_step letter half (terminal_of state characters.old marks.old)) }
 {
-    let arguments = half.arguments;
-    let count = half.count;
     let most = table::most_arguments(letter);
     if most == 0 { // not listed
-        return steps::refuse(state, Reason::UnknownCommand, letter);
+        return Ok(steps::refuse(state, Reason::UnknownCommand, letter));
     }
-    if most < count {
-        return steps::refuse(state, Reason::WrongArguments, letter);
+    if most < half.count {
+        return Ok(steps::refuse(state, Reason::WrongArguments, letter));
     }
-    let what = table::value(letter, arguments, 0);
+    let what = table::value(letter, half.arguments, 0);
     let cells = characters.len();
-    match letter {
+    let step = match letter {
         b'I' => steps::quiet(state.tab_on(what)), // CHT
         b'Z' => steps::quiet(state.tab_back(what)), // CBT
         b'W' => table::settings::tab_control(state, letter, what), // CTC
         b'J' => erase_part(state, characters, marks, letter, what, 0, cells), // ED
         b'K' => erase_row(state, characters, marks, letter, what), // EL
-        _ => status_report(state, half, out, at, letter, what), // n: DSR
-    }
+        _ => return sending::status_report(state, out, at, letter, what), // n: DSR
+    };
+    Ok(step)
 }
 
 // The step of an event that is not light. `half` is the half-read record before the event's byte, which has a command's
@@ -268,24 +250,23 @@ pub fn heavy_step(
     out: &mut [u8],
     at: usize,
     event: Event,
-) -> Step
+) -> Result<Step, NoRoom>
     requires valid { Valid (terminal_of state characters.old marks.old) }
     requires at_in_bounds { (at ≤ length out.old) × FinalInTable event × (half.count ≤ 8) ×
         (is_light state.size state.cursor event ≡ false) }
-    ensures { record { told = told result (page_of characters.new marks.new); output = out.new }
+    ensures { (before : State) →
+        record { told = told_or result before (page_of characters.new marks.new); output = out.new }
         ≡ written at out.old
-        (terminal_of (with_half state half) characters.old marks.old)
+        (terminal_of before characters.old marks.old)
         (event_step half event (terminal_of state characters.old marks.old)) }
 {
     match event {
-        Event::Nothing => steps::quiet(state), // does not come here
-        Event::Text(character) => text(state, characters, marks, character),
-        Event::Control(code) => control(state, characters, marks, code),
-        Event::EscCommand(letter) => esc_step(state, half, characters, marks, out, at, letter),
+        Event::Text(character) => Ok(text(state, characters, marks, character)),
+        Event::Control(code) => Ok(control(state, characters, marks, code)),
+        Event::EscCommand(letter) => esc_step(state, characters, marks, out, at, letter),
         Event::BracketCommand(letter) => bracket_step(
             state, half, characters, marks, out, at, letter,
         ),
-        Event::PrivateCommand(_) => steps::quiet(state), // nor does this
-        Event::Refused(_, _) => steps::quiet(state), // or this
+        Event::Nothing | Event::PrivateCommand(_) | Event::Refused(_, _) => unreachable!(), // these are light
     }
 }

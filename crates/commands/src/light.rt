@@ -29,31 +29,16 @@ fn is_light_control(size: Size, cursor: Cursor, code: u8) -> bool
 fn is_light_letter(letter: u8) -> bool
     ensures { result ≡ is_light_letter letter }
 {
-    match letter {
-        b'V' => true,
-        b'W' => true,
-        _ => false,
-    }
+    matches!(letter, b'V' | b'W')
 }
 
 fn is_light_final(letter: u8) -> bool
     ensures { result ≡ is_light_final letter }
 {
-    if letter < b'A' {
-        return false;
-    }
-    if letter <= b'H' {
-        return true;
-    }
-    match letter {
-        b'd' => true,
-        b'f' => true,
-        b'o' => true,
-        b'm' => true,
-        b'h' => true,
-        b'l' => true,
-        _ => false,
-    }
+    matches!(
+        letter,
+        b'A'..=b'H' | b'd' | b'f' | b'o' | b'm' | b'h' | b'l'
+    )
 }
 
 // Whether the event is light.
@@ -79,13 +64,11 @@ fn light_control(state: State, code: u8) -> Light
         light_step result (record { state = state; page = page })
         ≡ control_step code (record { state = state; page = page }) }
 {
-    if code == 0x08 {
-        return steps::moves_to(state.left_by(1));
+    match code {
+        0x08 => steps::moves_to(state.left_by(1)),
+        0x0A => steps::moves_to(state.down_by(1)),
+        _ => steps::moves_to(state.to_margin()),
     }
-    if code == 0x0A {
-        return steps::moves_to(state.down_by(1));
-    }
-    steps::moves_to(state.to_margin())
 }
 
 // SPA, and EPA.
@@ -95,10 +78,10 @@ fn light_letter(state: State, letter: u8) -> Light
         light_step result (record { state = state; page = page })
         ≡ esc_step letter (record { state = state; page = page }) }
 {
-    if letter == b'V' {
-        return table::settings::set_area(state, 1);
+    match letter {
+        b'V' => table::settings::set_area(state, 1),
+        _ => table::settings::set_area(state, 0),
     }
-    table::settings::set_area(state, 0)
 }
 
 // After ESC [; the table is consulted before anything else, and lists each of these.
@@ -130,8 +113,7 @@ fn private_command(state: State, half: HalfRead, letter: u8) -> Light
         light_step result (record { state = state; page = page })
         ≡ private_step letter (argument_of half 0) (record { state = state; page = page }) }
 {
-    let arguments = half.arguments;
-    table::private_forms::private_command(state, letter, arguments[0])
+    table::private_forms::private_command(state, letter, half.arguments[0])
 }
 
 // What a light event does. `half` is the half-read record before its byte, which has a command's arguments.
@@ -144,7 +126,7 @@ pub fn light_step(state: State, half: HalfRead, event: Event) -> Light
 {
     match event {
         Event::Nothing => steps::moves_to(state),
-        Event::Text(_) => steps::moves_to(state), // does not come here
+        Event::Text(_) => unreachable!(), // this is not light
         Event::Control(code) => light_control(state, code),
         Event::EscCommand(letter) => light_letter(state, letter),
         Event::BracketCommand(letter) => light_final(state, half, letter),

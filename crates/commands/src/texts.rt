@@ -41,14 +41,12 @@ pub fn text_run(
     let mut cell = place.cell;
     let mut row = state.cursor.row;
     let mut column = state.cursor.column;
-    let mut at = from;
-    while at < bytes.len() {
+    for at in from..bytes.len() {
         let byte = bytes[at];
         if !sequence::is_text(byte) {
             return ended(row, column, at);
         }
         page::store_text(characters, marks, cell, byte, state.modes.pen);
-        at += 1;
         cell += 1;
         if column < state.size.columns {
             column += 1;
@@ -62,5 +60,5 @@ pub fn text_run(
             }
         }
     }
-    ended(row, column, at)
+    ended(row, column, bytes.len())
 }

@@ -10,7 +10,7 @@ use Rattle.words.proofs.Choosing.{then_case, else_case, either_line, first_fails
 use Rattle.page.specs.Page.{Page}
 use Rattle.steps.specs.declared.Step.{Step}
 use Rattle.steps.specs.Steps.{Terminal, bytes_of}
-use Rattle.steps.specs.Told.{told, tells, written}
+use Rattle.steps.specs.Told.{Told, told, tells, written}
 use Rattle.sending.specs.Sending.{sends_full, send_block}
 use Rattle.keys.specs.Keys.{is_typing, is_not_taken, is_held_back, typed_step, to_next_field, to_previous_field, to_first_unprotected, field_blanked, rest_shifted, taken_step, key_step}
 use Rattle.steps.proofs.Writing.{Silent, told_silent}
@@ -54,17 +54,17 @@ unfolding taken_step is_typing ◌is◌to◌ ◌and◌ If◌then◌else◌
 send_step t = refl
 
 -- Where the code tells what such a key does, it tells what is written.
-module _ (key : ℕ) (t : Terminal) (output : List ℕ) {step : Step} {page : Page} (taken : is_not_taken key t ≡ false) (free : is_held_back key t ≡ false) where
-  pub key_told : (key ≡ 266 → ⊥) → told step page ≡ tells (taken_step key t) → record { told = told step page; output = output } ≡ written 0 output t (key_step key t)
-  key_told not-266 says =
+module _ (key : ℕ) (t : Terminal) (output : List ℕ) (taken : is_not_taken key t ≡ false) (free : is_held_back key t ≡ false) where
+  pub key_told : {step : Step} {page : Page} → (key ≡ 266 → ⊥) → told step page ≡ tells (taken_step key t) → record { told = told step page; output = output } ≡ written 0 output t (key_step key t)
+  key_told {step} {page} not-266 says =
       told_silent 0 output t (taken_step key t) step page says (key_silent key t not-266)
       ∙ ap (written 0 output t) (sym (taken_step_lem key t taken free))
 
-  pub typing_told : is_typing key ≡ true → told step page ≡ tells (typed_step key t) → record { told = told step page; output = output } ≡ written 0 output t (key_step key t)
+  pub typing_told : {step : Step} {page : Page} → is_typing key ≡ true → told step page ≡ tells (typed_step key t) → record { told = told step page; output = output } ≡ written 0 output t (key_step key t)
   unfolding taken_step
-  typing_told typing says =
+  typing_told {step} {page} typing says =
       let range = typing_range key typing in
-      key_told (λ e. omega arith) (says ∙ ap tells (sym (then_case _ _ _ typing)))
+      key_told {step = step} {page = page} (λ e. omega arith) (says ∙ ap tells (sym (then_case _ _ _ typing)))
 
-  pub sending_told : {left : List ℕ} → key ≡ 266 → record { told = told step page; output = left } ≡ written 0 output t (send_block (sends_full t.state) t) → record { told = told step page; output = left } ≡ written 0 output t (key_step key t)
+  pub sending_told : {said : Told} {left : List ℕ} → key ≡ 266 → record { told = said; output = left } ≡ written 0 output t (send_block (sends_full t.state) t) → record { told = said; output = left } ≡ written 0 output t (key_step key t)
   sending_told asked says = says ∙ ap (written 0 output t) (sym (taken_step_lem key t taken free ∙ ap (λ (k : ℕ). taken_step k t) asked ∙ send_step t))

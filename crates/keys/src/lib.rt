@@ -4,13 +4,14 @@
 ghost use Rattle.std.specs.Prelude.{◌≡◌, false};
 ghost use Rattle.page.specs.Page.{page_of, takes_from_right, takes_from_left, closed_up, moved_right};
 ghost use Rattle.steps.specs.Steps.{Valid, terminal_of, cursor_cell};
-ghost use Rattle.steps.specs.Told.{told, tells, written};
+ghost use Rattle.steps.specs.Told.{told, told_or, tells, written};
 ghost use Rattle.steps.specs.Seen.{seen, unprotected_at, takes_at, fields_here, end_here};
 ghost use Rattle.keys.specs.Keys.{is_typing, is_editing, is_field_move, is_known, is_locked, is_locked_out};
 ghost use Rattle.keys.specs.Keys.{no_field, lacks_cell, carried, is_not_taken, is_held_back, gone_to, typed_step};
 ghost use Rattle.keys.specs.Keys.{to_next_field, to_previous_field, to_first_unprotected};
 ghost use Rattle.keys.specs.Keys.{field_blanked, rest_shifted, taken_step, key_step};
 
+use output::NoRoom;
 use page::Mark;
 use places::Place;
 use state::State;
@@ -330,22 +331,22 @@ pub fn step(
     marks: &mut [Mark],
     out: &mut [u8],
     key: usize,
-) -> Step
+) -> Result<Step, NoRoom>
     requires valid { Valid (terminal_of state characters.old marks.old) }
     requires marks_value { is_not_taken key (terminal_of state characters.old marks.old) ≡ false }
     requires marks_value_2 { is_held_back key (terminal_of state characters.old marks.old) ≡ false }
     ensures { record {
-      told = told result (page_of characters.new marks.new);
+      told = told_or result state (page_of characters.new marks.new);
       output = out.new;
     }
         ≡ written 0 out.old (terminal_of state characters.old marks.old)
         (key_step key (terminal_of state characters.old marks.old)) }
 {
     if is_typing(key) {
-        return type_character(state, characters, marks, key as u8);
+        return Ok(type_character(state, characters, marks, key as u8));
     }
     if key == 266 {
-        return sending::send_block(state, state, characters, marks, out, 0, state.modes.full);
+        return sending::send_block(state, characters, marks, out, 0, state.modes.full);
     }
-    act(state, characters, marks, key)
+    Ok(act(state, characters, marks, key))
 }

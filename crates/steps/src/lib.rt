@@ -9,6 +9,7 @@ ghost use Rattle.steps.specs.Told.{told, tells};
 use sequence::Reason;
 use state::{Cursor, Modes, State};
 
+// A step that was done. One that may send has a `Result`, whose error `NoRoom` says that nothing happened.
 #[derive(Clone, Copy)]
 pub struct Step {
     pub state: State,
@@ -16,8 +17,6 @@ pub struct Step {
     pub sent: usize,
     pub refused: bool,
     pub protection: bool,
-    // Its transmission did not fit, and nothing happened.
-    pub exceeds: bool,
 }
 
 // A light step, which touches neither page nor output nor tab stops: what it changes of the state (specs/Light.antt).
@@ -33,16 +32,14 @@ pub enum Light {
 pub fn moves_to(state: State) -> Light
     ensures { result ≡ Light.Cursor state.cursor }
 {
-    let cursor = state.cursor;
-    Light::Cursor(cursor)
+    Light::Cursor(state.cursor)
 }
 
 // Pen and mode become those of a state.
 pub fn sets(state: State) -> Light
     ensures { result ≡ Light.Modes state.modes }
 {
-    let modes = state.modes;
-    Light::Modes(modes)
+    Light::Modes(state.modes)
 }
 
 // The state changes, and nothing is stored, sent or refused.
@@ -55,7 +52,6 @@ pub fn quiet(state: State) -> Step
         sent: 0,
         refused: false,
         protection: false,
-        exceeds: false,
     }
 }
 
@@ -65,12 +61,8 @@ pub fn refuse(state: State, reason: Reason, byte: u8) -> Step
         told result page ≡ tells (refusing reason byte (record { state = state; page = page })) }
 {
     Step {
-        state: state.refuse(reason, byte),
-        stored: 0,
-        sent: 0,
         refused: true,
-        protection: false,
-        exceeds: false,
+        ..quiet(state.refuse(reason, byte))
     }
 }
 
@@ -80,11 +72,8 @@ pub fn stored(state: State, count: usize, protection: bool) -> Step
         told result page ≡ tells (stores cells protection state page) }
 {
     Step {
-        state,
         stored: count,
-        sent: 0,
-        refused: false,
         protection,
-        exceeds: false,
+        ..quiet(state)
     }
 }

@@ -1,11 +1,12 @@
 -- A call on its way, over steps that send nothing: bytes that are read on, light steps, a run of text.
 use mathlib.Core.Path.{◌≡◌, refl, sym, ap, ◌∙◌, subst}
 use mathlib.Core.Bool.{Bool, true, false}
-use mathlib.Core.List.{List, []}
+use mathlib.Core.List.{List}
 use Prim.Native.Nat.{ℕ, zero, suc, ◌+◌, ◌-◌, ◌<◌, ◌≤◌}
 use native.Mathlib.Omega.{arith}
 use borrow.Author.Tests.{eq-eqb}
 use lib.ListN.{length, drop, get_or}
+use Rattle.std.specs.Prelude.{Result, Ok}
 use Rattle.words.specs.Choice.{◌or◌, ◌is◌to◌}
 use Rattle.words.proofs.Choosing.{true_is_not_false, either_way, less_or_not, then_case}
 use Rattle.sequence.specs.declared.HalfRead.{HalfRead}
@@ -17,19 +18,20 @@ use Rattle.sequence.specs.Reading.{advance_of, outside_sequence}
 use Rattle.reading.specs.declared.Reading.{Reading}
 use Rattle.reading.specs.Ahead.{is_nothing, read_from, read_to}
 use Rattle.reading.proofs.Laws.{reads_on_lem, reads_to, reads_last}
+use Rattle.output.specs.declared.NoRoom.{NoRoom}
 use Rattle.page.specs.Page.{Page}
+use Rattle.state.specs.declared.State.{State}
 use Rattle.state.specs.State.{with_half}
 use Rattle.steps.specs.declared.Step.{Step}
-use Rattle.steps.specs.Told.{told, written}
+use Rattle.steps.specs.Told.{Told, told, told_or, written}
 use Rattle.steps.specs.Steps.{Terminal, Valid, bytes_of, with_state}
 use Rattle.steps.specs.declared.Light.{Light}
-use Rattle.steps.specs.declared.Light.TheVariants as light
 use Rattle.steps.specs.Light.{light_step}
 use Rattle.commands.specs.Text.{text_step, text_length, after_text}
 use Rattle.commands.specs.Host.{FinalInTable, event_step, host_step}
 use Rattle.commands.proofs.Stepping.{next_valid}
 use Rattle.commands.proofs.Runs.{text_keeps_half, text_sends_nothing, text_names_one, text_not_refused, along_text, text_goes_on, length_goes_on, run_goes_on, final_in_table, eight_arguments, light_sends_nothing, light_names_none, light_protects_none}
-use Rattle.terminal.specs.declared.Answer.TheVariants.{NoRoom}
+use Rattle.terminal.specs.declared.Answer.TheVariants as answer
 use Rattle.terminal.specs.Runs.{count_of}
 use Rattle.terminal.specs.Answers.{number_of}
 use Rattle.terminal.specs.Calls.{host_call}
@@ -133,21 +135,21 @@ module _ (start : Terminal) (bytes before : List ℕ) (sent stored refused : ℕ
         (goes_silently arrives.going arrives.inside (light_step light t) steps (ap bytes_of (light_sends_nothing t light)) stored refused' protection (omega (arith, ap length (light_names_none t light))) refuses (ap (λ (b : Bool). protection or b) (light_protects_none t light) ∙ or_false protection))
 
     -- A step that may send, as the code tells of it: it is done, or it exceeds the room.
-    module _ (step : Step) (page : Page) (written-to : List ℕ) (told_of : record { told = told step page; output = written-to } ≡ written sent output (reading here read.before) (event_step read.before read.event (reading here read.after))) where
-      told_of_host : record { told = told step page; output = written-to } ≡ written sent output (reading here read.before) (host_step last_byte (reading here read.before))
-      told_of_host = told_of ∙ ap (written sent output (reading here read.before)) (sym arrived_step)
+    told_of_host : {said : Told} {written-to : List ℕ} → record { told = said; output = written-to } ≡ written sent output (reading here read.before) (event_step read.before read.event (reading here read.after)) → record { told = said; output = written-to } ≡ written sent output (reading here read.before) (host_step last_byte (reading here read.before))
+    told_of_host told_of = told_of ∙ ap (written sent output (reading here read.before)) (sym arrived_step)
 
-      pub goes_heavily : step.exceeds ≡ false → Going start bytes before (record { state = step.state; page = page }) read.end (sent + step.sent) (stored + step.stored) (refused + count_of step.refused) (protection or step.protection) written-to
-      goes_heavily done =
+    module _ (page : Page) (written-to : List ℕ) where
+      pub goes_heavily : (step : Step) → record { told = told step page; output = written-to } ≡ written sent output (reading here read.before) (event_step read.before read.event (reading here read.after)) → Going start bytes before (record { state = step.state; page = page }) read.end (sent + step.sent) (stored + step.stored) (refused + count_of step.refused) (protection or step.protection) written-to
+      goes_heavily step told_of =
           subst (λ (n : ℕ). Going start bytes before (record { state = step.state; page = page }) n (sent + step.sent) (stored + step.stored) (refused + count_of step.refused) (protection or step.protection) written-to) (sym arrives.ends)
-          (goes_on arrives.going arrives.inside step page written-to told_of_host done)
+          (goes_on arrives.going arrives.inside step page written-to (told_of_host told_of))
 
-      pub stops_full : Valid start → length bytes ≤ 65536 → step.exceeds ≡ true → record { number = number_of NoRoom; taken = read.end - 1; sent = sent; stored = stored; refused = refused; protection = protection; terminal = record { state = with_half here.state read.before; page = page }; output = written-to } ≡ host_call start bytes before
-      stops_full valid short exceeds =
-          let full = exceeded sent output (reading here read.before) (host_step last_byte (reading here read.before)) step page written-to told_of_host exceeds in
+      pub stops_full : (result : Result Step NoRoom) (state : State) → record { told = told_or result state page; output = written-to } ≡ written sent output (reading here read.before) (event_step read.before read.event (reading here read.after)) → ((step : Step) → result ≡ Ok step → ⊥) → Valid start → length bytes ≤ 65536 → record { number = number_of answer.NoRoom; taken = read.end - 1; sent = sent; stored = stored; refused = refused; protection = protection; terminal = record { state = with_half here.state read.before; page = page }; output = written-to } ≡ host_call start bytes before
+      stops_full result state told_of not-done valid short =
+          let full = exceeded sent output (reading here read.before) (host_step last_byte (reading here read.before)) page written-to result state (told_of_host told_of) not-done in
           let at : read.end - 1 ≡ arrives.last = omega (arith, arrives.ends) in
           (λ i. record {
-            number = number_of NoRoom;
+            number = number_of answer.NoRoom;
             taken = at i;
             sent = sent;
             stored = stored;

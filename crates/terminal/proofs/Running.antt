@@ -1,6 +1,6 @@
 -- A host call on its way: the steps done so far, and what they leave to do.
 use mathlib.Core.Path.{◌≡◌, refl, sym, ap, ◌∙◌, subst}
-use mathlib.Core.Bool.{Bool, true, false}
+use mathlib.Core.Bool.{Bool, true, false, ◌||◌}
 use mathlib.Core.List.{List, [], ◌∷◌, ◌++◌, append_assoc, append-nil}
 use Prim.Native.Nat.{ℕ, ◌+◌, ◌-◌, ◌*◌, ◌<◌, ◌≤◌}
 use native.Mathlib.Numerals.{add-one}
@@ -9,21 +9,26 @@ use borrow.Author.Tests.{leb-true, leb-false, lt-ltb, le-ltb}
 use lib.Dec.{leb}
 use lib.ListN.{length, drop, get_or, length-append, drop_of_length-le}
 use lib.Seq.{drop-cons}
+use Rattle.std.specs.Prelude.{Result, Ok, Err}
+use Rattle.std.specs.Int.{from_bool}
 use Rattle.words.specs.Choice.{◌or◌}
 use Rattle.words.specs.Output.{placed, Wrote}
 use Rattle.words.proofs.Choosing.{true_is_not_false, either_way}
 use Rattle.words.proofs.Output.{placed-length, wrote_none, wrote_then}
+use Rattle.output.specs.declared.NoRoom.{NoRoom}
 use Rattle.page.specs.Page.{Page}
+use Rattle.state.specs.declared.State.{State}
 use Rattle.steps.specs.declared.Step.{Step}
 use Rattle.steps.specs.Steps.{Terminal, Stepped, bytes_of, Valid}
-use Rattle.steps.specs.Told.{Written, told, written}
+use Rattle.steps.specs.Told.{Written, told, told_or, written}
 use Rattle.commands.specs.Host.{host_step}
 use Rattle.steps.proofs.Naming.{named_count}
 use Rattle.steps.proofs.Measuring.{measured}
 use Rattle.steps.proofs.Writing.{no_room, with_room}
 use Rattle.commands.proofs.Theorems.{step_keeps_valid, step_names_once}
 use Rattle.terminal.specs.declared.Answer.{Answer}
-use Rattle.terminal.specs.declared.Answer.TheVariants.{Done, NoRoom}
+use Rattle.terminal.specs.declared.Answer.TheVariants.{Done}
+use Rattle.terminal.specs.declared.Answer.TheVariants as answer
 use Rattle.terminal.specs.Runs.{steps_of, fitting, after, bytes_sent_by, cells_stored_by, count_of, refused_by, protection_by}
 use Rattle.terminal.specs.Answers.{number_of, after_steps}
 use Rattle.terminal.specs.Tests.{exceeds_room}
@@ -60,6 +65,18 @@ protection_more : (done : List Stepped) (step : Stepped) → protection_by (done
 unfolding protection_by ◌or◌
 protection_more [] step = or_false step.protection
 protection_more (first ∷ later) step = ap (λ (b : Bool). first.protection or b) (protection_more later step) ∙ or_joined first.protection (protection_by later) step.protection
+
+-- The code counts by `usize::from`.
+pub counted_one : (refused : Bool) → from_bool refused ≡ count_of refused
+unfolding count_of
+counted_one true = refl
+counted_one false = refl
+
+-- And joins by `|`.
+pub joined : (a b : Bool) → (a || b) ≡ (a or b)
+unfolding ◌or◌
+joined true b = refl
+joined false b = refl
 
 one_at_most : (refused : Bool) → count_of refused ≤ 1
 unfolding count_of
@@ -99,9 +116,9 @@ pub record Exceeded (at : ℕ) (output : List ℕ) (before : Terminal) (stepped 
   pub same_page : page ≡ before.page
   pub same_output : written-to ≡ output
 
-module _ (at : ℕ) (output : List ℕ) (before : Terminal) (stepped : Stepped) (step : Step) (page : Page) (written-to : List ℕ) (is : record { told = told step page; output = written-to } ≡ written at output before stepped) where
-  pub was_done : step.exceeds ≡ false → WasDone at output stepped step page written-to
-  was_done done =
+module _ (at : ℕ) (output : List ℕ) (before : Terminal) (stepped : Stepped) (page : Page) (written-to : List ℕ) where
+  pub was_done : (step : Step) → record { told = told step page; output = written-to } ≡ written at output before stepped → WasDone at output stepped step page written-to
+  was_done step is =
       either_way (leb (length (bytes_of stepped.transmission)) (length output - at))
       (λ fits.
       let did = is ∙ with_room at output before stepped (leb-true _ _ fits) in
@@ -114,12 +131,13 @@ module _ (at : ℕ) (output : List ℕ) (before : Terminal) (stepped : Stepped) 
         sent = ap (λ (w : Written). w.told.sent) did;
         writes = ap (λ (w : Written). w.output) did;
       })
-      (λ exceeds. absurd (true_is_not_false (sym (ap (λ (w : Written). w.told.exceeds) (is ∙ no_room at output before stepped (leb-false _ _ exceeds))) ∙ done)))
+      (λ exceeds. absurd (true_is_not_false (sym (ap (λ (w : Written). w.told.exceeds) (is ∙ no_room at output before stepped (leb-false _ _ exceeds))))))
 
-  pub exceeded : step.exceeds ≡ true → Exceeded at output before stepped page written-to
-  exceeded told =
+  pub exceeded : (result : Result Step NoRoom) (state : State) → record { told = told_or result state page; output = written-to } ≡ written at output before stepped → ((step : Step) → result ≡ Ok step → ⊥) → Exceeded at output before stepped page written-to
+  exceeded (Ok step) state is not-done = absurd (not-done step refl)
+  exceeded (Err no-room) state is not-done =
       either_way (leb (length (bytes_of stepped.transmission)) (length output - at))
-      (λ fits. absurd (true_is_not_false (sym told ∙ ap (λ (w : Written). w.told.exceeds) (is ∙ with_room at output before stepped (leb-true _ _ fits)))))
+      (λ fits. absurd (true_is_not_false (ap (λ (w : Written). w.told.exceeds) (is ∙ with_room at output before stepped (leb-true _ _ fits)))))
       (λ exceeds.
       let did = is ∙ no_room at output before stepped (leb-false _ _ exceeds) in
       record {
@@ -221,12 +239,11 @@ module _ {start : Terminal} {bytes before : List ℕ} {here : Terminal} {taken s
         (subst (λ (n : ℕ). Going start bytes before step.terminal (taken + 1) sent (stored + length step.cells) n protection' output) refuses
         (subst (λ (b : Bool). Going start bytes before step.terminal (taken + 1) sent (stored + length step.cells) (refused + count_of step.was_refused) b output) protects of-step))
 
-    module _ (step : Step) (page : Page) (written-to : List ℕ) (is : record { told = told step page; output = written-to } ≡ written sent output here onward) where
-      pub goes_on : step.exceeds ≡ false → Going start bytes before (record { state = step.state; page = page }) (taken + 1) (sent + step.sent) (stored + step.stored) (refused + count_of step.refused) (protection or step.protection) written-to
-      goes_on done =
-          let was = was_done sent output here onward step page written-to is done in
-          subst (λ (t : Terminal). Going start bytes before t (taken + 1) (sent + step.sent) (stored + step.stored) (refused + count_of step.refused) (protection or step.protection) written-to) (sym was.terminal)
-          (rw (was.stored, was.sent, was.refused, was.protection, was.writes) (goes_one_on was.fits))
+    pub goes_on : (step : Step) (page : Page) (written-to : List ℕ) → record { told = told step page; output = written-to } ≡ written sent output here onward → Going start bytes before (record { state = step.state; page = page }) (taken + 1) (sent + step.sent) (stored + step.stored) (refused + count_of step.refused) (protection or step.protection) written-to
+    goes_on step page written-to is =
+        let was = was_done sent output here onward page written-to step is in
+        subst (λ (t : Terminal). Going start bytes before t (taken + 1) (sent + step.sent) (stored + step.stored) (refused + count_of step.refused) (protection or step.protection) written-to) (sym was.terminal)
+        (rw (was.stored, was.sent, was.refused, was.protection, was.writes) (goes_one_on was.fits))
 
   -- Where it ends, the call did the steps done so far.
   ends : (answer : Answer) → fitting (length before) (steps_of start bytes) ≡ going.done → after_steps answer (length (fitting (length before) (steps_of start bytes))) start before (fitting (length before) (steps_of start bytes)) ≡ record { number = number_of answer; taken = taken; sent = sent; stored = stored; refused = refused; protection = protection; terminal = here; output = output }
@@ -246,7 +263,7 @@ module _ {start : Terminal} {bytes before : List ℕ} {here : Terminal} {taken s
       })
 
   module _ (valid : Valid start) (short : length bytes ≤ 65536) where
-    pub ends_full : (more : taken < length bytes) → length output - sent < length (bytes_of onward.transmission) → host_call start bytes before ≡ record { number = number_of NoRoom; taken = taken; sent = sent; stored = stored; refused = refused; protection = protection; terminal = here; output = output }
+    pub ends_full : (more : taken < length bytes) → length output - sent < length (bytes_of onward.transmission) → host_call start bytes before ≡ record { number = number_of answer.NoRoom; taken = taken; sent = sent; stored = stored; refused = refused; protection = protection; terminal = here; output = output }
     unfolding exceeds_room
     ends_full more exceeds =
         let room : length before - sent < length (bytes_of onward.transmission) = omega (arith, going.as_long) in
@@ -256,7 +273,7 @@ module _ {start : Terminal} {bytes before : List ℕ} {here : Terminal} {taken s
         ∙ ap (λ (steps : List Stepped). going.done ++ steps) (stops_there (length before - sent) (onward) _ room)
         ∙ append-nil going.done in
         let fewer : length (fitting (length before) (steps_of start bytes)) < length (steps_of start bytes) = omega (arith, ap length all, going.as_many, steps_count start bytes) in
-        host_no_room start bytes before valid short (lt-ltb _ _ fewer) ∙ ends NoRoom all
+        host_no_room start bytes before valid short (lt-ltb _ _ fewer) ∙ ends answer.NoRoom all
 
     pub ends_done : length bytes ≤ taken → host_call start bytes before ≡ record { number = number_of Done; taken = taken; sent = sent; stored = stored; refused = refused; protection = protection; terminal = here; output = output }
     unfolding exceeds_room steps_of fitting

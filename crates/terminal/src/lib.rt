@@ -2,32 +2,39 @@
 // What each gives and leaves is defined in specs/Calls.antt.
 #![tactic(auto)]
 
-ghost use Rattle.std.specs.Prelude.{◌≡◌, List, [], ℕ, ◌≤◌, length};
-ghost use Rattle.words.specs.Choice.{◌or◌};
+ghost use Rattle.std.specs.Prelude.{◌≡◌, List, [], ℕ, ◌≤◌, length, MatchResult};
 ghost use Rattle.page.specs.Page.{Page, page_of};
 ghost use Rattle.steps.specs.Steps.{Valid, terminal_of};
-ghost use Rattle.terminal.specs.Runs.{count_of};
 ghost use Rattle.terminal.specs.Answers.{number_of, given, unchanged};
 ghost use Rattle.terminal.specs.Tests.{passes_line2, Passes};
-ghost use Rattle.terminal.specs.Calls.{StartAllows, HostAllows, KeyAllows};
+ghost use Rattle.terminal.specs.Calls.{host_call, key_call, StartAllows, HostAllows, KeyAllows};
 
 use page::Mark;
 use state::{Size, State};
 use steps::Light;
 
-// Each has a number, and a line of document 01's table: `number_of` and `gives` of specs/Answers.antt.
+// Each has a number, and a line of document 01's table: `number_of` and `gives` of specs/Answers.antt. (No Result, since
+// 3 comes with steps done.)
 #[derive(Clone, Copy)]
 pub enum Answer {
-    Done,
-    WrongSize,
-    WrongState,
-    NoRoom,
-    UnknownKey,
-    Locked,
-    TooLong,
-    NoCell,
-    NotTaken,
-    RequiredBlank,
+    Done = 0,
+    WrongSize = 1,
+    WrongState = 2,
+    NoRoom = 3,
+    UnknownKey = 4,
+    Locked = 5,
+    TooLong = 6,
+    NoCell = 7,
+    NotTaken = 8,
+    RequiredBlank = 9,
+}
+
+impl From<Answer> for u8 {
+    ghost from_gives = { λ answer number. number ≡ number_of answer };
+
+    fn from(answer: Answer) -> u8 {
+        answer as u8
+    }
 }
 
 #[derive(Clone, Copy)]
@@ -47,18 +54,7 @@ pub struct Reply {
 pub fn number_of(answer: Answer) -> u8
     ensures { result ≡ number_of answer }
 {
-    match answer {
-        Answer::Done => 0,
-        Answer::WrongSize => 1,
-        Answer::WrongState => 2,
-        Answer::NoRoom => 3,
-        Answer::UnknownKey => 4,
-        Answer::Locked => 5,
-        Answer::TooLong => 6,
-        Answer::NoCell => 7,
-        Answer::NotTaken => 8,
-        Answer::RequiredBlank => 9,
-    }
+    u8::from(answer)
 }
 
 // A call that changes nothing.
@@ -81,30 +77,7 @@ fn refuse_call(answer: Answer, state: State) -> Reply
 fn is_valid(state: State, characters: &[u8], marks: &[Mark]) -> bool
     ensures { result ≡ passes_line2 (terminal_of state characters.now marks.now) }
 {
-    if state.is_valid() {
-        return page::is_valid_page(characters, marks);
-    }
-    false
-}
-
-// One where a test holds.
-fn count_of(holds: bool) -> usize
-    ensures { result ≡ count_of holds }
-{
-    if holds {
-        return 1;
-    }
-    0
-}
-
-// At least one of two tests holds.
-fn either(one: bool, other: bool) -> bool
-    ensures { result ≡ (one or other) }
-{
-    if one {
-        return true;
-    }
-    other
+    state.is_valid() && page::is_valid_page(characters, marks)
 }
 
 // The steps of host bytes, stopping where a transmission exceeds the room left: text in runs, light events in place,
@@ -128,26 +101,22 @@ fn run(
     let mut stored = 0;
     let mut refused = 0;
     let mut protection = false;
+    // a while: a turn takes a byte or many
     while taken < bytes.len() {
         let half = here.half;
         if reading::takes_text(half, bytes[taken]) {
-            let nothing = sequence::NOTHING_READ;
-            here.half = nothing;
+            here.half = sequence::NOTHING_READ;
             let run = commands::text_run(here, characters, marks, bytes, taken);
-            let cursor = run.cursor;
-            here.cursor = cursor;
+            here.cursor = run.cursor;
             stored += run.end - taken;
             protection = true;
             taken = run.end;
         } else {
             let read = reading::read(half, bytes, taken);
-            let event = read.event;
-            let before = read.before;
-            let after = read.after;
-            if commands::is_light(here.size, here.cursor, event) {
-                here.half = after;
+            if commands::is_light(here.size, here.cursor, read.event) {
+                here.half = read.after;
                 taken = read.end;
-                let light = commands::light_step(here, before, event);
+                let light = commands::light_step(here, read.before, read.event);
                 match light {
                     Light::Cursor(cursor) => {
                         here.cursor = cursor;
@@ -161,10 +130,17 @@ fn run(
                     }
                 }
             } else {
-                let next = here.with_half(after); // a copy: handing over the loop's own took longer
-                let step = commands::heavy_step(next, before, characters, marks, out, sent, event);
-                if step.exceeds {
-                    here.half = before;
+                let next = here.with_half(read.after); // a copy: handing over the loop's own took longer
+                let Ok(step) = commands::heavy_step(
+                    next,
+                    read.before,
+                    characters,
+                    marks,
+                    out,
+                    sent,
+                    read.event,
+                ) else {
+                    here.half = read.before;
                     return Reply {
                         answer: Answer::NoRoom,
                         state: here,
@@ -174,13 +150,13 @@ fn run(
                         refused,
                         protection,
                     };
-                }
+                };
                 here = step.state;
                 taken = read.end;
                 sent += step.sent;
                 stored += step.stored;
-                refused += count_of(step.refused);
-                protection = either(protection, step.protection);
+                refused += usize::from(step.refused);
+                protection |= step.protection;
             }
         }
     }
@@ -208,18 +184,16 @@ fn press(
         (terminal_of state characters.old marks.old) key out.old
         result (page_of characters.new marks.new) out.new }
 {
-    let step = keys::step(state, characters, marks, out, key);
-    if step.exceeds {
+    let Ok(step) = keys::step(state, characters, marks, out, key) else {
         return refuse_call(Answer::NoRoom, state);
-    }
-    let after = step.state;
+    };
     Reply {
         answer: Answer::Done,
-        state: after,
+        state: step.state,
         taken: 0,
         sent: step.sent,
         stored: step.stored,
-        refused: count_of(step.refused),
+        refused: usize::from(step.refused),
         protection: step.protection,
     }
 }
@@ -247,6 +221,26 @@ pub fn start(rows: usize, columns: usize, characters: &mut [u8], marks: &mut [Ma
     }
 }
 
+// Lines 1, 2 and 6 let host bytes pass, or the first that does not gives its answer.
+fn allows_bytes(state: State, characters: &[u8], marks: &[Mark], bytes: &[u8]) -> Result<(), Answer>
+    ensures { MatchResult result
+        (λ _. (Valid (terminal_of state characters.now marks.now)) × (length bytes.now ≤ 65536))
+        (λ answer. (output : List ℕ) →
+        unchanged answer (terminal_of state characters.now marks.now) output
+        ≡ host_call (terminal_of state characters.now marks.now) bytes.now output) }
+{
+    if !state.size.fits(characters, marks) {
+        return Err(Answer::WrongSize);
+    }
+    if !is_valid(state, characters, marks) {
+        return Err(Answer::WrongState);
+    }
+    if 65536 < bytes.len() {
+        return Err(Answer::TooLong);
+    }
+    Ok(())
+}
+
 // Host bytes, at most 65,536. Transmissions are written from the output's start on.
 pub fn host(
     state: State,
@@ -259,16 +253,42 @@ pub fn host(
         (terminal_of state characters.old marks.old) bytes.now out.old
         result (page_of characters.new marks.new) out.new }
 {
+    match allows_bytes(state, characters, marks, bytes) {
+        Ok(()) => run(state, characters, marks, bytes, out),
+        Err(answer) => refuse_call(answer, state),
+    }
+}
+
+// Lines 1, 2, 4, 5, 7, 8 and 9 let a key pass, or the first that does not gives its answer.
+fn allows_key(state: State, characters: &[u8], marks: &[Mark], key: usize) -> Result<(), Answer>
+    ensures { MatchResult result
+        (λ _. Passes (terminal_of state characters.now marks.now) key)
+        (λ answer. (output : List ℕ) →
+        unchanged answer (terminal_of state characters.now marks.now) output
+        ≡ key_call (terminal_of state characters.now marks.now) key output) }
+{
     if !state.size.fits(characters, marks) {
-        return refuse_call(Answer::WrongSize, state);
+        return Err(Answer::WrongSize);
     }
     if !is_valid(state, characters, marks) {
-        return refuse_call(Answer::WrongState, state);
+        return Err(Answer::WrongState);
     }
-    if 65536 < bytes.len() {
-        return refuse_call(Answer::TooLong, state);
+    if !keys::is_known(key) {
+        return Err(Answer::UnknownKey);
     }
-    run(state, characters, marks, bytes, out)
+    if keys::is_locked_out(key, state) {
+        return Err(Answer::Locked);
+    }
+    if keys::lacks_cell(key, state, characters, marks) {
+        return Err(Answer::NoCell);
+    }
+    if keys::is_not_taken(key, state, characters, marks) {
+        return Err(Answer::NotTaken);
+    }
+    if keys::is_held_back(key, state, characters, marks) {
+        return Err(Answer::RequiredBlank);
+    }
+    Ok(())
 }
 
 // A key, by its number. Its transmission is written from the output's start on.
@@ -283,26 +303,8 @@ pub fn key(
         (terminal_of state characters.old marks.old) key out.old
         result (page_of characters.new marks.new) out.new }
 {
-    if !state.size.fits(characters, marks) {
-        return refuse_call(Answer::WrongSize, state);
+    match allows_key(state, characters, marks, key) {
+        Ok(()) => press(state, characters, marks, key, out),
+        Err(answer) => refuse_call(answer, state),
     }
-    if !is_valid(state, characters, marks) {
-        return refuse_call(Answer::WrongState, state);
-    }
-    if !keys::is_known(key) {
-        return refuse_call(Answer::UnknownKey, state);
-    }
-    if keys::is_locked_out(key, state) {
-        return refuse_call(Answer::Locked, state);
-    }
-    if keys::lacks_cell(key, state, characters, marks) {
-        return refuse_call(Answer::NoCell, state);
-    }
-    if keys::is_not_taken(key, state, characters, marks) {
-        return refuse_call(Answer::NotTaken, state);
-    }
-    if keys::is_held_back(key, state, characters, marks) {
-        return refuse_call(Answer::RequiredBlank, state);
-    }
-    press(state, characters, marks, key, out)
 }

@@ -6,24 +6,24 @@ use Rattle.commands.specs.Commands.{erase_part}
 use Rattle.steps.proofs.Measuring.{measured}
 use Rattle.commands.proofs.erase_part.Goals as goal
 
-pub place-place-requires : goal.place-place-requires
-place-place-requires c = (measured c.requires.valid).on_page
+pub place-cell-requires : goal.place-cell-requires
+place-cell-requires c = (measured c.requires.valid).on_page
 
 pub erase_cells-requires : goal.erase_cells-requires
 erase_cells-requires c =
     let known = measured c.requires.valid in
-    let here = cell_is _ _ c.place-place.ensures in
+    let here = cell_is _ _ c.place-cell.ensures in
     (omega arith, omega arith, known.as_many)
 
 pub overflow_add-cell : goal.overflow_add-cell
 overflow_add-cell c =
-    let here = cell_is _ _ c.place-place.ensures in
+    let here = cell_is _ _ c.place-cell.ensures in
     omega arith
 
 pub erase_cells-requires-in-1 : goal.erase_cells-requires-in-1
 erase_cells-requires-in-1 c =
     let known = measured c.requires.valid in
-    let here = cell_is _ _ c.place-place.ensures in
+    let here = cell_is _ _ c.place-cell.ensures in
     (omega arith, omega arith, known.as_many)
 
 pub erase_cells-requires-in-2 : goal.erase_cells-requires-in-2
@@ -34,12 +34,12 @@ erase_cells-requires-in-2 c =
 pub returns-in-0 : goal.returns-in-0
 unfolding erase_part If◌then◌else◌
 returns-in-0 c =
-    rw (c.erase_cells.ensures, cell_is _ _ c.place-place.ensures, c.in-0.is)
+    rw (c.erase_cells.ensures, cell_is _ _ c.place-cell.ensures, c.in-0.is)
 
 pub returns-in-1 : goal.returns-in-1
 unfolding erase_part If◌then◌else◌
 returns-in-1 c =
-    rw (c.erase_cells-in-1.ensures, cell_is _ _ c.place-place.ensures, c.in-1.is)
+    rw (c.erase_cells-in-1.ensures, cell_is _ _ c.place-cell.ensures, c.in-1.is)
 
 pub returns-in-2 : goal.returns-in-2
 unfolding erase_part If◌then◌else◌

@@ -1,7 +1,6 @@
-use mathlib.Core.Path.{refl, sym, ap, ◌∙◌}
-use Rattle.page.specs.Page.{page_of}
+use mathlib.Core.Path.{sym, ap, ◌∙◌}
+use mathlib.Core.Logic.{⊎_elim}
 use Rattle.words.proofs.Choosing.{true_is_not_false}
-use Rattle.steps.specs.Steps.{bytes_of}
 use Rattle.steps.proofs.Writing.{told_silent}
 use Rattle.commands.specs.Host.{event_step}
 use Rattle.commands.specs.Light.{is_light}
@@ -21,39 +20,31 @@ bracket_step-requires c = let told = c.in-BracketCommand.is in
     let final = c.requires.at_in_bounds.1 _ told in record { valid = c.requires.valid; at_in_bounds = (c.requires.at_in_bounds.0, final.0, final.1, c.requires.at_in_bounds.2, ap (is_light _ _) (sym told) ∙ c.requires.at_in_bounds.3) }
 
 -- What the called function tells of the event, where it sends nothing; else what it writes.
-pub returns-in-Nothing : goal.returns-in-Nothing
-unfolding event_step bytes_of
-returns-in-Nothing c =
-    rw c.in-Nothing.is
-    (told_silent _ _ _ _ _ _ (c.quiet.ensures (page_of c.args.characters.now c.args.marks.now)) refl)
-
 pub returns-in-Text : goal.returns-in-Text
 unfolding event_step
 returns-in-Text c =
-    rw c.in-Text.is
+    λ before. rw c.in-Text.is
     (told_silent _ _ _ _ _ _ c.text.ensures (text_silent _ _))
 
 pub returns-in-Control : goal.returns-in-Control
 unfolding event_step
 returns-in-Control c =
-    rw c.in-Control.is
+    λ before. rw c.in-Control.is
     (told_silent _ _ _ _ _ _ c.control.ensures (control_silent _ _))
 
 pub returns-in-EscCommand : goal.returns-in-EscCommand
 unfolding event_step
-returns-in-EscCommand c = rw c.in-EscCommand.is c.esc_step.ensures
+returns-in-EscCommand c = λ before. rw c.in-EscCommand.is (c.esc_step.ensures before)
 
 pub returns-in-BracketCommand : goal.returns-in-BracketCommand
 unfolding event_step
-returns-in-BracketCommand c = rw c.in-BracketCommand.is c.bracket_step.ensures
+returns-in-BracketCommand c = λ before. rw c.in-BracketCommand.is (c.bracket_step.ensures before)
 
--- A private command is light, and so is a refusal.
-pub returns-in-PrivateCommand : goal.returns-in-PrivateCommand
+-- What is left is light.
+pub unreachable-requires : goal.unreachable-requires
 unfolding is_light
-returns-in-PrivateCommand c =
-    absurd (true_is_not_false (ap (is_light _ _) (sym c.in-PrivateCommand.is) ∙ c.requires.at_in_bounds.3))
-
-pub returns-in-Refused : goal.returns-in-Refused
-unfolding is_light
-returns-in-Refused c =
-    absurd (true_is_not_false (ap (is_light _ _) (sym c.in-Refused.is) ∙ c.requires.at_in_bounds.3))
+unreachable-requires c =
+    let heavy = c.requires.at_in_bounds.3 in
+    ⊎_elim (λ e. true_is_not_false (ap (is_light _ _) (sym e) ∙ heavy))
+    (⊎_elim (λ e. true_is_not_false (ap (is_light _ _) (sym e.1) ∙ heavy)) (λ e. true_is_not_false (ap (is_light _ _) (sym e.2) ∙ heavy)))
+    c.in-Nothing.is

@@ -7,11 +7,11 @@ use Rattle.sending.proofs.ready_report.Goals as goal
 
 pub returns-then-out-at-lt4 : goal.returns-then-out-at-lt4
 unfolding ready_report bytes_of
-returns-then-out-at-lt4 c = λ page. (λ i. record { told = c.no_room.ensures page i; output = c.args.out.now }) ∙ sym (no_room _ _ _ _ c.if-out-at-lt4.true)
+returns-then-out-at-lt4 c = λ before page. sym (no_room _ _ _ _ c.if-out-at-lt4.true)
 
 pub returns : goal.returns
 unfolding ready_report bytes_of
 returns c =
-    λ page.
-    (λ i. record { told = told (c.did_send.ensures i) page; output = c.put_ready.ensures.left i })
+    λ before page.
+    (λ i. record { told = told (c.did_send.ensures i) page; output = c.put_all.ensures.left i })
     ∙ sym (with_room _ _ _ _ c.if-out-at-lt4.false)

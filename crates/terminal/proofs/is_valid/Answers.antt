@@ -7,6 +7,6 @@ pub returns-then-is_valid : goal.returns-then-is_valid
 unfolding passes_line2
 returns-then-is_valid c = c.is_valid_page.ensures ∙ sym (first_decides _ _ (sym c.is_valid.ensures ∙ c.if-is_valid.true))
 
-pub returns : goal.returns
+pub returns-else-is_valid : goal.returns-else-is_valid
 unfolding passes_line2
-returns c = sym (first_fails _ _ (sym c.is_valid.ensures ∙ c.if-is_valid.false))
+returns-else-is_valid c = rw c.if-is_valid.false (sym (first_fails _ _ (sym c.is_valid.ensures ∙ c.if-is_valid.false)))

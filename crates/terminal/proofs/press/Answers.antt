@@ -9,13 +9,13 @@ use Rattle.terminal.specs.declared.Answer.TheVariants.{Done, NoRoom}
 use Rattle.terminal.specs.Runs.{count_of}
 use Rattle.terminal.specs.Answers.{number_of, unchanged}
 use Rattle.terminal.proofs.Deciding.{key_no_room, key_done}
-use Rattle.terminal.proofs.Running.{was_done, exceeded}
+use Rattle.terminal.proofs.Running.{counted_one, was_done, exceeded}
 use Rattle.terminal.proofs.press.Goals as goal
 
-pub returns-then-step : goal.returns-then-step
-returns-then-step c =
+pub returns-in_default : goal.returns-in_default
+returns-in_default c =
     let t : Terminal = record { state = c.args.state; page = page_of c.args.characters.now c.args.marks.now } in
-    let full = exceeded 0 c.args.out.now t _ c.step-step.result _ _ c.step-step.ensures c.if-step.true in
+    let full = exceeded 0 c.args.out.now t _ _ _ c.step.result c.args.state c.step.ensures c.in_default.not-Ok in
     let exceeds : length c.args.out.now < length (bytes_of (key_step c.args.key t).transmission) = omega (arith, full.exceeds) in
     c.refuse_call.ensures _ _
     ∙ (λ i. unchanged NoRoom (record { state = c.args.state; page = full.same_page i }) (full.same_output i))
@@ -24,14 +24,14 @@ returns-then-step c =
 pub returns : goal.returns
 returns c =
     let t : Terminal = record { state = c.args.state; page = page_of c.args.characters.now c.args.marks.now } in
-    let was = was_done 0 c.args.out.now t (key_step c.args.key t) c.step-step.result _ _ c.step-step.ensures c.if-step.false in
+    let was = was_done 0 c.args.out.now t (key_step c.args.key t) _ _ c.in-Ok.step c.in-Ok.ensures in
     let fits : length (bytes_of (key_step c.args.key t).transmission) ≤ length c.args.out.now = omega (arith, was.fits) in
     (λ i. record {
       number = number_of Done;
       taken = 0;
       sent = was.sent i;
       stored = was.stored i;
-      refused = (c.count_of.ensures ∙ ap count_of was.refused) i;
+      refused = (c.from.ensures ∙ counted_one _ ∙ ap count_of was.refused) i;
       protection = was.protection i;
       terminal = was.terminal i;
       output = was.writes i;

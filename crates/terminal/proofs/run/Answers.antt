@@ -4,14 +4,14 @@ use native.Mathlib.Omega.{arith}
 use borrow.Author.Rules.{rules}
 use borrow.Author.Tests.{eqb-true}
 use Rattle.words.proofs.Choosing.{both}
-use Rattle.state.specs.State.{refused}
+use Rattle.state.specs.State.{with_half}
 use Rattle.state.proofs.Keeping.{parts, half_keeps_valid}
 use Rattle.sequence.proofs.Keeping.{nothing_valid}
 use Rattle.steps.specs.Light.{light_step}
 use Rattle.steps.proofs.Measuring.{measured}
 use Rattle.terminal.specs.Runs.{count_of}
 use Rattle.terminal.specs.Answers.{number_of}
-use Rattle.terminal.proofs.Running.{sets_out, ends_done}
+use Rattle.terminal.proofs.Running.{counted_one, joined, sets_out, ends_done}
 use Rattle.terminal.proofs.Onward.{goes_over_text, text_past, arrived_valid, arrived_final, arrived_count, arrived_past, arrived_inside, goes_lightly, goes_heavily, stops_full}
 use Rattle.terminal.proofs.run.Goals as goal
 
@@ -121,8 +121,8 @@ loop-taken-preserved-in-Refused c =
     (rw c.refuse-here.ensures (goes_lightly _ _ _ _ _ _ _ _ _ _ c.loop-taken.invariant.0 more _ read _ _ variant tells (c.loop-taken.refused + 1) refl), c.loop-taken.invariant.1, c.loop-taken.invariant.2, c.loop-taken.invariant.3)
 
 -- Any other event.
-pub heavy_step-step-requires : goal.heavy_step-step-requires
-heavy_step-step-requires c = let more = c.loop-taken-test.true in
+pub heavy_step-requires : goal.heavy_step-requires
+heavy_step-requires c = let more = c.loop-taken-test.true in
     let read = c.read-read.ensures in
     let going = c.loop-taken.invariant.0 in
     let next = c.with_half-next.ensures in record { valid = rw next (arrived_valid _ _ _ _ _ _ _ _ _ _ c.loop-taken.invariant.0 more _ read); at_in_bounds = (omega (arith, going.room, going.as_long), arrived_final _ _ _ _ _ _ _ _ _ _ c.loop-taken.invariant.0 more _ read, arrived_count _ _ _ _ _ _ _ _ _ _ c.loop-taken.invariant.0 more _ read, rw next (sym c.is_light.ensures ∙ c.if-is_light.false)) }
@@ -133,46 +133,37 @@ overflow_sub-result c =
     let read = c.read-read.ensures in
     omega (arith, arrived_past _ _ _ _ _ _ _ _ _ _ c.loop-taken.invariant.0 more _ read)
 
-pub shape_of-characters-then-step : goal.shape_of-characters-then-step
-shape_of-characters-then-step c = c.characters-else-is_light-1.given ∙ c.loop-taken.invariant.1
-
-pub shape_of-marks-then-step : goal.shape_of-marks-then-step
-shape_of-marks-then-step c = c.marks-else-is_light-1.given ∙ c.loop-taken.invariant.2
-
-pub shape_of-out-then-step : goal.shape_of-out-then-step
-shape_of-out-then-step c = c.out-1.given ∙ c.loop-taken.invariant.3
-
-pub returns-then-step : goal.returns-then-step
+pub returns-in_default : goal.returns-in_default
 unfolding number_of
-returns-then-step c =
+returns-in_default c =
     let more = c.loop-taken-test.true in
     let read = c.read-read.ensures in
-    let told = rw c.with_half-next.ensures at c.heavy_step-step.ensures in
-    stops_full _ _ _ _ _ _ _ _ _ _ c.loop-taken.invariant.0 more _ read c.heavy_step-step.result _ _ told c.requires.valid c.requires.bytes_len_bound c.if-step.true
+    let told = rw c.with_half-next.ensures at (c.heavy_step.ensures (with_half c.loop-taken.here c.read-read.result.before)) in
+    stops_full _ _ _ _ _ _ _ _ _ _ c.loop-taken.invariant.0 more _ read _ _ c.heavy_step.result _ told c.in_default.not-Ok c.requires.valid c.requires.bytes_len_bound
 
 pub overflow_add-sent : goal.overflow_add-sent
 overflow_add-sent c =
     let more = c.loop-taken-test.true in
     let read = c.read-read.ensures in
-    let told = rw c.with_half-next.ensures at c.heavy_step-step.ensures in
-    let on = goes_heavily _ _ _ _ _ _ _ _ _ _ c.loop-taken.invariant.0 more _ read c.heavy_step-step.result _ _ told c.if-step.false in
+    let told = rw c.with_half-next.ensures at (c.in-Ok.ensures (with_half c.loop-taken.here c.read-read.result.before)) in
+    let on = goes_heavily _ _ _ _ _ _ _ _ _ _ c.loop-taken.invariant.0 more _ read _ _ c.in-Ok.step told in
     omega (arith, on.room, c.well_formed)
 
 pub overflow_add-stored-else-is_light : goal.overflow_add-stored-else-is_light
 overflow_add-stored-else-is_light c =
     let more = c.loop-taken-test.true in
     let read = c.read-read.ensures in
-    let told = rw c.with_half-next.ensures at c.heavy_step-step.ensures in
-    let on = goes_heavily _ _ _ _ _ _ _ _ _ _ c.loop-taken.invariant.0 more _ read c.heavy_step-step.result _ _ told c.if-step.false in
+    let told = rw c.with_half-next.ensures at (c.in-Ok.ensures (with_half c.loop-taken.here c.read-read.result.before)) in
+    let on = goes_heavily _ _ _ _ _ _ _ _ _ _ c.loop-taken.invariant.0 more _ read _ _ c.in-Ok.step told in
     omega (arith, on.few, on.inside, c.requires.bytes_len_bound)
 
 pub overflow_add-refused-else-is_light : goal.overflow_add-refused-else-is_light
 overflow_add-refused-else-is_light c =
     let more = c.loop-taken-test.true in
     let read = c.read-read.ensures in
-    let told = rw c.with_half-next.ensures at c.heavy_step-step.ensures in
-    let on = goes_heavily _ _ _ _ _ _ _ _ _ _ c.loop-taken.invariant.0 more _ read c.heavy_step-step.result _ _ told c.if-step.false in
-    omega (arith, c.count_of-refused.ensures, on.few_refused, on.inside, c.requires.bytes_len_bound)
+    let told = rw c.with_half-next.ensures at (c.in-Ok.ensures (with_half c.loop-taken.here c.read-read.result.before)) in
+    let on = goes_heavily _ _ _ _ _ _ _ _ _ _ c.loop-taken.invariant.0 more _ read _ _ c.in-Ok.step told in
+    omega (arith, c.from-refused.ensures, counted_one c.in-Ok.step.refused, on.few_refused, on.inside, c.requires.bytes_len_bound)
 
 pub loop-taken-smaller : goal.loop-taken-smaller
 loop-taken-smaller c =
@@ -184,9 +175,9 @@ pub loop-taken-preserved : goal.loop-taken-preserved
 loop-taken-preserved c =
     let more = c.loop-taken-test.true in
     let read = c.read-read.ensures in
-    let told = rw c.with_half-next.ensures at c.heavy_step-step.ensures in
-    let on = goes_heavily _ _ _ _ _ _ _ _ _ _ c.loop-taken.invariant.0 more _ read c.heavy_step-step.result _ _ told c.if-step.false in
-    (rw (c.count_of-refused.ensures, c.either-protection.ensures) on, c.characters-else-is_light-1.given ∙ c.loop-taken.invariant.1, c.marks-else-is_light-1.given ∙ c.loop-taken.invariant.2, search rules)
+    let told = rw c.with_half-next.ensures at (c.in-Ok.ensures (with_half c.loop-taken.here c.read-read.result.before)) in
+    let on = goes_heavily _ _ _ _ _ _ _ _ _ _ c.loop-taken.invariant.0 more _ read _ _ c.in-Ok.step told in
+    (rw (c.from-refused.ensures, counted_one c.in-Ok.step.refused, joined c.loop-taken.protection c.in-Ok.step.protection) on, search rules, search rules, search rules)
 
 pub returns : goal.returns
 unfolding number_of

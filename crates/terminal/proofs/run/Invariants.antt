@@ -2,7 +2,6 @@ use mathlib.Core.Path.{◌≡◌}
 use Prim.Native.Nat.{◌-◌}
 use lib.ListN.{length}
 use Rattle.page.specs.Page.{page_of}
-use Rattle.state.specs.State.{refused}
 use Rattle.terminal.proofs.Running.{Going}
 use Rattle.terminal.proofs.run.Given as goal
 

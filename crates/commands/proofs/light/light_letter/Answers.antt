@@ -4,13 +4,13 @@ use Rattle.commands.specs.Commands.{esc_step}
 use Rattle.commands.proofs.Lightness.{light_letter_left}
 use Rattle.commands.proofs.light.light_letter.Goals as goal
 
-pub returns-then-letter-eq86 : goal.returns-then-letter-eq86
+pub returns-in-86 : goal.returns-in-86
 unfolding esc_step If◌then◌else◌
-returns-then-letter-eq86 c = λ page. rw c.if-letter-eq86.true (c.set_area.ensures page)
+returns-in-86 c = λ page. rw c.in-86.is (c.set_area.ensures page)
 
-pub returns : goal.returns
+pub returns-in_default : goal.returns-in_default
 unfolding esc_step If◌then◌else◌
-returns c =
+returns-in_default c =
     λ page.
-    let is-W : c.args.letter ≡ 0x57 = light_letter_left c.args.letter c.requires c.if-letter-eq86.false in
-    rw is-W (c.set_area-2.ensures page)
+    let is-W : c.args.letter ≡ 0x57 = light_letter_left c.args.letter c.requires c.in_default.in_default-own.rest.1 in
+    rw is-W (c.set_area-in_default.ensures page)

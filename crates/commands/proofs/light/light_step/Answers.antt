@@ -22,9 +22,10 @@ pub returns-in-Nothing : goal.returns-in-Nothing
 unfolding event_step light_step
 returns-in-Nothing c = λ page. rw (c.moves_to.ensures, c.in-Nothing.is)
 
-pub returns-in-Text : goal.returns-in-Text
+-- Text is not light.
+pub unreachable-requires : goal.unreachable-requires
 unfolding is_light
-returns-in-Text c = λ page. absurd (true_is_not_false (sym (ap (is_light _ _) (sym c.in-Text.is) ∙ c.requires.final_in_table.2)))
+unreachable-requires c = true_is_not_false (sym (ap (is_light _ _) (sym c.in-Text.is) ∙ c.requires.final_in_table.2))
 
 pub returns-in-Control : goal.returns-in-Control
 unfolding event_step light_step
