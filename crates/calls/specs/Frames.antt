@@ -1,6 +1,5 @@
--- The numbers in a frame, and what a call can be lent; see second/FORMATS.md, section "calls".
-use Rattle.std.specs.Prelude.{List, ℕ, ◌+◌, ◌*◌, ◌≤◌, get_or}
-use Rattle.calls.specs.declared.Held.{Held}
+-- The numbers in a frame; see second/FORMATS.md, section "calls".
+use Rattle.std.specs.Prelude.{List, ℕ, ◌+◌, ◌*◌, get_or}
 
 -- Two bytes from a place on, and four, the high byte first.
 abbrev pub two_at : List ℕ → ℕ → ℕ
@@ -8,9 +7,3 @@ two_at frame at = get_or frame at 0 * 256 + get_or frame (at + 1) 0
 
 abbrev pub four_at : List ℕ → ℕ → ℕ
 four_at frame at = two_at frame at * 65536 + two_at frame (at + 2)
-
--- No more than is kept: 8,192 characters, 8,192 marks and 65,536 bytes of output.
-pub record Lendable (held : Held) : Type 0 where
-  pub characters : held.characters ≤ 8192
-  pub marks : held.marks ≤ 8192
-  pub room : held.room ≤ 65536
