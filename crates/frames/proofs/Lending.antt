@@ -12,7 +12,7 @@ use Rattle.words.proofs.Output.{placed_before, wrote_none}
 use Rattle.frames.specs.declared.Held.{Held}
 use Rattle.page.specs.Page.{page_of}
 use Rattle.steps.specs.Steps.{Terminal}
-use Rattle.frames.specs.Sessions.{Session, no_session, session}
+use Rattle.frames.specs.Sessions.{session}
 use Rattle.frames.specs.Held.{kept, characters_of, marks_of, session_in, Lent, Enough}
 
 -- A front before the rest of a list is a front written over it.

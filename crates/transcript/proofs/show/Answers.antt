@@ -1,9 +1,8 @@
-use mathlib.Core.Path.{◌≡◌, sym, ◌∙◌}
+use mathlib.Core.Path.{◌≡◌, sym}
 use Prim.Native.Nat.{◌*◌}
 use native.Mathlib.Omega.{arith}
 use lib.ListN.{length, take}
 use borrow.Author.Rules.{rules}
-use lib.Seq.{length-take-le}
 use Rattle.frames.proofs.Lending.{wrote_inside}
 use Rattle.transcript.proofs.Showing.{cells_fit, page_length, five_digits, text_fits}
 use Rattle.transcript.proofs.show.Goals as goal

@@ -1,5 +1,3 @@
-use mathlib.Core.Path.{◌∙◌}
-use borrow.Author.Rules.{rules}
 use Rattle.frames.proofs.Reading.{byte_held, line_held}
 use Rattle.transcript.proofs.take_byte.Goals as goal
 
