@@ -3,7 +3,7 @@
 #![tactic(auto)]
 
 ghost use Rattle.std.specs.Prelude.{◌≡◌, ◌+◌, ◌<◌, ◌≤◌, length};
-ghost use Rattle.calls.specs.Frames.{two_at, four_at};
+ghost use Rattle.calls.specs.Frames.{two_at, four_at, Lendable};
 
 use frames::Printing;
 use page::Mark;
@@ -38,9 +38,7 @@ struct Lent {
     characters: usize,
     marks: usize,
     room: usize,
-    ghost characters_kept: { characters ≤ 8192 },
-    ghost marks_kept: { marks ≤ 8192 },
-    ghost room_kept: { room ≤ 65536 },
+    ghost lendable: { Lendable characters marks room },
 }
 
 // The state, and what is lent to a call.
