@@ -141,8 +141,8 @@ fn print_state<W: Write>(printing: &mut Printing<W>, state: State) {
     print_line(printing, &bytes);
 }
 
-// What a call gave and left; its state becomes the state. The bytes sent are cut to the output: what is tried here is not
-// relied on.
+// What a call gave and left; its state becomes the state. The bytes sent are cut to the output: what is tried here is
+// not relied on.
 fn print_call<W: Write>(
     printing: &mut Printing<W>,
     lent: Lent,

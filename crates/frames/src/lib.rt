@@ -55,7 +55,8 @@ fn kind_of(bytes: &[u8]) -> Option<Kind>
     }
 }
 
-// A byte of a line, which has so many already: how many it has then.
+// A byte of a line, which has so many already: how many it has then. The count is a number beside the line, as the
+// definitions `longer` and `line_in` have it: a struct of both would be no plainer.
 pub fn collect(line: &mut [u8], digits: usize, byte: u8) -> usize
     requires { length line.old ≡ 512 }
     ensures { (result ≡ longer digits) × (line.new ≡ set line.old digits byte) }
