@@ -1,6 +1,5 @@
 -- The numbers in a frame, and what a call can be lent; see second/FORMATS.md, section "calls".
 use Rattle.std.specs.Prelude.{List, ℕ, ◌+◌, ◌*◌, ◌≤◌, get_or}
-use Rattle.calls.specs.declared.Held.{Held}
 
 -- Two bytes from a place on, and four, the high byte first.
 abbrev pub two_at : List ℕ → ℕ → ℕ
@@ -10,7 +9,5 @@ abbrev pub four_at : List ℕ → ℕ → ℕ
 four_at frame at = two_at frame at * 65536 + two_at frame (at + 2)
 
 -- No more than is kept: 8,192 characters, 8,192 marks and 65,536 bytes of output.
-pub record Lendable (held : Held) : Type 0 where
-  pub characters : held.characters ≤ 8192
-  pub marks : held.marks ≤ 8192
-  pub room : held.room ≤ 65536
+abbrev pub Lendable : ℕ → ℕ → ℕ → Type 0
+Lendable characters marks room = (characters ≤ 8192) × (marks ≤ 8192) × (room ≤ 65536)

@@ -7,21 +7,13 @@ use page::Mark;
 use std::io;
 use terminal::Reply;
 
-fn print(rt: &impl Print, number: usize, after: u8) -> io::Result<()> {
-    rt.print(number)?;
-    rt.write_all(&[after])
-}
-
 fn tell(rt: &impl Print, bytes: usize, reply: Reply) -> io::Result<()> {
-    let state = reply.state;
-    let answer = reply.answer;
-    print(rt, bytes, b' ')?;
-    print(rt, terminal::number_of(answer) as usize, b' ')?;
-    print(rt, reply.taken, b' ')?;
-    print(rt, reply.sent, b' ')?;
-    print(rt, reply.stored, b' ')?;
-    print(rt, state.cursor.row, b' ')?;
-    print(rt, state.cursor.column, b'\n')
+    let number = terminal::number_of(reply.answer);
+    let cursor = reply.state.cursor;
+    println!(rt;
+        "{bytes} {number} {} {} {} {} {}",
+        reply.taken, reply.sent, reply.stored, cursor.row, cursor.column
+    )
 }
 
 fn main(rt: HostRuntime) -> io::Result<()> {
@@ -31,16 +23,14 @@ fn main(rt: HostRuntime) -> io::Result<()> {
     let bytes = [b'A'; 65537];
     let started = terminal::start(24, 80, &mut characters, &mut marks);
     tell(&rt, 0, started)?;
-    let state = started.state;
     let long = terminal::host(
-        state,
+        started.state,
         &mut characters,
         &mut marks,
         &bytes[..65536],
         &mut out,
     );
     tell(&rt, 65536, long)?;
-    let after = long.state;
-    let longer = terminal::host(after, &mut characters, &mut marks, &bytes, &mut out);
+    let longer = terminal::host(long.state, &mut characters, &mut marks, &bytes, &mut out);
     tell(&rt, 65537, longer)
 }

@@ -2,11 +2,13 @@
 use mathlib.Core.Path.{◌≡◌, refl, sym, ap, ◌∙◌}
 use mathlib.Core.Bool.{Bool, true, false}
 use mathlib.Core.List.{List, [], ◌∷◌, ◌++◌}
-use Prim.Native.Nat.{ℕ, ◌-◌, ◌%◌, ◌≤◌}
+use Prim.Native.Nat.{ℕ, ◌-◌, ◌/◌, ◌%◌, ◌≤◌}
 use native.Mathlib.Omega.{arith}
+use Rattle.std.specs.Int.{w64, to_be_bytes}
+use Rattle.std.proofs.Math.Nat.{div-div-eq-div-mul}
 use borrow.Author.Tests.{leb-true}
 use lib.Dec.{leb}
-use lib.ListN.{length, length-append, length-replicate}
+use lib.ListN.{length, get_or, length-append, length-replicate}
 use Rattle.words.specs.Choice.{If◌then◌else◌}
 use Rattle.words.specs.Output.{placed}
 use Rattle.words.proofs.Choosing.{either_line}
@@ -36,6 +38,20 @@ one_byte TooLong = refl
 one_byte NoCell = refl
 one_byte NotTaken = refl
 one_byte RequiredBlank = refl
+
+-- Of a number in eight bytes, the last one, and the last four.
+abbrev pub last_byte : List ℕ → ℕ
+last_byte bytes = get_or bytes 7 0
+
+abbrev pub last_four : List ℕ → List ℕ
+last_four bytes = get_or bytes 4 0 ∷ get_or bytes 5 0 ∷ get_or bytes 6 0 ∷ get_or bytes 7 0 ∷ []
+
+pub four_told : (number : ℕ) → last_four (to_be_bytes w64 number) ≡ high_first 4 number
+unfolding high_first
+four_told number =
+    let two : number / 65536 ≡ number / 256 / 256 = sym (div-div-eq-div-mul number 256 256) in
+    let three : number / 16777216 ≡ number / 256 / 256 / 256 = sym (ap (λ (n : ℕ). n / 256) (div-div-eq-div-mul number 256 256) ∙ div-div-eq-div-mul number 65536 256) in
+    λ i. three i % 256 ∷ two i % 256 ∷ number / 256 % 256 ∷ number % 256 ∷ []
 
 -- The same line is printed of outcomes that agree in what it tells.
 pub printed_same : (a b : Outcome) → a.number ≡ b.number → a.terminal.state ≡ b.terminal.state → a.stored ≡ b.stored → bytes_sent a ≡ bytes_sent b → printed a ≡ printed b

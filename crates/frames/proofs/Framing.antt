@@ -11,6 +11,9 @@ use lib.Seq.{get_or-drop}
 use Rattle.words.specs.Choice.{If◌then◌else◌, ◌and◌}
 use Rattle.words.proofs.Choosing.{else_case, first_fails, second_fails}
 use Rattle.words.proofs.Walking.{next_element}
+use Rattle.std.specs.Prelude.{Some, None}
+use Rattle.frames.specs.declared.Kind.TheVariants.{Start, Host, Key}
+use Rattle.frames.specs.Held.{kind_of}
 use Rattle.frames.specs.Frames.{start, host, key, no_frame, frame_in}
 
 -- A line of neither start nor key length, and no host frame.
@@ -69,3 +72,37 @@ too_many_bytes (first ∷ rest) many =
     let not-two = ne_eqb (length rest) 2 (λ two. omega (arith, many, two)) in
     let long = lt-leb (length rest) 255 (omega (arith, many)) in
     else_case _ _ _ (second_fails _ _ not-two) ∙ else_case _ _ _ (second_fails _ _ long) ∙ else_case _ _ _ (second_fails _ _ not-two)
+
+-- The kind of a line's bytes, as the code finds it.
+module _ (bytes : List ℕ) where
+  pub kind_start : length bytes ≡ 3 → get_or bytes 0 0 ≡ 0 → kind_of (frame_in bytes) ≡ Some (Start (get_or bytes 1 0) (get_or bytes 2 0))
+  unfolding kind_of
+  kind_start three first = ap kind_of (is_start bytes (omega arith) three first)
+
+  pub kind_key : length bytes ≡ 3 → get_or bytes 0 0 ≡ 2 → kind_of (frame_in bytes) ≡ Some (Key (get_or bytes 1 0 * 256 + get_or bytes 2 0))
+  unfolding kind_of
+  kind_key three first = ap kind_of (is_key bytes (omega arith) three first)
+
+  pub kind_host : 0 < length bytes → length bytes ≤ 256 → get_or bytes 0 0 ≡ 1 → kind_of (frame_in bytes) ≡ Some (Host (length bytes))
+  unfolding kind_of
+  kind_host some few first =
+      let count : length (drop 1 bytes) + 1 ≡ length bytes = omega (arith, length-drop 1 bytes) in
+      ap kind_of (is_host bytes some first few) ∙ ap (λ (n : ℕ). Some (Host n)) count
+
+  pub none_empty : length bytes ≡ 0 → kind_of (frame_in bytes) ≡ None
+  unfolding kind_of
+  none_empty none = ap kind_of (no_bytes bytes none)
+
+  pub none_long : 256 < length bytes → kind_of (frame_in bytes) ≡ None
+  unfolding kind_of
+  none_long long = ap kind_of (too_many_bytes bytes long)
+
+  pub none_of_length : 0 < length bytes → (get_or bytes 0 0 ≡ 1 → ⊥) → (length bytes ≡ 3 → ⊥) → kind_of (frame_in bytes) ≡ None
+  unfolding kind_of
+  none_of_length some other wrong = ap kind_of (wrong_length bytes some other wrong)
+
+  pub none_of_first : 0 < length bytes → (get_or bytes 0 0 ≡ 0 → ⊥) → (get_or bytes 0 0 ≡ 1 → ⊥) → (get_or bytes 0 0 ≡ 2 → ⊥) → kind_of (frame_in bytes) ≡ None
+  unfolding kind_of
+  none_of_first some no_start no-host no_key = ap kind_of (wrong_first bytes some no_start no-host no_key)
+
+pub ruleset kinds = (kind_start, kind_key, kind_host, none_empty, none_long, none_of_length, none_of_first)

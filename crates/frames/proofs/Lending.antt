@@ -1,19 +1,18 @@
 -- Laws of what stands in lent slices.
 use mathlib.Core.Path.{◌≡◌, refl, sym, ap, ◌∙◌}
-use mathlib.Core.Bool.{true, false}
+use Rattle.std.specs.Prelude.{Option, Some, None}
 use mathlib.Core.List.{List, [], ◌∷◌, ◌++◌, append-nil}
 use Prim.Native.Nat.{ℕ, zero, suc, ◌+◌, ◌-◌, ◌≤◌, min}
 use native.Mathlib.Omega.{arith}
 use lib.ListN.{length, take, drop, length-append, length-take, take-append-drop, drop_of_length-le}
 use lib.Seq.{take-nil, length-take-le, take_all}
 use Rattle.words.specs.Output.{placed, Wrote}
-use Rattle.words.specs.Choice.{If◌then◌else◌}
-use Rattle.words.proofs.Choosing.{then_case, else_case, either_line, either_way, less_or_not}
+use Rattle.words.proofs.Choosing.{less_or_not}
 use Rattle.words.proofs.Output.{placed_before, wrote_none}
 use Rattle.frames.specs.declared.Held.{Held}
 use Rattle.page.specs.Page.{page_of}
 use Rattle.steps.specs.Steps.{Terminal}
-use Rattle.frames.specs.Sessions.{Session, no_session, session}
+use Rattle.frames.specs.Sessions.{session}
 use Rattle.frames.specs.Held.{kept, characters_of, marks_of, session_in, Lent, Enough}
 
 -- A front before the rest of a list is a front written over it.
@@ -38,20 +37,15 @@ placed_own n list =
     let end : length list ≤ 0 + length (take n list) = omega (arith, ap (length {A = ℕ}) (take_all n list all)) in
     sym (rw (drop_of_length-le list end) (append-nil (take n list) ∙ take_all n list all)))
 
-module _ (held : Held) (characters marks : List ℕ) where
-  pub characters_stand : characters ≡ placed 0 (characters_of (session_in held characters marks)) characters
-  unfolding session_in characters_of
-  characters_stand =
-      either_line (λ (s : Session). characters ≡ placed 0 (characters_of s) characters) held.going _ _
-      (λ _. placed_own held.cells characters)
-      (λ _. (wrote_none 0 characters).left)
+pub characters_stand : (held : Option Held) (characters marks : List ℕ) → characters ≡ placed 0 (characters_of (session_in held characters marks)) characters
+unfolding session_in characters_of
+characters_stand None characters marks = (wrote_none 0 characters).left
+characters_stand (Some held) characters marks = placed_own held.cells characters
 
-  pub marks_stand : marks ≡ placed 0 (marks_of (session_in held characters marks)) marks
-  unfolding session_in marks_of
-  marks_stand =
-      either_line (λ (s : Session). marks ≡ placed 0 (marks_of s) marks) held.going _ _
-      (λ _. placed_own held.cells marks)
-      (λ _. (wrote_none 0 marks).left)
+pub marks_stand : (held : Option Held) (characters marks : List ℕ) → marks ≡ placed 0 (marks_of (session_in held characters marks)) marks
+unfolding session_in marks_of
+marks_stand None characters marks = (wrote_none 0 marks).left
+marks_stand (Some held) characters marks = placed_own held.cells marks
 
 -- The part of a line between two places, however far they lie.
 drop-take : (from n : ℕ) (list : List ℕ) → drop from (take (from + n) list) ≡ take n (drop from list)
@@ -83,7 +77,7 @@ wrote_inside {bytes} {before} wrote =
 
 -- A session that is held is the one that was kept, if its page has as many marks as characters.
 pub held_again : (t : Terminal) (characters marks : List ℕ) → length t.page.marks ≡ length t.page.characters → session_in (kept (session t)) (placed 0 t.page.characters characters) (placed 0 t.page.marks marks) ≡ session t
-unfolding session_in kept If◌then◌else◌
+unfolding session_in kept
 held_again t characters marks same =
     λ i. session (record { state = t.state; page = page_of (placed_before t.page.characters characters i) ((ap (λ (n : ℕ). take n (placed 0 t.page.marks marks)) (sym same) ∙ placed_before t.page.marks marks) i) })
 
@@ -98,22 +92,10 @@ module _ (held : Held) (characters marks : List ℕ) (same : length characters �
   still : session_in (kept (session here)) characters marks ≡ session here
   still = (λ i. session_in (kept (session here)) (placed_own held.cells characters i) (placed_own held.cells marks i)) ∙ held_again here characters marks as_many
 
-  none_still : session_in (kept no_session) characters marks ≡ no_session
-  unfolding session_in kept If◌then◌else◌
-  none_still = refl
-
-  pub held_still : session_in (kept (session_in held characters marks)) characters marks ≡ session_in held characters marks
-  unfolding session_in
-  held_still =
-      either_way held.going
-      (λ going. let is = is_session going in ap (λ (s : Session). session_in (kept s) characters marks) is ∙ still ∙ sym is)
-      (λ stopped. let is = is_none stopped in ap (λ (s : Session). session_in (kept s) characters marks) is ∙ none_still ∙ sym is)
-    where
-      is_session : held.going ≡ true → session_in held characters marks ≡ session here
-      is_session going = then_case _ _ _ going
-
-      is_none : held.going ≡ false → session_in held characters marks ≡ no_session
-      is_none stopped = else_case _ _ _ stopped
+pub held_still : (held : Option Held) (characters marks : List ℕ) → length characters ≡ length marks → session_in (kept (session_in held characters marks)) characters marks ≡ session_in held characters marks
+unfolding session_in kept
+held_still None characters marks same = refl
+held_still (Some held) characters marks same = still held characters marks same
 
 -- Lent slices that stay as long as they were are still enough.
 pub still_enough : {before after : Lent} → Enough before → length after.characters ≡ length before.characters → length after.marks ≡ length before.marks → length after.out ≡ length before.out → length after.text ≡ length before.text → Enough after

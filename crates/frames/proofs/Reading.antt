@@ -1,6 +1,6 @@
 -- Laws of reading byte by byte: what the code holds after each byte is what has then been read.
 use mathlib.Core.Path.{◌≡◌, refl, ◌∙◌}
-use mathlib.Core.Bool.{false}
+use Rattle.std.specs.Prelude.{Option, None}
 use mathlib.Core.List.{List, [], ◌∷◌, ◌++◌}
 use Prim.Native.Nat.{ℕ, ◌+◌, ◌<◌}
 use native.Mathlib.Numerals.{add-one}
@@ -13,7 +13,7 @@ use Rattle.frames.specs.Sessions.{frame_done, line_done}
 use Rattle.frames.specs.Transcript.{SoFar, none_so_far, line_ended, after_byte, after_bytes}
 use Rattle.frames.specs.Held.{longer, line_in, session_in, Holds}
 use Rattle.frames.proofs.Lines.{none_collected, more_collected, frame_found}
-use Rattle.frames.proofs.Answering.{no_session_in}
+use Rattle.frames.proofs.Answering.{none_in}
 use Rattle.frames.proofs.Running.{after_same}
 
 -- Bytes read one part after another.
@@ -26,10 +26,10 @@ pub next_byte : (bytes : List ℕ) (i : ℕ) (read : SoFar) → i < length bytes
 unfolding after_bytes
 next_byte bytes i read inside = rw (add-one, take-suc bytes i 0 inside) (read_in_parts (take i bytes) (get_or bytes i 0 ∷ []) read)
 
-pub nothing_held : (held : Held) (line characters marks : List ℕ) → held.going ≡ false → length line ≡ 512 → Holds none_so_far held 0 line characters marks
-nothing_held held line characters marks none room = record { collected = none_collected line room; going = no_session_in held characters marks none }
+pub nothing_held : (line characters marks : List ℕ) → length line ≡ 512 → Holds none_so_far None 0 line characters marks
+nothing_held line characters marks room = record { collected = none_collected line room; going = none_in characters marks refl }
 
-module _ {read : SoFar} {held : Held} {digits : ℕ} {line characters marks : List ℕ} (holds : Holds read held digits line characters marks) where
+module _ {read : SoFar} {held : Option Held} {digits : ℕ} {line characters marks : List ℕ} (holds : Holds read held digits line characters marks) where
   pub byte_held : (byte : ℕ) → (byte ≡ 0x0A → ⊥) → Holds (after_byte byte read) held (longer digits) (set line digits byte) characters marks
   unfolding after_byte If◌then◌else◌
   byte_held byte other = rw (ne_eqb byte 0x0A other) (record { collected = more_collected byte holds.collected; going = holds.going })
@@ -38,6 +38,6 @@ module _ {read : SoFar} {held : Held} {digits : ℕ} {line characters marks : Li
   unfolding line_done
   same_line = λ i. frame_done 256 (frame_found holds.collected i) (holds.going i)
 
-  pub line_held : {byte : ℕ} {left : Held} {buffer characters' marks' : List ℕ} → byte ≡ 0x0A → length buffer ≡ 512 → session_in left characters' marks' ≡ (line_done (line_in line digits) (session_in held characters marks)).after → Holds (after_byte byte read) left 0 buffer characters' marks'
+  pub line_held : {byte : ℕ} {left : Option Held} {buffer characters' marks' : List ℕ} → byte ≡ 0x0A → length buffer ≡ 512 → session_in left characters' marks' ≡ (line_done (line_in line digits) (session_in held characters marks)).after → Holds (after_byte byte read) left 0 buffer characters' marks'
   unfolding after_byte line_ended If◌then◌else◌
   line_held {byte} {left} {buffer} end room done = rw end (record { collected = none_collected buffer room; going = done ∙ after_same same_line })

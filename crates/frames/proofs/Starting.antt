@@ -1,6 +1,10 @@
 -- Laws of start calls: what the lent cells held makes no difference.
 use mathlib.Core.Path.{◌≡◌, refl, sym, ap, ◌∙◌, subst}
 use mathlib.Core.Bool.{true, false}
+use lib.Dec.{eqb}
+use Rattle.std.specs.Bool.{then_some}
+use Rattle.std.specs.Prelude.{Option, Some, None}
+use Rattle.frames.specs.declared.Held.{Held}
 use mathlib.Core.List.{List, [], ◌++◌}
 use Prim.Native.Nat.{ℕ, ◌*◌, ◌≤◌, min}
 use native.Mathlib.Nat.{mul-le-mul_right}
@@ -14,8 +18,7 @@ use Rattle.words.proofs.Choosing.{either_way, both_hold, first_fails}
 use Rattle.words.proofs.Output.{wrote_none}
 use Rattle.page.specs.Page.{Page, page_of}
 use Rattle.state.specs.declared.Size.{Size}
-use Rattle.state.specs.declared.State.{State}
-use Rattle.state.specs.State.{fresh_state, zero_state}
+use Rattle.state.specs.State.{fresh_state}
 use Rattle.state.specs.Tests.{listed_size, size_fits}
 use Rattle.state.proofs.Keeping.{size_bounds}
 use Rattle.commands.proofs.Laws.{erased_is_fresh}
@@ -30,7 +33,7 @@ use Rattle.frames.specs.Sessions.{Session, session, lent_page, started, call_of}
 use Rattle.frames.specs.Held.{kept, characters_of, marks_of, session_in, Lent, lent, Enough, CallDone}
 use Rattle.frames.proofs.Lending.{placed_front, held_again}
 use Rattle.frames.proofs.Calling.{printed_same}
-use Rattle.frames.proofs.Answering.{no_session_in, did_as}
+use Rattle.frames.proofs.Answering.{none_in, did_as}
 
 -- Lent pages that are R x C long where the size is listed: the size alone decides.
 pub record Sizes (size : Size) (page : Page) : Type 0 where
@@ -124,7 +127,7 @@ module _ (rows columns cells from end : ℕ) (before : Lent) (enough : Enough be
       (printed_same (given reply (page_of [] []) before.out) one number state stored (ap (λ (n : ℕ). take n before.out) sent ∙ sym none))
       (wrote (page_of [] []))
 
-  good_did : listed_size size ≡ true → CallDone (started (fresh size)) from before (record { held = record { going = true; cells = cells; state = reply.state }; end = end; from = from; more = false }) whole
+  good_did : listed_size size ≡ true → CallDone (started (fresh size)) from before (record { held = Some (record { cells = cells; state = reply.state }); end = end; rest = None }) whole
   unfolding started kept characters_of marks_of If◌then◌else◌
   good_did listed =
       let told = is ∙ good_start size _ sizes listed in
@@ -134,8 +137,8 @@ module _ (rows columns cells from end : ℕ) (before : Lent) (enough : Enough be
       let marks-are = ap (λ (o : Outcome). o.terminal.page.marks) told in
       let long : length {A = ℕ} (replicate (rows * columns) 0x20) ≡ rows * columns = length-replicate (rows * columns) 0x20 in
       let marks-long : length {A = ℕ} (replicate (rows * columns) 0) ≡ rows * columns = length-replicate (rows * columns) 0 in
-      let held : record { going = true; cells = cells; state = reply.state } ≡ kept (session (fresh size).terminal) =
-      λ i. record { going = true; cells = (all ∙ sym long) i; state = ap (λ (o : Outcome). o.terminal.state) told i } in
+      let held : Some (record { cells = cells; state = reply.state }) ≡ kept (session (fresh size).terminal) =
+      λ i. Some (record { cells = (all ∙ sym long) i; state = ap (λ (o : Outcome). o.terminal.state) told i }) in
       let all-characters = placed_front characters before.characters cells (ap (length {A = ℕ}) characters-are ∙ long ∙ sym all) ∙ ap (λ (l : List ℕ). placed 0 l before.characters) characters-are in
       let all-marks = placed_front marks before.marks cells (ap (length {A = ℕ}) marks-are ∙ marks-long ∙ sym all) ∙ ap (λ (l : List ℕ). placed 0 l before.marks) marks-are in
       record {
@@ -144,26 +147,24 @@ module _ (rows columns cells from end : ℕ) (before : Lent) (enough : Enough be
         marks = all-marks;
         out = (wrote_none 0 before.out).left;
         text = line_of (fresh size) (ap (λ (o : Outcome). o.number) told) (ap (λ (o : Outcome). o.terminal.state) told) (ap (λ (o : Outcome). o.stored) told) (ap (λ (o : Outcome). o.sent) told) refl;
-        from_on = omega arith;
-        more = refl;
+        rest = refl;
         going = (λ i. session_in (held i) (all-characters i) (all-marks i)) ∙ held_again (fresh size).terminal before.characters before.marks (marks-long ∙ sym long);
       }
 
-  refused_did : listed_size size ≡ false → (zero : State) → zero ≡ zero_state → CallDone (started (unchanged WrongSize (unstarted (lent_page rows columns)) [])) from before (record { held = record { going = false; cells = 0; state = zero }; end = end; from = from; more = false }) whole
+  refused_did : listed_size size ≡ false → CallDone (started (unchanged WrongSize (unstarted (lent_page rows columns)) [])) from before (record { held = None; end = end; rest = None }) whole
   unfolding started kept characters_of marks_of If◌then◌else◌ unchanged number_of
-  refused_did unlisted zero is_zero =
+  refused_did unlisted =
       let told = is ∙ refused_start size _ sizes unlisted in
       let characters-are = ap (λ (o : Outcome). o.terminal.page.characters) told in
       let marks-are = ap (λ (o : Outcome). o.terminal.page.marks) told in
       record {
-        held = λ i. record { going = false; cells = 0; state = is_zero i };
+        held = refl;
         characters = ap (λ (l : List ℕ). l ++ drop cells before.characters) characters-are ∙ take-append-drop cells before.characters ∙ (wrote_none 0 before.characters).left;
         marks = ap (λ (l : List ℕ). l ++ drop cells before.marks) marks-are ∙ take-append-drop cells before.marks ∙ (wrote_none 0 before.marks).left;
         out = (wrote_none 0 before.out).left;
         text = line_of (unchanged WrongSize (unstarted (lent_page rows columns)) []) (ap (λ (o : Outcome). o.number) told) (ap (λ (o : Outcome). o.terminal.state) told) (ap (λ (o : Outcome). o.stored) told) (ap (λ (o : Outcome). o.sent) told) refl;
-        from_on = omega arith;
-        more = refl;
-        going = no_session_in _ _ _ refl;
+        rest = refl;
+        going = none_in _ _ refl;
       }
 
   good_number : listed_size size ≡ true → number_of reply.answer ≡ 0
@@ -173,16 +174,10 @@ module _ (rows columns cells from end : ℕ) (before : Lent) (enough : Enough be
   unfolding unchanged number_of
   refused_number unlisted = ap (λ (o : Outcome). o.number) (is ∙ refused_start size _ sizes unlisted)
 
-  pub started_well : number_of reply.answer ≡ 0 → CallDone (call_of (start rows columns) s) from before (record { held = record { going = true; cells = cells; state = reply.state }; end = end; from = from; more = false }) whole
+  pub start_did : {held : Option Held} → held ≡ then_some (eqb (number_of reply.answer) 0) (record { cells = cells; state = reply.state }) → CallDone (call_of (start rows columns) s) from before (record { held = held; end = end; rest = None }) whole
   unfolding call_of
-  started_well good =
-      either_way (listed_size size)
-      (λ listed. did_as (ap started (good_start size (lent_page rows columns) (lent_sizes rows columns) listed)) (good_did listed))
-      (λ unlisted. absurd (omega (arith, good, refused_number unlisted)))
-
-  pub started_badly : (number_of reply.answer ≡ 0 → ⊥) → (zero : State) → zero ≡ zero_state → CallDone (call_of (start rows columns) s) from before (record { held = record { going = false; cells = 0; state = zero }; end = end; from = from; more = false }) whole
-  unfolding call_of
-  started_badly bad zero is_zero =
-      either_way (listed_size size)
-      (λ listed. absurd (bad (good_number listed)))
-      (λ unlisted. did_as (ap started (refused_start size (lent_page rows columns) (lent_sizes rows columns) unlisted)) (refused_did unlisted zero is_zero))
+  start_did held_is =
+      rw held_is
+      (either_way (listed_size size)
+      (λ listed. rw (good_number listed) (did_as (ap started (good_start size (lent_page rows columns) (lent_sizes rows columns) listed)) (good_did listed)))
+      (λ unlisted. rw (refused_number unlisted) (did_as (ap started (refused_start size (lent_page rows columns) (lent_sizes rows columns) unlisted)) (refused_did unlisted))))

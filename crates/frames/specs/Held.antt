@@ -1,11 +1,10 @@
 -- How the code holds a line, its frame and the session.
-use Rattle.std.specs.Prelude.{◌≡◌, true, false, List, [], ℕ, ◌+◌, ◌≤◌, min, leb, ltb, length, take, drop}
+use Rattle.std.specs.Prelude.{◌≡◌, Option, Some, None, List, [], ℕ, ◌+◌, ◌≤◌, min, leb, ltb, length, take, drop}
 use Rattle.words.specs.Choice.{If◌then◌else◌}
 use Rattle.words.specs.Output.{placed, Wrote}
 use Rattle.page.specs.Page.{page_of}
-use Rattle.state.specs.State.{zero_state}
 use Rattle.frames.specs.declared.Kind.{Kind}
-use Rattle.frames.specs.declared.Kind.TheVariants.{Start, Host, Key, Other}
+use Rattle.frames.specs.declared.Kind.TheVariants.{Start, Host, Key}
 use Rattle.frames.specs.declared.Held.{Held}
 use Rattle.frames.specs.declared.Printed.{Printed}
 use Rattle.frames.specs.Frames.{Frame, start, host, key, no_frame}
@@ -31,22 +30,22 @@ pub record Collected (line buffer : List ℕ) (digits : ℕ) : Type 0 where
   pub stands : length line ≤ 512 → take digits buffer ≡ line
 
 -- A frame's kind, and back. Host bytes stand in the line from place 1 to before `to`; those before `from` were taken.
-unfoldable pub kind_of : Frame → Kind
-kind_of (start rows columns) = Start rows columns
-kind_of (host bytes) = Host (length bytes + 1)
-kind_of (key number) = Key number
-kind_of no_frame = Other
+unfoldable pub kind_of : Frame → Option Kind
+kind_of (start rows columns) = Some (Start rows columns)
+kind_of (host bytes) = Some (Host (length bytes + 1))
+kind_of (key number) = Some (Key number)
+kind_of no_frame = None
 
-unfoldable pub frame_at : Kind → List ℕ → ℕ → Frame
-frame_at (Start rows columns) line from = start rows columns
-frame_at (Host to) line from = host (drop from (take to line))
-frame_at (Key number) line from = key number
-frame_at Other line from = no_frame
+unfoldable pub frame_at : Option Kind → List ℕ → ℕ → Frame
+frame_at (Some (Start rows columns)) line from = start rows columns
+frame_at (Some (Host to)) line from = host (drop from (take to line))
+frame_at (Some (Key number)) line from = key number
+frame_at None line from = no_frame
 
 -- A session's state and number of cells, and its page, which stands first in the two lent slices.
-unfoldable pub kept : Session → Held
-kept no_session = record { going = false; cells = 0; state = zero_state }
-kept (session t) = record { going = true; cells = length t.page.characters; state = t.state }
+unfoldable pub kept : Session → Option Held
+kept no_session = None
+kept (session t) = Some (record { cells = length t.page.characters; state = t.state })
 
 unfoldable pub characters_of : Session → List ℕ
 characters_of no_session = []
@@ -56,14 +55,13 @@ unfoldable pub marks_of : Session → List ℕ
 marks_of no_session = []
 marks_of (session t) = t.page.marks
 
-unfoldable pub session_in : Held → List ℕ → List ℕ → Session
-session_in held characters marks =
-    let page = page_of (take held.cells characters) (take held.cells marks) in
-    If held.going then session (record { state = held.state; page = page })
-    else no_session
+unfoldable pub session_in : Option Held → List ℕ → List ℕ → Session
+session_in None characters marks = no_session
+session_in (Some held) characters marks =
+    session (record { state = held.state; page = page_of (take held.cells characters) (take held.cells marks) })
 
 -- The code holds what has been read: the line so far and the session.
-pub record Holds (read : SoFar) (held : Held) (digits : ℕ) (line characters marks : List ℕ) : Type 0 where
+pub record Holds (read : SoFar) (held : Option Held) (digits : ℕ) (line characters marks : List ℕ) : Type 0 where
   pub collected : Collected read.line line digits
   pub going : session_in held characters marks ≡ read.session
 
@@ -92,11 +90,10 @@ pub record CallDone (call : FrameCall) (from : ℕ) (before : Lent) (r : Printed
   pub marks : after.marks ≡ placed 0 (marks_of call.after) before.marks
   pub out : after.out ≡ placed 0 call.bytes_sent before.out
   pub text : Wrote 0 call.text before.text r.end after.text
-  pub from_on : r.from ≡ from + call.taken
-  pub more : r.more ≡ call.more
+  pub rest : r.rest ≡ (If call.more then Some (from + call.taken) else None)
   pub going : session_in r.held after.characters after.marks ≡ call.after
 
 -- The code made the call of a frame on the session that it held.
-abbrev pub CallMade : Frame → Held → ℕ → Lent → Printed → Lent → Type 0
+abbrev pub CallMade : Frame → Option Held → ℕ → Lent → Printed → Lent → Type 0
 CallMade frame held from before r after =
     CallDone (call_of frame (session_in held before.characters before.marks)) from before r after

@@ -2,7 +2,7 @@
 // specs/.
 #![tactic(auto)]
 
-ghost use Rattle.std.specs.Prelude.{◌≡◌, List, ◌++◌, ℕ, ◌+◌, ◌*◌, ◌%◌, ◌<◌, ◌≤◌, min, length, take, drop, set};
+ghost use Rattle.std.specs.Prelude.{◌≡◌, List, ◌++◌, ℕ, ◌+◌, ◌*◌, ◌<◌, ◌≤◌, length, take, drop, set, IfSome};
 ghost use Rattle.words.specs.Output.{Wrote, placed};
 ghost use Rattle.page.specs.Page.{Page};
 ghost use Rattle.terminal.specs.Answers.{given};
@@ -13,23 +13,24 @@ ghost use Rattle.frames.specs.Sessions.{Session, call_of, uncalled};
 ghost use Rattle.frames.specs.Held.{longer, line_in, kind_of, frame_at, kept, session_in};
 ghost use Rattle.frames.specs.Held.{lent, Enough, CallDone, CallMade};
 
+mod printing;
+
 use page::Mark;
+pub use printing::Printing;
 use state::State;
 use terminal::Reply;
 
-// What a line says. The host bytes stand in the line from place 1 to before the place named.
+// What a line that is a frame says. The host bytes stand in the line from place 1 to before the place named.
 #[derive(Clone, Copy)]
 pub enum Kind {
     Start(u8, u8),
     Host(usize),
     Key(u16),
-    Other,
 }
 
-// The session, beside the two lent slices that its page stands first in.
+// A session that goes on, beside the two lent slices that its page stands first in.
 #[derive(Clone, Copy)]
 pub struct Held {
-    pub going: bool,
     pub cells: usize,
     pub state: State,
 }
@@ -37,53 +38,25 @@ pub struct Held {
 // After a call: the session, where the line printed ends, and the place in the line to carry on from, if there is more.
 #[derive(Clone, Copy)]
 pub struct Printed {
-    pub held: Held,
+    pub held: Option<Held>,
     pub end: usize,
-    pub from: usize,
-    pub more: bool,
+    pub rest: Option<usize>,
 }
 
-fn least(a: usize, b: usize) -> usize
-    ensures { result ≡ min a b }
-{
-    if a < b {
-        return a;
-    }
-    b
-}
-
-fn key_number(high: u8, low: u8) -> u16
-    ensures { result ≡ high * 256 + low }
-{
-    high as u16 * 256 + low as u16
-}
-
-fn kind_of(bytes: &[u8]) -> Kind
+#[tactic(auto, using(crate::proofs::Framing::kinds))]
+fn kind_of(bytes: &[u8]) -> Option<Kind>
     ensures { result ≡ kind_of (frame_in bytes.now) }
 {
-    let count = bytes.len();
-    if count == 0 {
-        return Kind::Other;
+    match bytes {
+        [0, rows, columns] => Some(Kind::Start(*rows, *columns)),
+        [1, ..] if bytes.len() <= 256 => Some(Kind::Host(bytes.len())),
+        [2, high, low] => Some(Kind::Key(u16::from_be_bytes([*high, *low]))),
+        _ => None,
     }
-    if bytes[0] == 1 {
-        if count <= 256 {
-            return Kind::Host(count);
-        }
-        return Kind::Other;
-    }
-    if count != 3 {
-        return Kind::Other;
-    }
-    if bytes[0] == 0 {
-        return Kind::Start(bytes[1], bytes[2]);
-    }
-    if bytes[0] == 2 {
-        return Kind::Key(key_number(bytes[1], bytes[2]));
-    }
-    Kind::Other
 }
 
-// A byte of a line, which has so many already: how many it has then.
+// A byte of a line, which has so many already: how many it has then. The count is a number beside the line, as the
+// definitions `longer` and `line_in` have it: a struct of both would be no plainer.
 pub fn collect(line: &mut [u8], digits: usize, byte: u8) -> usize
     requires { length line.old ≡ 512 }
     ensures { (result ≡ longer digits) × (line.new ≡ set line.old digits byte) }
@@ -111,7 +84,7 @@ pub fn bytes(line: &mut [u8], digits: usize) -> usize
 }
 
 // The frame that a finished line says; its bytes are left in the place of their digits.
-pub fn frame(line: &mut [u8], digits: usize) -> Kind
+pub fn frame(line: &mut [u8], digits: usize) -> Option<Kind>
     requires { length line.old ≡ 512 }
     ensures { (result ≡ kind_of (frame_of (line_in line.old digits)))
         × (line.new ≡ placed 0 (bytes_in (line_in line.old digits)) line.old) }
@@ -131,31 +104,26 @@ fn put_line(text: &mut [u8], head: &[u8], sent: &[u8]) -> usize
     output::put_byte(text, end, b'\n')
 }
 
-fn low_byte(number: usize) -> u8
-    ensures { result ≡ number % 256 }
-{
-    (number % 256) as u8
-}
-
 // The line of a call that was answered so.
 fn print(text: &mut [u8], reply: Reply, out: &[u8]) -> usize
     requires { (reply.sent ≤ length out.now) × (reply.sent ≤ 65536) × (131087 ≤ length text.old) }
     ensures { (page : Page) → Wrote 0 (printed (given reply page out.now))
         text.old result text.new }
 {
-    let answer = reply.answer;
-    let stored = reply.stored;
-    let sent = reply.sent;
+    let cursor = reply.state.cursor;
+    let [.., row] = cursor.row.to_be_bytes();
+    let [.., column] = cursor.column.to_be_bytes();
+    let [.., first, second, third, last] = reply.stored.to_be_bytes();
     let head = [
-        terminal::number_of(answer),
-        low_byte(reply.state.cursor.row),
-        low_byte(reply.state.cursor.column),
-        low_byte(stored / 256 / 256 / 256),
-        low_byte(stored / 256 / 256),
-        low_byte(stored / 256),
-        low_byte(stored),
+        terminal::number_of(reply.answer),
+        row,
+        column,
+        first,
+        second,
+        third,
+        last,
     ];
-    put_line(text, &head, &out[..sent])
+    put_line(text, &head, &out[..reply.sent])
 }
 
 // FF, where there is no call.
@@ -163,36 +131,26 @@ fn print_refusal(text: &mut [u8]) -> usize
     requires { 131087 ≤ length text.old }
     ensures { Wrote 0 refusal text.old result text.new }
 {
-    let head = [0xFF];
-    let end = numerals::put_hex(text, 0, &head);
+    let end = numerals::put_hex(text, 0, &[0xFF]);
     output::put_byte(text, end, b'\n')
 }
 
 // The session in its own form: one that goes on has no more cells than the largest page.
-fn settled(held: Held) -> Held
+fn settled(held: Option<Held>) -> Option<Held>
     ensures { (characters marks : List ℕ) → length characters ≡ 7680 →
         result ≡ kept (session_in held characters marks) }
 {
-    if !held.going {
-        return Held {
-            going: false,
-            cells: 0,
-            state: State::zero(),
-        };
-    }
-    let cells = least(held.cells, 7680);
-    let state = held.state;
-    Held {
-        going: true,
-        cells,
+    let Held { cells, state } = held?;
+    Some(Held {
+        cells: cells.min(7680),
         state,
-    }
+    })
 }
 
 // No call is made, and the session stays.
-fn no_call(held: Held, from: usize, text: &mut [u8]) -> Printed
+fn no_call(held: Option<Held>, text: &mut [u8]) -> Printed
     requires { 131087 ≤ length text.old }
-    ensures { (characters marks out : List ℕ) → length characters ≡ 7680 → length marks ≡ 7680 →
+    ensures { (characters marks out : List ℕ) → (from : ℕ) → length characters ≡ 7680 → length marks ≡ 7680 →
         CallDone (uncalled (session_in held characters marks)) from
         (lent characters marks out text.old)
         result (lent characters marks out text.new) }
@@ -201,62 +159,40 @@ fn no_call(held: Held, from: usize, text: &mut [u8]) -> Printed
     Printed {
         held: settled(held),
         end,
-        from,
-        more: false,
+        rest: None,
     }
 }
 
 fn start_call(
     rows: u8,
     columns: u8,
-    from: usize,
     characters: &mut [u8],
     marks: &mut [Mark],
     out: &[u8],
     text: &mut [u8],
 ) -> Printed
     requires { Enough (lent characters.old marks.old out.now text.old) }
-    ensures { (before : Session) → CallDone (call_of (start rows columns) before) from
+    ensures { (before : Session) → (from : ℕ) → CallDone (call_of (start rows columns) before) from
         (lent characters.old marks.old out.now text.old)
         result (lent characters.new marks.new out.now text.new) }
 {
-    let cells = least(rows as usize * columns as usize, 7680);
-    let reply = terminal::start(
-        rows as usize,
-        columns as usize,
-        &mut characters[..cells],
-        &mut marks[..cells],
-    );
+    let rows = usize::from(rows);
+    let columns = usize::from(columns);
+    let cells = (rows * columns).min(7680);
+    let reply = terminal::start(rows, columns, &mut characters[..cells], &mut marks[..cells]);
     let end = print(text, reply, out);
-    let answer = reply.answer;
-    if terminal::number_of(answer) != 0 {
-        return Printed {
-            held: Held {
-                going: false,
-                cells: 0,
-                state: State::zero(),
-            },
-            end,
-            from,
-            more: false,
-        };
-    }
     let state = reply.state;
+    let good = terminal::number_of(reply.answer) == 0;
     Printed {
-        held: Held {
-            going: true,
-            cells,
-            state,
-        },
+        held: good.then_some(Held { cells, state }),
         end,
-        from,
-        more: false,
+        rest: None,
     }
 }
 
 // The host bytes of the line from place `from` to before `to`.
 fn host_call(
-    held: Held,
+    held: Option<Held>,
     line: &[u8],
     from: usize,
     to: usize,
@@ -271,79 +207,66 @@ fn host_call(
         (lent characters.old marks.old out.old text.old)
         result (lent characters.new marks.new out.new text.new) }
 {
-    if !held.going {
-        return no_call(held, from, text);
-    }
-    let cells = least(held.cells, 7680);
-    let state = held.state;
-    let last = least(to, 512);
-    let first = least(from, last);
+    let Some(going) = held else {
+        return no_call(held, text);
+    };
+    let cells = going.cells.min(7680);
+    let last = to.min(512);
+    let first = from.min(last);
     let reply = terminal::host(
-        state,
+        going.state,
         &mut characters[..cells],
         &mut marks[..cells],
         &line[first..last],
         out,
     );
     let end = print(text, reply, out);
-    let answer = reply.answer;
-    let after = reply.state;
+    let state = reply.state;
+    let more = terminal::number_of(reply.answer) == 3;
     Printed {
-        held: Held {
-            going: true,
-            cells,
-            state: after,
-        },
+        held: Some(Held { cells, state }),
         end,
-        from: from + reply.taken,
-        more: terminal::number_of(answer) == 3,
+        rest: more.then_some(from + reply.taken),
     }
 }
 
 fn key_call(
-    held: Held,
+    held: Option<Held>,
     number: u16,
-    from: usize,
     characters: &mut [u8],
     marks: &mut [Mark],
     out: &mut [u8],
     text: &mut [u8],
 ) -> Printed
     requires { Enough (lent characters.old marks.old out.old text.old) }
-    ensures { CallMade (key number) held from
+    ensures { (from : ℕ) → CallMade (key number) held from
         (lent characters.old marks.old out.old text.old)
         result (lent characters.new marks.new out.new text.new) }
 {
-    if !held.going {
-        return no_call(held, from, text);
-    }
-    let cells = least(held.cells, 7680);
-    let state = held.state;
+    let Some(going) = held else {
+        return no_call(held, text);
+    };
+    let cells = going.cells.min(7680);
     let reply = terminal::key(
-        state,
+        going.state,
         &mut characters[..cells],
         &mut marks[..cells],
-        number as usize,
+        usize::from(number),
         out,
     );
     let end = print(text, reply, out);
-    let after = reply.state;
+    let state = reply.state;
     Printed {
-        held: Held {
-            going: true,
-            cells,
-            state: after,
-        },
+        held: Some(Held { cells, state }),
         end,
-        from,
-        more: false,
+        rest: None,
     }
 }
 
-// One call of a frame, whose host bytes before `from` are taken.
+// One call of a frame, if the line is one, whose host bytes before `from` are taken.
 pub fn call(
-    held: Held,
-    kind: Kind,
+    held: Option<Held>,
+    kind: Option<Kind>,
     line: &[u8],
     from: usize,
     characters: &mut [u8],
@@ -356,12 +279,12 @@ pub fn call(
     ensures call_made { CallMade (frame_at kind line.now from) held from
         (lent characters.old marks.old out.old text.old)
         result (lent characters.new marks.new out.new text.new) }
-    ensures from_bound { result.from ≤ 512 }
+    ensures rest_bound { IfSome result.rest (λ rest. rest ≤ 512) }
 {
     match kind {
-        Kind::Start(rows, columns) => start_call(rows, columns, from, characters, marks, out, text),
-        Kind::Host(to) => host_call(held, line, from, to, characters, marks, out, text),
-        Kind::Key(number) => key_call(held, number, from, characters, marks, out, text),
-        Kind::Other => no_call(held, from, text),
+        Some(Kind::Start(rows, columns)) => start_call(rows, columns, characters, marks, out, text),
+        Some(Kind::Host(to)) => host_call(held, line, from, to, characters, marks, out, text),
+        Some(Kind::Key(number)) => key_call(held, number, characters, marks, out, text),
+        None => no_call(held, text),
     }
 }

@@ -3,15 +3,13 @@
 // crates/frames; here bytes are read, and the text of each call is written.
 #![tactic(auto)]
 
-ghost use Rattle.std.specs.Prelude.{◌≡◌, ◌≤◌, length, OnOk, IsErr};
-ghost use Rattle.std.specs.Io.KnownBytes.{Appends};
+ghost use Rattle.std.specs.Prelude.{◌≡◌, length};
 ghost use Rattle.frames.specs.Sessions.{line_done};
 ghost use Rattle.frames.specs.Transcript.{SoFar, after_byte, after_bytes};
-ghost use Rattle.frames.specs.Held.{line_in, session_in, lent, Enough, Holds};
+ghost use Rattle.frames.specs.Held.{line_in, session_in, Holds};
 
-use frames::Held;
+use frames::{Held, Printing};
 use page::Mark;
-use state::State;
 use std::io;
 use std::io::{Read, Write};
 use std::rt::Env as _;
@@ -19,7 +17,7 @@ use std::rt::Env as _;
 const NEW_LINE: u8 = b'\n';
 
 // A frame makes no more calls than this (`line_done`, crates/frames/specs/Sessions.antt).
-const MOST_CALLS: usize = 256;
+const MOST_CALLS: u64 = 256;
 
 // No input lasts this many reads.
 const MOST_READS: u64 = 0x1000000000000000;
@@ -27,44 +25,28 @@ const MOST_READS: u64 = 0x1000000000000000;
 // The session, and how many bytes of the line being read have come.
 #[derive(Clone, Copy)]
 struct Reading {
-    held: Held,
+    held: Option<Held>,
     digits: usize,
 }
 
-// Where the text goes, and whether all of it was written. After a write that failed nothing more is written, and the
-// session goes on: `read_all` ends with the error.
+// The rooms that a session is held and printed in: the line being read, the page, the output and the text of a call.
 #[derive(Drop)]
-struct Printing<W> {
-    to: W,
-    done: io::Result<()>,
-}
-
-// The text, where all before it was written.
-fn print<W: Write>(printing: &mut Printing<W>, text: &[u8])
-    ensures written { OnOk printing.new.done
-        (Appends (W.contents printing.old.to) (W.contents printing.new.to) text.now) }
-    ensures stopped { IsErr printing.old.done → printing.new ≡ printing.old }
-{
-    if printing.done.is_ok() {
-        printing.done = printing.to.write_all(text);
-    }
+struct Rooms {
+    line: [u8; 512],
+    characters: [u8; 7680],
+    marks: [Mark; 7680],
+    out: [u8; 65536],
+    text: [u8; 131087],
 }
 
 // The session's terminal, drawn as text; nothing without a session. The two tests give what `draw` asks for, and the
 // state of every session passes them.
-fn show<W: Write>(
-    printing: &mut Printing<W>,
-    held: Held,
-    characters: &[u8],
-    marks: &[Mark],
-    text: &mut [u8],
-)
-    requires { (length characters.now ≡ 7680) × (length marks.now ≡ 7680) × (131087 ≤ length text.old) }
+fn show<W: Write>(printing: &mut Printing<W>, held: Option<Held>, rooms: &mut Rooms)
+    ensures { rooms.new ≡ record rooms.old { text = rooms.new.text } }
 {
-    let state = held.state;
-    if !held.going {
+    let Some(Held { state, .. }) = held else {
         return;
-    }
+    };
     if !state.size.is_listed() {
         return;
     }
@@ -72,40 +54,48 @@ fn show<W: Write>(
         return;
     }
     let cells = state.size.rows * state.size.columns;
-    let end = drawing::draw(state, &characters[..cells], &marks[..cells], text, 0);
-    print(printing, &text[..end]);
+    let end = drawing::draw(
+        state,
+        &rooms.characters[..cells],
+        &rooms.marks[..cells],
+        &mut rooms.text,
+        0,
+    );
+    printing.print(&rooms.text[..end]);
 }
 
 // A finished line: its frame's calls, and what each prints. The session is then the definition's.
 fn do_calls<W: Write>(
     printing: &mut Printing<W>,
-    held: Held,
-    line: &mut [u8],
+    held: Option<Held>,
+    rooms: &mut Rooms,
     digits: usize,
-    characters: &mut [u8],
-    marks: &mut [Mark],
-    out: &mut [u8],
-    text: &mut [u8],
-) -> Held
-    requires { (length line.old ≡ 512) × Enough (lent characters.old marks.old out.old text.old) }
-    ensures { session_in result characters.new marks.new
-        ≡ (line_done (line_in line.old digits)
-        (session_in held characters.old marks.old)).after }
+) -> Option<Held>
+    ensures line_len { length rooms.new.line ≡ 512 }
+    ensures done { session_in result rooms.new.characters rooms.new.marks
+        ≡ (line_done (line_in rooms.old.line digits)
+        (session_in held rooms.old.characters rooms.old.marks)).after }
 {
-    let kind = frames::frame(line, digits);
+    let kind = frames::frame(&mut rooms.line, digits);
     let mut here = held;
     let mut from = 1;
-    let mut calls = 0;
-    while calls < MOST_CALLS {
-        let printed = frames::call(here, kind, line, from, characters, marks, out, text);
-        let end = printed.end;
-        print(printing, &text[..end]);
+    for _ in 0..MOST_CALLS {
+        let printed = frames::call(
+            here,
+            kind,
+            &rooms.line,
+            from,
+            &mut rooms.characters,
+            &mut rooms.marks,
+            &mut rooms.out,
+            &mut rooms.text,
+        );
+        printing.print(&rooms.text[..printed.end]);
         here = printed.held;
-        if !printed.more {
+        let Some(rest) = printed.rest else {
             return here;
-        }
-        from = printed.from;
-        calls += 1;
+        };
+        from = rest;
     }
     here
 }
@@ -113,23 +103,19 @@ fn do_calls<W: Write>(
 // In dump mode the terminal is drawn after each line.
 fn do_line<W: Write>(
     printing: &mut Printing<W>,
-    held: Held,
-    line: &mut [u8],
+    held: Option<Held>,
+    rooms: &mut Rooms,
     digits: usize,
-    characters: &mut [u8],
-    marks: &mut [Mark],
-    out: &mut [u8],
-    text: &mut [u8],
     dumping: bool,
-) -> Held
-    requires { (length line.old ≡ 512) × Enough (lent characters.old marks.old out.old text.old) }
-    ensures { session_in result characters.new marks.new
-        ≡ (line_done (line_in line.old digits)
-        (session_in held characters.old marks.old)).after }
+) -> Option<Held>
+    ensures line_len { length rooms.new.line ≡ 512 }
+    ensures done { session_in result rooms.new.characters rooms.new.marks
+        ≡ (line_done (line_in rooms.old.line digits)
+        (session_in held rooms.old.characters rooms.old.marks)).after }
 {
-    let after = do_calls(printing, held, line, digits, characters, marks, out, text);
+    let after = do_calls(printing, held, rooms, digits);
     if dumping {
-        show(printing, after, characters, marks, text);
+        show(printing, after, rooms);
     }
     after
 }
@@ -139,32 +125,24 @@ fn take_byte<W: Write>(
     printing: &mut Printing<W>,
     reading: Reading,
     byte: u8,
-    line: &mut [u8],
-    characters: &mut [u8],
-    marks: &mut [Mark],
-    out: &mut [u8],
-    text: &mut [u8],
+    rooms: &mut Rooms,
     dumping: bool,
 ) -> Reading
-    requires { (length line.old ≡ 512) × Enough (lent characters.old marks.old out.old text.old) }
     ensures { (read : SoFar) →
         Holds read reading.held reading.digits
-        line.old characters.old marks.old →
+        rooms.old.line rooms.old.characters rooms.old.marks →
         Holds (after_byte byte read) result.held result.digits
-        line.new characters.new marks.new }
+        rooms.new.line rooms.new.characters rooms.new.marks }
 {
-    let held = reading.held;
-    let digits = reading.digits;
+    let Reading { held, digits } = reading;
     if byte != NEW_LINE {
         return Reading {
             held,
-            digits: frames::collect(line, digits, byte),
+            digits: frames::collect(&mut rooms.line, digits, byte),
         };
     }
     Reading {
-        held: do_line(
-            printing, held, line, digits, characters, marks, out, text, dumping,
-        ),
+        held: do_line(printing, held, rooms, digits, dumping),
         digits: 0,
     }
 }
@@ -173,27 +151,18 @@ fn take_bytes<W: Write>(
     printing: &mut Printing<W>,
     reading: Reading,
     bytes: &[u8],
-    line: &mut [u8],
-    characters: &mut [u8],
-    marks: &mut [Mark],
-    out: &mut [u8],
-    text: &mut [u8],
+    rooms: &mut Rooms,
     dumping: bool,
 ) -> Reading
-    requires { (length line.old ≡ 512) × Enough (lent characters.old marks.old out.old text.old) }
     ensures { (read : SoFar) →
         Holds read reading.held reading.digits
-        line.old characters.old marks.old →
+        rooms.old.line rooms.old.characters rooms.old.marks →
         Holds (after_bytes bytes.now read) result.held result.digits
-        line.new characters.new marks.new }
+        rooms.new.line rooms.new.characters rooms.new.marks }
 {
     let mut here = reading;
-    let mut i = 0;
-    while i < bytes.len() {
-        here = take_byte(
-            printing, here, bytes[i], line, characters, marks, out, text, dumping,
-        );
-        i += 1;
+    for &byte in bytes {
+        here = take_byte(printing, here, byte, rooms, dumping);
     }
     here
 }
@@ -202,76 +171,46 @@ fn take_bytes<W: Write>(
 fn end_input<W: Write>(
     printing: &mut Printing<W>,
     reading: Reading,
-    line: &mut [u8],
-    characters: &mut [u8],
-    marks: &mut [Mark],
-    out: &mut [u8],
-    text: &mut [u8],
+    rooms: &mut Rooms,
     dumping: bool,
-)
-    requires { (length line.old ≡ 512) × Enough (lent characters.old marks.old out.old text.old) }
-{
-    let digits = reading.digits;
-    if digits == 0 {
-        return;
+) {
+    if reading.digits != 0 {
+        do_line(printing, reading.held, rooms, reading.digits, dumping);
     }
-    let held = reading.held;
-    do_line(
-        printing, held, line, digits, characters, marks, out, text, dumping,
-    );
 }
 
 fn read_all<R: Read, W: Write>(
     from: &mut R,
     printing: &mut Printing<W>,
     input: &mut [u8],
-    line: &mut [u8],
-    characters: &mut [u8],
-    marks: &mut [Mark],
-    out: &mut [u8],
-    text: &mut [u8],
+    rooms: &mut Rooms,
     dumping: bool,
-) -> io::Result<()>
-    requires { (length line.old ≡ 512) × Enough (lent characters.old marks.old out.old text.old) }
-    ensures { (length line.new ≡ 512) × Enough (lent characters.new marks.new out.new text.new) }
-{
-    let held = Held {
-        going: false,
-        cells: 0,
-        state: State::zero(),
+) -> io::Result<()> {
+    let mut here = Reading {
+        held: None,
+        digits: 0,
     };
-    let mut here = Reading { held, digits: 0 };
-    let mut reads = MOST_READS;
-    while reads > 0 {
+    for _ in 0..MOST_READS {
         let count = from.read(input)?;
         if count == 0 {
-            end_input(printing, here, line, characters, marks, out, text, dumping);
+            end_input(printing, here, rooms, dumping);
             return printing.done;
         }
-        here = take_bytes(
-            printing,
-            here,
-            &input[..count],
-            line,
-            characters,
-            marks,
-            out,
-            text,
-            dumping,
-        );
+        here = take_bytes(printing, here, &input[..count], rooms, dumping);
         printing.done?;
-        reads -= 1;
     }
     Ok(())
 }
 
 fn main(rt: HostRuntime) -> io::Result<()> {
     let mut input = [0u8; 4096];
-    let mut line = [0u8; 512];
-    let mut characters = [0u8; 7680];
-    let mut marks: [Mark; 7680] = [0; 7680];
-    let mut out = [0u8; 65536];
-    let mut text = [0u8; 131087];
+    let mut rooms = Rooms {
+        line: [0; 512],
+        characters: [0; 7680],
+        marks: [0; 7680],
+        out: [0; 65536],
+        text: [0; 131087],
+    };
     let mut word = [0u8; 4096];
     let dumping = rt.arg(1, &mut word).is_ok();
     let mut printing = Printing {
@@ -282,11 +221,7 @@ fn main(rt: HostRuntime) -> io::Result<()> {
         &mut rt.stdin(),
         &mut printing,
         &mut input,
-        &mut line,
-        &mut characters,
-        &mut marks,
-        &mut out,
-        &mut text,
+        &mut rooms,
         dumping,
     )
 }

@@ -1,21 +1,21 @@
 use mathlib.Core.Path.{sym, ap, ◌∙◌}
 use Prim.Native.Nat.{min}
-use borrow.Author.Tests.{not-true, not-false}
-use mathlib.Core.Bool.{true, false}
 use lib.ListN.{length-take}
-use Rattle.words.proofs.Choosing.{then_case, else_case}
+use Rattle.std.specs.Prelude.{Option, Some}
+use Rattle.frames.specs.declared.Held.{Held}
 use Rattle.frames.specs.Held.{kept, session_in}
+use Rattle.frames.proofs.Answering.{none_in}
 use Rattle.frames.proofs.settled.Goals as goal
 
-pub returns-then-not-held : goal.returns-then-not-held
-unfolding kept session_in
-returns-then-not-held c characters marks long =
-    (λ i. record { going = false; cells = 0; state = c.zero.ensures i })
-    ∙ sym (ap kept (else_case _ _ _ (not-true _ c.if-not-held.true)))
+pub returns-in_err-cells : goal.returns-in_err-cells
+unfolding kept
+returns-in_err-cells c characters marks long =
+    c.from_residual.ensures ∙ sym (ap kept (none_in characters marks c.in_err-cells.was))
 
 pub returns : goal.returns
 unfolding kept session_in
 returns c characters marks long =
-    let cells = c.least-cells.ensures ∙ sym (length-take c.args.held.cells characters ∙ ap (min c.args.held.cells) long) in
-    (λ i. record { going = true; cells = cells i; state = c.args.held.state })
-    ∙ sym (ap kept (then_case _ _ _ (not-false _ c.if-not-held.false)))
+    let held = c.in_ok-cells.field-0 in
+    let cells = c.min.ensures ∙ sym (length-take held.cells characters ∙ ap (min held.cells) long) in
+    (λ i. Some (record { cells = cells i; state = held.state }))
+    ∙ sym (ap (λ (held : Option Held). kept (session_in held characters marks)) c.in_ok-cells.was)

@@ -1,41 +1,40 @@
 use mathlib.Core.Path.{sym, ap, ◌∙◌}
-use Prim.Native.Nat.{◌≤◌}
+use Prim.Native.Nat.{ℕ, ◌*◌, ◌≤◌, min}
+use lib.Dec.{eqb}
+use lib.ListN.{take}
+use Rattle.std.specs.Bool.{then_some}
+use Rattle.page.specs.Page.{page_of}
+use Rattle.terminal.specs.Calls.{start_call}
 use native.Mathlib.Nat.{mul-le-mul_right}
 use native.Mathlib.Omega.{arith}
-use borrow.Author.Rules.{rules}
 use lib.Seq.{length-take-le}
 use Rattle.terminal.specs.Answers.{Outcome}
 use Rattle.frames.specs.Held.{lent}
-use Rattle.frames.proofs.Starting.{start_sends_nothing, started_well, started_badly}
+use Rattle.frames.proofs.Starting.{start_sends_nothing, start_did}
 use Rattle.frames.proofs.start_call.Goals as goal
 
 pub overflow_mul-rows : goal.overflow_mul-rows
 overflow_mul-rows c =
-    let rows-most : c.args.rows ≤ 255 = search rules in
-    let product = mul-le-mul_right c.args.columns rows-most in
+    let rows-most : c.from-rows.result ≤ 255 = omega arith in
+    let product = mul-le-mul_right c.from-columns.result rows-most in
     omega (arith, product)
 
 pub slice_bounds-start-end-2 : goal.slice_bounds-start-end-2
-slice_bounds-start-end-2 c = sym (length-take-le _ _ (omega (arith, c.least-cells.ensures, c.requires.characters)))
+slice_bounds-start-end-2 c = sym (length-take-le _ _ (omega (arith, c.min-cells.ensures, c.requires.characters)))
 
 pub slice_bounds-start-end-4 : goal.slice_bounds-start-end-4
-slice_bounds-start-end-4 c = sym (length-take-le _ _ (omega (arith, c.least-cells.ensures, c.requires.marks)))
+slice_bounds-start-end-4 c = sym (length-take-le _ _ (omega (arith, c.min-cells.ensures, c.requires.marks)))
 
 pub print-end-requires : goal.print-end-requires
 print-end-requires c =
     let sent = ap (λ (o : Outcome). o.sent) c.start-reply.ensures ∙ start_sends_nothing _ _ in
     (omega (arith, sent), omega (arith, sent), c.requires.text)
 
-pub returns-then-number_of-ne0 : goal.returns-then-number_of-ne0
-returns-then-number_of-ne0 c before =
-    started_badly c.args.rows c.args.columns c.least-cells.result c.args.from c.print-end.result
-    (lent c.args.characters.now c.args.marks.now c.args.out.now c.args.text.now) c.requires c.least-cells.ensures
-    c.start-reply.result _ _ _ c.start-reply.ensures c.print-end.ensures before
-    (λ good. c.if-number_of-ne0.true (c.number_of.ensures ∙ good)) _ c.zero.ensures
-
 pub returns : goal.returns
-returns c before =
-    started_well c.args.rows c.args.columns c.least-cells.result c.args.from c.print-end.result
-    (lent c.args.characters.now c.args.marks.now c.args.out.now c.args.text.now) c.requires c.least-cells.ensures
-    c.start-reply.result _ _ _ c.start-reply.ensures c.print-end.ensures before
-    (sym c.number_of.ensures ∙ c.if-number_of-ne0.false)
+returns c before from =
+    let held = c.then_some.ensures ∙ ap (λ (n : ℕ). then_some (eqb n 0) (record { cells = c.min-cells.result; state = c.start-reply.result.state })) c.number_of-good.ensures in
+    let page = page_of (take c.min-cells.result c.args.characters.now) (take c.min-cells.result c.args.marks.now) in
+    start_did c.args.rows c.args.columns c.min-cells.result from c.print-end.result
+    (lent c.args.characters.now c.args.marks.now c.args.out.now c.args.text.now) c.requires
+    (c.min-cells.ensures ∙ (λ i. min (c.from-rows.ensures i * c.from-columns.ensures i) 7680))
+    c.start-reply.result _ _ _ (c.start-reply.ensures ∙ (λ i. start_call (record { rows = c.from-rows.ensures i; columns = c.from-columns.ensures i }) page)) c.print-end.ensures before held

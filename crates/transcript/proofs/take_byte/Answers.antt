@@ -1,4 +1,3 @@
-use mathlib.Core.Path.{◌∙◌}
 use Rattle.frames.proofs.Reading.{byte_held, line_held}
 use Rattle.transcript.proofs.take_byte.Goals as goal
 
@@ -9,5 +8,4 @@ returns-then-byte-ne-NEW_LINE g c = λ read holds.
 
 pub returns : goal.returns
 returns g c = λ read holds.
-    let line = c.do_line in
-    line_held holds c.if-byte-ne-NEW_LINE.false (line.auto.line ∙ c.requires.0) line.ensures
+    line_held holds c.if-byte-ne-NEW_LINE.false c.do_line.ensures.line_len c.do_line.ensures.done
