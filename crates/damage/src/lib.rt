@@ -2,7 +2,7 @@
 #![tactic(auto)]
 
 ghost use Rattle.std.specs.Prelude.{◌≡◌, ◌%◌};
-ghost use Rattle.damage.specs.Parts.{is_on, first_parts, part_of};
+ghost use Rattle.damage.specs.Parts.{first_parts, part_of};
 ghost use Rattle.damage.specs.Parts.{chosen, arguments_with, stops_with, with_part};
 
 use sequence::HalfRead;

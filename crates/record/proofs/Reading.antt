@@ -1,14 +1,12 @@
 -- What is read place by place: how much it is, and what is at each place.
 use mathlib.Core.Path.{◌≡◌, refl, sym, ap, ◌∙◌}
-use mathlib.Core.Bool.{Bool, false}
 use mathlib.Core.List.{List, ◌∷◌, ◌++◌}
 use Prim.Native.Nat.{ℕ, zero, suc, ◌+◌, ◌*◌, ◌<◌, ◌≤◌}
 use native.Mathlib.Nat.{le_of_suc-le-suc, not-suc-le-zero, suc-mul}
 use native.Mathlib.Omega.{arith}
-use lib.ListN.{length, take, get_or, set}
+use lib.ListN.{length, take, get_or}
 use lib.Seq.{ext_get_or, get_or-take, take_all, length-take-le}
-use Rattle.words.proofs.Writing.{up_to, next_put, all_written}
-use Rattle.record.specs.Bytes.{flag_at, read_each}
+use Rattle.record.specs.Bytes.{read_each}
 
 module _ {A : Type 0} (read : ℕ → A) (width : ℕ) where
   pub length-each : (at n : ℕ) → length (read_each read width at n) ≡ n
@@ -44,18 +42,3 @@ split_read read at (suc n) m =
     let one_more : suc n + m ≡ suc (n + m) = omega arith in
     let place : at + 1 + n ≡ at + suc n = omega arith in
     rw one_more (ap (λ (rest : List ℕ). read at ∷ rest) (split_read read (at + 1) n m ∙ ap (λ (k : ℕ). read_each read 1 (at + 1) n ++ read_each read 1 k m) place))
-
--- A loop that reads the stops of a record and has come to column i, counted from 0.
-abbrev pub stops_read : List ℕ → List Bool
-stops_read bytes = read_each (flag_at bytes) 1 35 160
-
-module _ (bytes : List ℕ) (start now : List Bool) (i : ℕ) (all : length start ≡ 160) (so_far : now ≡ up_to i (stops_read bytes) start) where
-  pub next_stop_read : i < 160 → (stop : Bool) → stop ≡ flag_at bytes (35 + i) → set now i stop ≡ up_to (i + 1) (stops_read bytes) start
-  next_stop_read here stop is =
-      let size = length-each (flag_at bytes) 1 35 160 in
-      let place : 35 + i * 1 ≡ 35 + i = omega arith in
-      next_put false (stops_read bytes) start now i so_far stop (omega (arith, here, size)) (omega (arith, here, all))
-      (is ∙ sym (rw place at (each_there (flag_at bytes) 1 false 35 160 i here)))
-
-  pub stops_read_lem : 160 ≤ i → now ≡ stops_read bytes
-  stops_read_lem h = so_far ∙ all_written (stops_read bytes) start i (length-each (flag_at bytes) 1 35 160 ∙ sym all) (omega (arith, h, all))

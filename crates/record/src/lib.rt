@@ -151,11 +151,7 @@ fn stops_there(bytes: &[u8]) -> [bool; 160]
     requires { 195 ≤ length bytes.now }
     ensures { result ≡ read_each (flag_at bytes.now) 1 35 160 }
 {
-    let mut stops = [false; 160];
-    for i in 0..160 {
-        stops[i] = bytes[STOPS + i] == 1;
-    }
-    stops
+    array::from_fn(|i| bytes[STOPS + i] == 1)
 }
 
 fn stops_in(bytes: &[u8]) -> [bool; 160]

@@ -1,5 +1,5 @@
 -- Laws of the lists that are written element by element, in the loops' own terms.
-use mathlib.Core.Path.{◌≡◌, refl, sym, ap, ◌∙◌}
+use mathlib.Core.Path.{◌≡◌, refl, sym, ◌∙◌}
 use mathlib.Core.List.{List, [], ◌∷◌, ◌++◌, append-nil, append_assoc, flat_map}
 use Prim.Native.Nat.{ℕ, ◌+◌, ◌*◌, ◌<◌, ◌≤◌}
 use native.Mathlib.Nat.{zero-mul, suc-mul}
@@ -47,12 +47,3 @@ module _ {A : Type 0} (f : A → List ℕ) (list : List A) {at : ℕ} {before : 
   pub walk_reached : {i next : ℕ} {text : List ℕ} (width : ℕ) → ((x : A) → length (f x) ≡ width) → Walked f list at before i next text → next ≡ at + i * width
   walk_reached {i} width each so_far =
       so_far.2.next_is ∙ rw (flat_length f width each (take i list), length-take-le i list so_far.0)
-
--- Each byte as it is.
-abbrev pub alone : ℕ → List ℕ
-alone byte = byte ∷ []
-
-pub flat_alone : (bytes : List ℕ) → flat_map alone bytes ≡ bytes
-unfolding flat_map
-flat_alone [] = refl
-flat_alone (byte ∷ bytes) = ap (λ (rest : List ℕ). byte ∷ rest) (flat_alone bytes)

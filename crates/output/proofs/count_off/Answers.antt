@@ -18,7 +18,8 @@ loop-init c = omega (arith, zero-mul c.args.unit)
 
 pub loop-preserved : goal.loop-preserved
 loop-preserved c =
-    let one = turn c.loop.counter c.args.unit c.loop-test.true in
+    let here : c.loop.counter < 9 = omega arith in
+    let one = turn c.loop.counter c.args.unit here in
     elim c.if-unit-left.branch [
       | then-unit-left w ↦ rw (w.times-is, w.left-is) (omega (arith, one, once_more c.loop.times c.args.unit))
       | else-unit-left w ↦ rw (w.times-is, w.left-is) (omega (arith, one))
