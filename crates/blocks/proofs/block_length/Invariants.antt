@@ -16,5 +16,5 @@ invariant-loop-place l =
       bounded : l.total ≤ 1 + 7690 * l.place-iterator.here.cell;
       counted_off : (characters : List ℕ) → length characters ≡ length l.marks →
           l.total + length (rest_from l.full l.columns (page_of characters l.marks) (length characters - l.place-iterator.here.cell) l.place-iterator.here.cell)
-          ≡ length (block l.full l.columns (page_of characters l.marks)) + 1
+          ≡ length (block l.full l.columns (page_of characters l.marks)) + 1;
     }

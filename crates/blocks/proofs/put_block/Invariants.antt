@@ -18,5 +18,5 @@ invariant-loop-place l =
       written : List ℕ;
       wrote : Wrote l.at written l.initial.out l.next l.out;
       rest : written ++ rest_from l.full l.columns (page_of l.characters l.marks) (length l.characters - l.place-iterator.here.cell) l.place-iterator.here.cell
-          ≡ block l.full l.columns (page_of l.characters l.marks)
+          ≡ block l.full l.columns (page_of l.characters l.marks);
     }
