@@ -7,3 +7,4 @@ pub mod Taking
 pub mod Tables
 pub mod Theorems
 pub mod Examples
+pub mod Numbers

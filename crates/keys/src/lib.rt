@@ -15,76 +15,50 @@ use output::NoRoom;
 use page::Mark;
 use places::Place;
 use state::State;
+use std::ops::Range;
 use steps::Step;
 
-// Cells from `from` to before `end`.
-#[derive(Clone, Copy)]
-struct Rest {
-    from: usize,
-    end: usize,
-}
-
 // The keys that type a character, those that store in the cursor's field, and those that look for a field.
+#[tactic(auto, using(crate::proofs::Numbers::numbers))]
 fn is_typing(key: usize) -> bool
     ensures { result ≡ is_typing key }
 {
-    if key < 32 {
-        return false;
-    }
-    key <= 126
+    matches!(key, 32..=126)
 }
 
+#[tactic(auto, using(crate::proofs::Numbers::numbers))]
 fn is_editing(key: usize) -> bool
     ensures { result ≡ is_editing key }
 {
-    if key < 263 {
-        return false;
-    }
-    key <= 265
+    matches!(key, 263..=265)
 }
 
+#[tactic(auto, using(crate::proofs::Numbers::numbers))]
 fn is_field_move(key: usize) -> bool
     ensures { result ≡ is_field_move key }
 {
-    if key < 260 {
-        return false;
-    }
-    key <= 261
+    matches!(key, 260..=261)
 }
 
 // Document 01's number 4 is given where this is false.
+#[tactic(auto, using(crate::proofs::Numbers::numbers))]
 pub fn is_known(key: usize) -> bool
     ensures { result ≡ is_known key }
 {
-    if is_typing(key) {
-        return true;
-    }
-    if key < 256 {
-        return false;
-    }
-    if key <= 266 {
-        return true;
-    }
-    key == 268
+    is_typing(key) || matches!(key, 256..=266 | 268)
 }
 
 fn is_locked(state: State) -> bool
     ensures { result ≡ is_locked state }
 {
-    if state.locks.manual {
-        return true;
-    }
-    state.locks.soft
+    state.locks.manual || state.locks.soft
 }
 
 // Document 01's number 5.
 pub fn is_locked_out(key: usize, state: State) -> bool
     ensures { result ≡ is_locked_out key state }
 {
-    if is_locked(state) {
-        return key != 268;
-    }
-    false
+    is_locked(state) && key != 268
 }
 
 // Whether the cursor's cell is unprotected. Here and below `characters` is lent for the contract, which speaks of the
@@ -110,16 +84,10 @@ pub fn lacks_cell(key: usize, state: State, characters: &[u8], marks: &[Mark]) -
     requires { Valid (terminal_of state characters.now marks.now) }
     ensures { result ≡ lacks_cell key (terminal_of state characters.now marks.now) }
 {
-    if is_typing(key) {
+    if is_typing(key) || is_editing(key) {
         return !stands_unprotected(state, characters, marks);
     }
-    if is_editing(key) {
-        return !stands_unprotected(state, characters, marks);
-    }
-    if is_field_move(key) {
-        return has_no_field(state, characters, marks);
-    }
-    false
+    is_field_move(key) && has_no_field(state, characters, marks)
 }
 
 // Whether the cursor's cell takes a typed character.
@@ -131,7 +99,8 @@ fn takes_here(state: State, characters: &[u8], marks: &[Mark], character: u8) ->
     page::takes(page::mark_at(marks, state.place().cell), character)
 }
 
-// Whether the cells that 264 closes up take what comes to them.
+// Whether the cells that 264 closes up take what comes to them. (It and the next differ in the page's function alone, as
+// the two that shift do; a parameter for that would have to repeat its contract.)
 fn takes_deleting(state: State, characters: &[u8], marks: &[Mark]) -> bool
     requires { Valid (terminal_of state characters.now marks.now) }
     ensures { result ≡ takes_from_right
@@ -139,7 +108,7 @@ fn takes_deleting(state: State, characters: &[u8], marks: &[Mark]) -> bool
         (carried (terminal_of state characters.now marks.now)) }
 {
     let rest = rest_of_field(state, characters, marks);
-    page::take_from_right(characters, marks, rest.from, rest.end)
+    page::take_from_right(characters, marks, rest.start, rest.end)
 }
 
 // Whether the cells that 265 moves into do.
@@ -150,7 +119,7 @@ fn takes_inserting(state: State, characters: &[u8], marks: &[Mark]) -> bool
         (carried (terminal_of state characters.now marks.now)) }
 {
     let rest = rest_of_field(state, characters, marks);
-    page::take_from_left(characters, marks, rest.from, rest.end)
+    page::take_from_left(characters, marks, rest.start, rest.end)
 }
 
 // Whether line 8 holds.
@@ -158,16 +127,11 @@ pub fn is_not_taken(key: usize, state: State, characters: &[u8], marks: &[Mark])
     requires { Valid (terminal_of state characters.now marks.now) }
     ensures { result ≡ is_not_taken key (terminal_of state characters.now marks.now) }
 {
-    if is_typing(key) {
-        return !takes_here(state, characters, marks, key as u8);
+    match key {
+        264 => !takes_deleting(state, characters, marks),
+        265 => !takes_inserting(state, characters, marks),
+        _ => is_typing(key) && !takes_here(state, characters, marks, key as u8),
     }
-    if key == 264 {
-        return !takes_deleting(state, characters, marks);
-    }
-    if key == 265 {
-        return !takes_inserting(state, characters, marks);
-    }
-    false
 }
 
 // Whether line 9 holds.
@@ -175,10 +139,7 @@ pub fn is_held_back(key: usize, state: State, characters: &[u8], marks: &[Mark])
     requires { Valid (terminal_of state characters.now marks.now) }
     ensures { result ≡ is_held_back key (terminal_of state characters.now marks.now) }
 {
-    if key == 266 {
-        return fields::has_left_blank(characters, marks);
-    }
-    false
+    key == 266 && fields::has_left_blank(characters, marks)
 }
 
 fn gone_to(sought: Option<Place>, state: State) -> State
@@ -257,19 +218,16 @@ fn blank_field(state: State, characters: &mut [u8], marks: &mut [Mark]) -> Step
 }
 
 // The rest of the cursor's field: its cells from the cursor's on.
-fn rest_of_field(state: State, characters: &[u8], marks: &[Mark]) -> Rest
+fn rest_of_field(state: State, characters: &[u8], marks: &[Mark]) -> Range<usize>
     requires { Valid (terminal_of state characters.now marks.now) }
     ensures { result ≡ record {
-      from = cursor_cell state;
+      start = cursor_cell state;
       end = end_here (terminal_of state characters.now marks.now);
     } }
 {
     let place = state.place();
     let end = fields::field_end(marks, place.cell);
-    Rest {
-        from: place.cell,
-        end,
-    }
+    place.cell..end
 }
 
 // 264.
@@ -282,8 +240,8 @@ fn delete_here(state: State, characters: &mut [u8], marks: &mut [Mark]) -> Step
         return steps::quiet(state);
     }
     let rest = rest_of_field(state, characters, marks);
-    page::delete_character(characters, marks, rest.from, rest.end);
-    steps::stored(state, rest.end - rest.from, false)
+    page::delete_character(characters, marks, rest.start, rest.end);
+    steps::stored(state, rest.end - rest.start, false)
 }
 
 // 265.
@@ -296,8 +254,8 @@ fn insert_here(state: State, characters: &mut [u8], marks: &mut [Mark]) -> Step
         return steps::quiet(state);
     }
     let rest = rest_of_field(state, characters, marks);
-    page::insert_blank(characters, marks, rest.from, rest.end);
-    steps::stored(state, rest.end - rest.from, false)
+    page::insert_blank(characters, marks, rest.start, rest.end);
+    steps::stored(state, rest.end - rest.start, false)
 }
 
 // The keys from 256 on that send nothing; a number that is no key does nothing.

@@ -7,7 +7,9 @@ use Prim.Native.Char.{code}
 use borrow.Author.Tests.{eqb-true}
 use lib.Dec.{eqb}
 use lib.ListN.{length, take}
-use Rattle.words.proofs.Choosing.{not_both, both}
+use Rattle.std.specs.Prelude.{Result, Err}
+use Rattle.output.specs.declared.NoRoom as no_room
+use Rattle.words.proofs.Choosing.{either_way, not_both, both}
 use Rattle.page.specs.Page.{Page}
 use Rattle.blocks.specs.Blocks.{entries_sent, block}
 use Rattle.blocks.specs.Lay.{lay}
@@ -36,12 +38,12 @@ use Rattle.promises.proofs.Asking.{block_asked}
 use Rattle.promises.proofs.Keeping.{sendable, same_full_block}
 use Rattle.promises.proofs.OurLaws.{our_step_laws}
 use Rattle.promises.proofs.Theorems as Promised
-use Rattle.copy.specs.declared.Laid.{Laid}
 use Rattle.copy.specs.Copy.{IsBlock, laying}
 use Rattle.copy.proofs.Laws.{is_block}
 use Rattle.samples.specs.declared.ThreeReplies.{ThreeReplies}
-use Rattle.samples.specs.declared.Copy.TheVariants.{Made, NotSent}
-use Rattle.samples.specs.Samples.{esc_s, full_call, typed_call, later_call, ThreeCalls, all_answered, copying, CopyKept}
+use Rattle.samples.specs.declared.NotKept.{NotKept}
+use Rattle.samples.specs.declared.NotKept.TheVariants.{NotSent}
+use Rattle.samples.specs.Samples.{esc_s, full_call, typed_call, later_call, ThreeCalls, all_answered, kept, copying, CopyKept}
 use Rattle.samples.proofs.Asking.{after_esc, on_s, valid_after_esc, full_sent, FullAsked, full_asked}
 use Rattle.samples.proofs.Laws.{host_fits, key_fits}
 
@@ -58,6 +60,16 @@ not_done TooLong others = refl
 not_done NoCell others = refl
 not_done NotTaken others = refl
 not_done RequiredBlank others = refl
+
+-- What the code makes of the answer of `copy::lay`, and where a call was refused.
+module _ (all : Bool) (bytes lent : List ℕ) where
+  pub lays_where_answered : {answer : Result ℕ no_room.NoRoom} {output : List ℕ} → all ≡ true → record { answer = answer; output = output } ≡ laying bytes lent → record { copy = kept answer; output = output } ≡ copying all bytes lent
+  unfolding copying
+  lays_where_answered answered made = rw answered (λ i. record { copy = kept (made i).answer; output = (made i).output })
+
+  pub lays_nothing : all ≡ false → record { copy = Err NotSent; output = lent } ≡ copying all bytes lent
+  unfolding copying
+  lays_nothing refused = rw refused
 
 -- The three calls, each on what the one before left.
 module _ (t : Terminal) (key : ℕ) (lent_full lent_typed lent_later : List ℕ) where
@@ -221,15 +233,18 @@ module _ {t : Terminal} {key : ℕ} {lent_full lent_typed lent_later : List ℕ}
         ∙ ap (block_here true) (sym third_pressed.terminal)
         ∙ ap (λ (o : Outcome). block_here true o.terminal) (sym calls.third)
 
-    pub copy_made : (lent : List ℕ) {output : List ℕ} {answer : Laid} →
-        record { answer = answer; output = output } ≡ laying (lay (take replies.later.sent later) (take replies.full.sent full)) lent →
-        CopyKept t key lent_full lent_typed lent_later lent (record { replies = replies; copy = Made answer }) page full typed later output
-    unfolding copying
-    copy_made lent made =
-        let as_copy = made ∙ ap (λ (bytes : List ℕ). laying bytes lent) laid_right in
-        record { calls = calls; is_copy = (λ i. record { copy = Made (as_copy i).answer; output = (as_copy i).output }) ∙ ap (λ (all : Bool). copying all (block_here true (record { state = replies.later.state; page = page })) lent) (sym answered) }
+  abbrev bytes_laid : List ℕ
+  bytes_laid = lay (take replies.later.sent later) (take replies.full.sent full)
 
-  pub copy_not_made : (lent : List ℕ) → all_answered replies ≡ false → CopyKept t key lent_full lent_typed lent_later lent (record { replies = replies; copy = NotSent }) page full typed later lent
+  -- Where a call was refused it doesn't matter what would have been laid.
+  same_copy : (lent : List ℕ) → copying (all_answered replies) bytes_laid lent ≡ copying (all_answered replies) (block_here true (record { state = replies.later.state; page = page })) lent
   unfolding copying
-  copy_not_made lent refused =
-      record { calls = calls; is_copy = ap (λ (all : Bool). copying all (block_here true (record { state = replies.later.state; page = page })) lent) (sym refused) }
+  same_copy lent =
+      either_way (all_answered replies)
+      (λ answered. ap (λ (bytes : List ℕ). copying (all_answered replies) bytes lent) (laid_right answered))
+      (λ refused. rw refused)
+
+  pub copy_made : (lent : List ℕ) {output : List ℕ} {copy : Result ℕ NotKept} →
+      record { copy = copy; output = output } ≡ copying (all_answered replies) bytes_laid lent →
+      CopyKept t key lent_full lent_typed lent_later lent (record { replies = replies; copy = copy }) page full typed later output
+  copy_made lent made = record { calls = calls; is_copy = made ∙ same_copy lent }

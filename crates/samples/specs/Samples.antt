@@ -1,8 +1,9 @@
 -- Demands 2 and 3, said of calls that run: what a sample gives and leaves is that of its calls, and then the promise.
-use Rattle.std.specs.Prelude.{◌≡◌, Bool, true, false, ℕ, ◌+◌, eqb, take, drop}
+use Rattle.std.specs.Prelude.{◌≡◌, Bool, true, false, ℕ, ◌+◌, eqb, take, drop, Result, Ok, Err}
 use mathlib.Core.List.{List, [], ◌∷◌, ◌++◌, Memᴰ}
 use Prim.Native.Char.{code}
 use Rattle.words.specs.Choice.{◌and◌, ◌or◌}
+use Rattle.output.specs.declared.NoRoom as no_room
 use Rattle.page.specs.Page.{Page}
 use Rattle.steps.specs.Steps.{Terminal, Stepped}
 use Rattle.steps.specs.Seen.{character_at, unprotected_at, block_here}
@@ -14,8 +15,8 @@ use Rattle.promises.specs.FeedingBack.{Receives}
 use Rattle.copy.specs.Copy.{laying}
 use Rattle.samples.specs.declared.Replies.{Replies}
 use Rattle.samples.specs.declared.ThreeReplies.{ThreeReplies}
-use Rattle.samples.specs.declared.Copy.{Copy}
-use Rattle.samples.specs.declared.Copy.TheVariants.{Made, NotSent}
+use Rattle.samples.specs.declared.NotKept.{NotKept}
+use Rattle.samples.specs.declared.NotKept.TheVariants.{NotSent, NoRoom}
 use Rattle.samples.specs.declared.Copied.{Copied}
 
 -- Demand 2, cutting: host bytes in two reads, each with an output of its own. The page between them is the first
@@ -86,12 +87,16 @@ all_answered replies =
 
 -- What is laid where all were given 0; else nothing is.
 pub record Left : Type 0 where
-  pub copy : Copy
+  pub copy : Result ℕ NotKept
   pub output : List ℕ
 
+abbrev pub kept : Result ℕ no_room.NoRoom → Result ℕ NotKept
+kept (Ok bytes) = Ok bytes
+kept (Err refusal) = Err NoRoom
+
 unfoldable pub copying : Bool → List ℕ → List ℕ → Left
-copying true bytes lent = record { copy = Made (laying bytes lent).answer; output = (laying bytes lent).output }
-copying false bytes lent = record { copy = NotSent; output = lent }
+copying true bytes lent = record { copy = kept (laying bytes lent).answer; output = (laying bytes lent).output }
+copying false bytes lent = record { copy = Err NotSent; output = lent }
 
 -- The bytes that the host laid are the full block of the page as it then stands.
 pub record CopyKept

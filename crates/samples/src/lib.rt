@@ -3,13 +3,16 @@
 // What the contracts say is in specs/Samples.antt; what they rest on is proved in `promises`.
 #![tactic(auto)]
 
-ghost use Rattle.std.specs.Prelude.{◌≤◌, ◌≡◌, eqb, length, take, drop};
+ghost use Rattle.std.specs.Prelude.{◌≤◌, ◌≡◌, true, eqb, length, take, drop};
 ghost use Rattle.page.specs.Page.{page_of};
 ghost use Rattle.terminal.specs.Answers.{given, number_of};
-ghost use Rattle.samples.specs.Samples.{InTwoReads, SentOn, all_answered, ThreeCalls, CopyKept};
+ghost use Rattle.blocks.specs.Lay.{lay};
+ghost use Rattle.copy.specs.Copy.{IsBlock};
+ghost use Rattle.samples.specs.Samples.{InTwoReads, SentOn, all_answered, ThreeCalls, copying, CopyKept};
+ghost use Rattle.samples.specs.declared.NotKept.TheVariants as not_kept;
 ghost use Rattle.steps.specs.Steps.{terminal_of};
 
-use copy::Laid;
+use output::NoRoom;
 use page::Mark;
 use state::State;
 use terminal::{Answer, Reply};
@@ -30,10 +33,7 @@ fn place_of_cut(bytes: &[u8], cut: usize) -> usize
         × (take result bytes.now ≡ take cut bytes.now)
         × (drop result bytes.now ≡ drop cut bytes.now) }
 {
-    if cut <= bytes.len() {
-        return cut;
-    }
-    bytes.len()
+    cut.min(bytes.len())
 }
 
 // Host bytes, cut anywhere, in two calls.
@@ -98,42 +98,38 @@ pub struct ThreeReplies {
     pub later: Reply,
 }
 
-// What became of the host's copy: it was laid, or one of the calls was refused.
-#[derive(Clone, Copy)]
-pub enum Copy {
-    Made(Laid),
+// Why the host has no copy: one of the calls was refused, or what is laid doesn't fit.
+#[derive(Clone, Copy, Debug, PartialEq, Eq)]
+pub enum NotKept {
     NotSent,
+    NoRoom,
 }
 
+impl From<NoRoom> for NotKept {
+    ghost from_gives = { λ _ error. error ≡ not_kept.NoRoom };
+
+    fn from(_: NoRoom) -> Self {
+        NotKept::NoRoom
+    }
+}
+
+// And what became of the host's copy: how many bytes were laid.
 #[derive(Clone, Copy)]
 pub struct Copied {
     pub replies: ThreeReplies,
-    pub copy: Copy,
+    pub copy: Result<usize, NotKept>,
 }
 
 fn is_done(reply: Reply) -> bool
     ensures { result ≡ eqb (number_of reply.answer) 0 }
 {
-    let answer = reply.answer;
-    match answer {
-        Answer::Done => true,
-        _ => false,
-    }
+    matches!(reply.answer, Answer::Done)
 }
 
 fn all_done(replies: ThreeReplies) -> bool
     ensures { result ≡ all_answered replies }
 {
-    let full = replies.full;
-    if !is_done(full) {
-        return false;
-    }
-    let typed = replies.typed;
-    if !is_done(typed) {
-        return false;
-    }
-    let later = replies.later;
-    is_done(later)
+    is_done(replies.full) && is_done(replies.typed) && is_done(replies.later)
 }
 
 // A full block, one key, and the block that 266 sends, each into an output of its own.
@@ -164,6 +160,31 @@ fn call_three(
     }
 }
 
+// What 266 sent, laid over what ESC S sent, where no call was refused.
+fn lay_later(
+    replies: ThreeReplies,
+    full: &[u8],
+    later: &[u8],
+    copy: &mut [u8],
+) -> Result<usize, NotKept>
+    requires sent { (replies.full.sent ≤ length full.now) × (replies.later.sent ≤ length later.now) }
+    requires blocks { all_answered replies ≡ true →
+        IsBlock (take replies.later.sent later.now) × IsBlock (take replies.full.sent full.now) }
+    ensures { record { copy = result; output = copy.new }
+        ≡ copying (all_answered replies)
+        (lay (take replies.later.sent later.now) (take replies.full.sent full.now)) copy.old }
+{
+    if !all_done(replies) {
+        return Err(NotKept::NotSent);
+    }
+    let bytes = copy::lay(
+        &later[..replies.later.sent],
+        &full[..replies.full.sent],
+        copy,
+    )?;
+    Ok(bytes)
+}
+
 // A full block, one key, and the block that 266 sends, which is laid over the full one: the host's copy.
 pub fn keep_copy(
     state: State,
@@ -182,17 +203,6 @@ pub fn keep_copy(
         full.new typed.new later.new copy.new }
 {
     let replies = call_three(state, characters, marks, key, full, typed, later);
-    if !all_done(replies) {
-        return Copied {
-            replies,
-            copy: Copy::NotSent,
-        };
-    }
-    let full_sent = replies.full.sent;
-    let later_sent = replies.later.sent;
-    let laid = copy::lay(&later[..later_sent], &full[..full_sent], copy);
-    Copied {
-        replies,
-        copy: Copy::Made(laid),
-    }
+    let copy = lay_later(replies, full, later, copy);
+    Copied { replies, copy }
 }

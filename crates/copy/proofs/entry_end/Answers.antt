@@ -1,4 +1,4 @@
-use mathlib.Core.Path.{refl, sym, ◌∙◌}
+use mathlib.Core.Path.{refl}
 use native.Mathlib.Omega.{arith}
 use Rattle.copy.specs.Copy.{entry_end}
 use Rattle.copy.proofs.Finding.{ends_here, goes_on, ends_with_bytes}

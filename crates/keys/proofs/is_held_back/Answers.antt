@@ -12,6 +12,6 @@ pub returns-then-key-eq266 : goal.returns-then-key-eq266
 unfolding is_held_back
 returns-then-key-eq266 c = c.has_left_blank.ensures ∙ sym (first_decides _ _ (eq-eqb _ 266 c.if-key-eq266.true))
 
-pub returns : goal.returns
+pub returns-else-key-eq266 : goal.returns-else-key-eq266
 unfolding is_held_back
-returns c = sym (first_fails _ _ (ne_eqb _ 266 c.if-key-eq266.false))
+returns-else-key-eq266 c = let other = ne_eqb _ 266 c.if-key-eq266.false in other ∙ sym (first_fails _ _ other)

@@ -6,6 +6,6 @@ pub returns-then-state : goal.returns-then-state
 unfolding is_locked ◌or◌
 returns-then-state c = rw c.if-state.true
 
-pub returns : goal.returns
+pub returns-else-state : goal.returns-else-state
 unfolding is_locked ◌or◌
-returns c = rw c.if-state.false
+returns-else-state c = rw c.if-state.false

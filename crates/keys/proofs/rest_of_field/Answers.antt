@@ -11,4 +11,4 @@ field_end-end-requires c = (found c.requires c.place-place.ensures).inside
 pub returns : goal.returns
 returns c =
     let here = found c.requires c.place-place.ensures in
-    λ i. record { from = here.cell i; end = end_is here c.field_end-end.ensures i }
+    λ i. record { start = here.cell i; end = end_is here c.field_end-end.ensures i }
