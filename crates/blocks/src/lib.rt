@@ -117,8 +117,8 @@ fn put_block(
     output::put_byte(out, next, 0x03)
 }
 
-// Sends a block into the room left in the output, clears modified, and says how many bytes the block has; where there is
-// too little room nothing happens.
+// Sends a block into the room left in the output, clears modified, and says how many bytes the block has; where there
+// is too little room nothing happens.
 pub fn write_block(
     out: &mut [u8],
     at: usize,

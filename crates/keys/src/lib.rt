@@ -99,8 +99,8 @@ fn takes_here(state: State, characters: &[u8], marks: &[Mark], character: u8) ->
     page::takes(page::mark_at(marks, state.place().cell), character)
 }
 
-// Whether the cells that 264 closes up take what comes to them. (It and the next differ in the page's function alone, as
-// the two that shift do; a parameter for that would have to repeat its contract.)
+// Whether the cells that 264 closes up take what comes to them. (It and the next differ in the page's function alone,
+// as the two that shift do; a parameter for that would have to repeat its contract.)
 fn takes_deleting(state: State, characters: &[u8], marks: &[Mark]) -> bool
     requires { Valid (terminal_of state characters.now marks.now) }
     ensures { result ≡ takes_from_right
