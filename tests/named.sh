@@ -1,6 +1,6 @@
 #!/usr/bin/env bash
 # Every name that docs/ and the README put in backticks is there: a file, a function of the crate that it names, or else a word of
-# the code, of a definition or of a test.
+# the code, of a definition or of a test. Two pages tell what was, as docs/landings do: old names stand there beside new ones.
 set -u
 . tests/tools/debian.sh
 need git || exit 2
@@ -23,5 +23,5 @@ while IFS=: read -r file name; do
         printf '%s: `%s` is nowhere in the repository\n' "$file" "$name"
         bad=1
     }
-done < <(grep -oE '`[A-Za-z][A-Za-z0-9_:/.*-]*`' docs/*.md README.md | tr -d '`' | sort -u)
+done < <(grep -oE '`[A-Za-z][A-Za-z0-9_:/.*-]*`' docs/*.md README.md | grep -vE '^docs/(PORT|DESIGN-PASS)\.md:' | tr -d '`' | sort -u)
 exit $bad

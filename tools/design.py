@@ -109,7 +109,7 @@ def point_1(files):
                 where = body.index(arms)
                 inside = body[where:closing(body, body.index('{', where))]
                 if len(re.findall(r"(?:^|[\s|])(?:0x[0-9A-F]+|\d+|b'.')\s*(?=[|=])", inside)) > 1:
-                    yield name, function, 'a match on numbers or bytes'
+                    yield name, function, 'no place: a match on numbers or bytes from outside'
 
 
 def point_2(files):
@@ -204,7 +204,8 @@ def main():
     files = [(n, without_comments(t)) for n, t in sources(commits[0] if commits else None)]
     for point in points:
         places = list(globals()[f'point_{point}'](files))
-        print(f'point {point}: {len(places)}')
+        apart = sum(seen.startswith('no place: ') for _, _, seen in places)
+        print(f'point {point}: {len(places) - apart}' + (f', and {apart} that are none' if apart else ''))
         for name, what, seen in places:
             print(f'    {name.replace("crates/", "").replace("/src", "")} {what}: {seen}')
 
