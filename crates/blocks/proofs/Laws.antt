@@ -13,6 +13,7 @@ use Rattle.page.specs.Marks.{unprotected}
 use Rattle.page.specs.Page.{Page, cells}
 use Rattle.places.specs.declared.Place.{Place}
 use Rattle.places.specs.Places.{place_of}
+use Rattle.places.proofs.Counting.{right}
 use Rattle.fields.specs.Fields.{Field, starts_field, field_end, field_from, fields_from, fields_of}
 use Rattle.fields.proofs.Bounds.{end_of_lem}
 use Rattle.blocks.specs.Blocks.{head_bytes, entry_bytes, entry_of, encode, is_in_block, entries_sent, block, bytes_at}
@@ -22,9 +23,9 @@ use Rattle.blocks.proofs.Claims.{Whole}
 pub end_bounds : (is_unprotected : ℕ → Bool) (cells cell : ℕ) → cell < cells → (cell < field_end is_unprotected cells cell) × (field_end is_unprotected cells cell ≤ cells)
 end_bounds is_unprotected cells cell h = let end = end_of_lem is_unprotected cells cell h in (end.high, end.on_page)
 
--- What the block has for a place that was counted right.
-module _ (full : Bool) (columns : ℕ) (page : Page) (place : Place) (right : place ≡ place_of columns place.cell) where
-  pub unstarted : starts_field (unprotected page.marks) place.cell ≡ false → bytes_at full columns page place.cell ≡ []
+-- What the block has for a place.
+module _ (full : Bool) (page : Page) (place : Place) where
+  pub unstarted : starts_field (unprotected page.marks) place.cell ≡ false → bytes_at full place.columns page place.cell ≡ []
   unfolding bytes_at
   unstarted none = else_case _ _ _ (first_fails _ _ none)
 
@@ -36,20 +37,20 @@ module _ (full : Bool) (columns : ℕ) (page : Page) (place : Place) (right : pl
     same_field : is_in_block full page.marks (record { start = place.cell; length = end - place.cell }) ≡ is_in_block full page.marks (field_from (unprotected page.marks) (cells page) place.cell)
     same_field = rw is_end
 
-    pub unsent : is_in_block full page.marks (record { start = place.cell; length = end - place.cell }) ≡ false → bytes_at full columns page place.cell ≡ []
+    pub unsent : is_in_block full page.marks (record { start = place.cell; length = end - place.cell }) ≡ false → bytes_at full place.columns page place.cell ≡ []
     unfolding bytes_at
     unsent none = else_case _ _ _ (second_fails _ _ (sym same_field ∙ none))
 
-    pub sent_is : starts_field (unprotected page.marks) place.cell ≡ true → is_in_block full page.marks (record { start = place.cell; length = end - place.cell }) ≡ true → bytes_at full columns page place.cell ≡ head_bytes place.row place.column ++ take (end - place.cell) (drop place.cell page.characters)
+    pub sent_is : starts_field (unprotected page.marks) place.cell ≡ true → is_in_block full page.marks (record { start = place.cell; length = end - place.cell }) ≡ true → bytes_at full place.columns page place.cell ≡ head_bytes place.row place.column ++ take (end - place.cell) (drop place.cell page.characters)
     unfolding bytes_at entry_bytes entry_of
     sent_is starts sent =
         then_case _ _ _ (both_hold _ _ starts (sym same_field ∙ sent))
         ∙ (λ i. head_bytes (right⁻ i).row (right⁻ i).column ++ take (sym is_end i - place.cell) (drop place.cell page.characters))
       where
-        right⁻ : place_of columns place.cell ≡ place
-        right⁻ = sym right
+        right⁻ : place_of place.columns place.cell ≡ place
+        right⁻ = sym (right place)
 
-    pub sent_length : place.cell < cells page → starts_field (unprotected page.marks) place.cell ≡ true → is_in_block full page.marks (record { start = place.cell; length = end - place.cell }) ≡ true → length (bytes_at full columns page place.cell) ≡ length (head_bytes place.row place.column) + (end - place.cell)
+    pub sent_length : place.cell < cells page → starts_field (unprotected page.marks) place.cell ≡ true → is_in_block full page.marks (record { start = place.cell; length = end - place.cell }) ≡ true → length (bytes_at full place.columns page place.cell) ≡ length (head_bytes place.row place.column) + (end - place.cell)
     sent_length here starts sent =
         let bounds = end_bounds (unprotected page.marks) (cells page) place.cell here in
         let on_page : end ≤ cells page = omega (arith, is_end) in

@@ -5,7 +5,6 @@
 ghost use Rattle.std.specs.Prelude.{◌≡◌, List, ℕ, ◌+◌, ◌-◌, ◌*◌, ◌<◌, ◌≤◌, leb, length};
 ghost use Rattle.words.specs.Output.{Wrote};
 ghost use Rattle.page.specs.Page.{page_of};
-ghost use Rattle.places.specs.Places.{Counted};
 ghost use Rattle.blocks.specs.Blocks.{is_in_block, bytes_at, block, writing_block};
 
 use output::NoRoom;
@@ -22,11 +21,10 @@ fn is_in_block(marks: &[Mark], full: bool, from: usize, to: usize) -> bool
 
 // How many bytes the block has for a cell:
 // no more than a page's 7,680 cells and the 10 bytes of a place, so that the sum fits.
-fn length_at(marks: &[Mark], place: Place, columns: usize, full: bool) -> usize
-    requires counted { Counted columns place }
-    requires cell_in_bounds { (place.cell < length marks.now) × (length marks.now ≤ 7680) }
+fn length_at(marks: &[Mark], place: Place, full: bool) -> usize
+    requires { (place.cell < length marks.now) × (length marks.now ≤ 7680) }
     ensures by_index { (characters : List ℕ) → length characters ≡ length marks.now →
-        result ≡ length (bytes_at full columns (page_of characters marks.now) place.cell) }
+        result ≡ length (bytes_at full place.columns (page_of characters marks.now) place.cell) }
     ensures upper_bound { result ≤ 7690 }
 {
     if !fields::starts_field(marks, place.cell) {
@@ -41,13 +39,13 @@ fn length_at(marks: &[Mark], place: Place, columns: usize, full: bool) -> usize
 
 // How many bytes the block has.
 pub fn block_length(marks: &[Mark], columns: usize, full: bool) -> usize
-    requires { (0 < columns) × (length marks.now ≤ 7680) }
+    requires { length marks.now ≤ 7680 }
     ensures { (characters : List ℕ) → length characters ≡ length marks.now →
         result ≡ length (block full columns (page_of characters marks.now)) }
 {
     let mut total = 1;
-    for place in Place::first(columns).onward(columns, marks.len()) {
-        total += length_at(marks, place, columns, full);
+    for place in Place::first(columns).onward(marks.len()) {
+        total += length_at(marks, place, full);
     }
     total
 }
@@ -71,16 +69,14 @@ fn put_at(
     characters: &[u8],
     marks: &[Mark],
     place: Place,
-    columns: usize,
     full: bool,
 ) -> usize
-    requires counted { Counted columns place }
-    requires columns_bound { (columns ≤ 160) × (place.cell < length marks.now) × (length marks.now ≤ 48 * columns) ×
-        (length characters.now ≡ length marks.now) }
-    requires cell_in_bounds { at + length (bytes_at full columns (page_of characters.now marks.now) place.cell)
+    requires columns_bound { (place.columns ≤ 160) × (place.cell < length marks.now) ×
+        (length marks.now ≤ 48 * place.columns) × (length characters.now ≡ length marks.now) }
+    requires cell_in_bounds { at + length (bytes_at full place.columns (page_of characters.now marks.now) place.cell)
         ≤ length out.old }
     ensures { Wrote at
-        (bytes_at full columns (page_of characters.now marks.now) place.cell)
+        (bytes_at full place.columns (page_of characters.now marks.now) place.cell)
         out.old result out.new }
 {
     if !fields::starts_field(marks, place.cell) {
@@ -111,8 +107,8 @@ fn put_block(
         out.old result out.new }
 {
     let mut next = at;
-    for place in Place::first(columns).onward(columns, characters.len()) {
-        next = put_at(out, next, characters, marks, place, columns, full);
+    for place in Place::first(columns).onward(characters.len()) {
+        next = put_at(out, next, characters, marks, place, full);
     }
     output::put_byte(out, next, 0x03)
 }

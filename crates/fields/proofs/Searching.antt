@@ -13,7 +13,7 @@ use Rattle.places.specs.Places.{place_of}
 use Rattle.places.specs.declared.Place.{Place}
 use Rattle.std.specs.Prelude.{Option, Some, None}
 use Rattle.fields.specs.Fields.{Field, starts_field, field_from, fields_from, fields_of}
-use Rattle.fields.specs.Searches.{or_else, first_field, last_field, first_after, last_before, first_unprotected_from}
+use Rattle.fields.specs.Searches.{or_else, first_field, last_field, first_after, last_before, next_field, first_unprotected_from, first_unprotected, next_unprotected}
 use Rattle.fields.proofs.Claims.{end_of, InOrder, none, one_more, StartsAt, Passes, First, Last, Finds, found, nothing, GoesRound, Lands, on_cell, not_found}
 use Rattle.fields.proofs.Listing.{listed_starts, start_listed, in_order}
 
@@ -174,3 +174,18 @@ module _ (columns : ℕ) where
         (λ k s. let w = by_cell is_unprotected cells cells 0 cells (omega arith) k s.0 in (w.0, s.1, w.2))
         (λ k w. (by_field is_unprotected cells cells 0 cells (omega arith) k (w.0, omega (arith, w.1), w.2), w.1))
         (last_before_lem cell (in_order is_unprotected cells cells 0 (omega arith))))
+
+  -- A search of fields is one of the cells at which they start; and so is the one that goes round.
+  module _ (is_unprotected : ℕ → Bool) (cells : ℕ) where
+    fields_by_cells : (from n : ℕ) → cells ≡ from + n → first_unprotected_from (starts_field is_unprotected) columns from n ≡ first_field columns (fields_from is_unprotected cells from n)
+    fields_by_cells from n all =
+        one_first (first_unprotected_lem (starts_field is_unprotected) n from cells all)
+        (first_start is_unprotected cells n from cells all (omega arith))
+
+    pub round_by_cells : (cell : ℕ) → cell < cells → next_unprotected (starts_field is_unprotected) columns cells cell ≡ next_field columns cell (fields_of is_unprotected cells)
+    unfolding next_unprotected first_unprotected next_field fields_of
+    round_by_cells cell here =
+        let more = fields_by_cells (cell + 1) (cells - (cell + 1)) (omega arith) in
+        let after = more ∙ after_is is_unprotected cells cell (cell + 1) refl (omega arith) in
+        let round = fields_by_cells 0 cells (omega arith) in
+        λ i. or_else (after i) (round i)

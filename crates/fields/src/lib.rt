@@ -3,7 +3,7 @@
 #![tactic(auto)]
 
 ghost use Rattle.std.specs.Prelude.{◌≡◌, Bool, ℕ, ◌-◌, ◌*◌, ◌<◌, ◌≤◌, length};
-ghost use Rattle.places.specs.Places.{place_of, Counted};
+ghost use Rattle.places.specs.Places.{place_of};
 ghost use Rattle.words.specs.Choice.{◌and◌};
 ghost use Rattle.words.specs.Lists.{some};
 ghost use Rattle.page.specs.Marks.{unprotected};
@@ -34,15 +34,14 @@ pub fn starts_field(marks: &[Mark], cell: usize) -> bool
 }
 
 // The first cell of the field that has the cell.
-pub fn field_start(marks: &[Mark], place: Place, columns: usize) -> Place
-    requires counted { Counted columns place }
-    requires cell_in_bounds { place.cell < length marks.now }
-    ensures { result ≡ place_of columns (field_start (unprotected marks.now) place.cell) }
+pub fn field_start(marks: &[Mark], place: Place) -> Place
+    requires { place.cell < length marks.now }
+    ensures { result ≡ place_of place.columns (field_start (unprotected marks.now) place.cell) }
 {
     // A while: what it asks is where it stops, and no number is counted.
     let mut here = place;
     while is_joined(marks, here.cell) {
-        here = here.back(columns);
+        here = here.back();
     }
     here
 }
@@ -64,15 +63,14 @@ pub fn field_end(marks: &[Mark], cell: usize) -> usize
 }
 
 // The first cell at the place or after it that passes the test; the place may be one past the page.
-fn seek<F: Fn(usize) -> bool>(cells: usize, place: Place, columns: usize, test: F) -> Option<Place>
-    requires counted { Counted columns place }
+fn seek<F: Fn(usize) -> bool>(cells: usize, place: Place, test: F) -> Option<Place>
     requires on_page { (place.cell ≤ cells) × (cells ≤ 7680) }
     requires callable { (cell : ℕ) → cell < cells → F.pre test cell }
     ensures { (passes : ℕ → Bool) →
         ((cell : ℕ) (answer : Bool) → cell < cells → F.post test cell answer → answer ≡ passes cell) →
-        result ≡ first_unprotected_from passes columns place.cell (cells - place.cell) }
+        result ≡ first_unprotected_from passes place.columns place.cell (cells - place.cell) }
 {
-    for here in place.onward(columns, cells) {
+    for here in place.onward(cells) {
         if test(here.cell) {
             return Some(here);
         }
@@ -80,33 +78,39 @@ fn seek<F: Fn(usize) -> bool>(cells: usize, place: Place, columns: usize, test: 
     None
 }
 
-// The first field that starts at the place or after it; the place may be one past the page.
-fn seek_field(marks: &[Mark], place: Place, columns: usize) -> Option<Place>
-    requires counted { Counted columns place }
-    requires cell_in_bounds { (place.cell ≤ length marks.now) × (length marks.now ≤ 7680) }
-    ensures { result ≡ first_field columns
-        (fields_from (unprotected marks.now) (length marks.now)
-        place.cell (length marks.now - place.cell)) }
+// The first cell of the page that passes the test.
+fn seek_first<F: Fn(usize) -> bool>(cells: usize, columns: usize, test: F) -> Option<Place>
+    requires on_page { cells ≤ 7680 }
+    requires callable { (cell : ℕ) → cell < cells → F.pre test cell }
+    ensures { (passes : ℕ → Bool) →
+        ((cell : ℕ) (answer : Bool) → cell < cells → F.post test cell answer → answer ≡ passes cell) →
+        result ≡ first_unprotected passes columns cells }
 {
-    seek(
-        marks.len(),
-        place,
-        columns,
-        |cell| starts_field(marks, cell),
-    )
+    seek(cells, Place::first(columns), test)
+}
+
+// The first cell after the place that passes the test, else the first of the page.
+fn seek_round<F: Fn(usize) -> bool + Copy>(cells: usize, place: Place, test: F) -> Option<Place>
+    requires on_page { (place.cell < cells) × (cells ≤ 7680) }
+    requires callable { (cell : ℕ) → cell < cells → F.pre test cell }
+    ensures { (passes : ℕ → Bool) →
+        ((cell : ℕ) (answer : Bool) → cell < cells → F.post test cell answer → answer ≡ passes cell) →
+        result ≡ next_unprotected passes place.columns cells place.cell }
+{
+    let after = seek(cells, place.next(), test);
+    after.or_else(|| seek_first(cells, place.columns, test))
 }
 
 // The last field that starts before the place; the place may be one past the page.
-fn seek_field_back(marks: &[Mark], place: Place, columns: usize) -> Option<Place>
-    requires counted { Counted columns place }
-    requires cell_in_bounds { (place.cell ≤ length marks.now) × (length marks.now ≤ 7680) }
-    ensures { result ≡ last_field columns
+fn seek_field_back(marks: &[Mark], place: Place) -> Option<Place>
+    requires { place.cell ≤ length marks.now }
+    ensures { result ≡ last_field place.columns
         (fields_from (unprotected marks.now) (length marks.now) 0 place.cell) }
 {
     // A while: an iterator back over a page would serve this one search.
     let mut here = place;
     while 0 < here.cell {
-        here = here.back(columns);
+        here = here.back();
         if starts_field(marks, here.cell) {
             return Some(here);
         }
@@ -114,76 +118,53 @@ fn seek_field_back(marks: &[Mark], place: Place, columns: usize) -> Option<Place
     None
 }
 
-// The first unprotected cell at the place or after it; the place may be one past the page.
-fn seek_unprotected(marks: &[Mark], place: Place, columns: usize) -> Option<Place>
-    requires counted { Counted columns place }
-    requires cell_in_bounds { (place.cell ≤ length marks.now) × (length marks.now ≤ 7680) }
-    ensures { result ≡ first_unprotected_from (unprotected marks.now) columns
-        place.cell (length marks.now - place.cell) }
+// The last field of the page.
+fn last_field(marks: &[Mark], rows: usize, columns: usize) -> Option<Place>
+    requires { (0 < length marks.now) × (rows ≤ 48) × (columns ≤ 160) × (length marks.now ≡ rows * columns) }
+    ensures { result ≡ last_field columns (fields_of (unprotected marks.now) (length marks.now)) }
 {
-    seek(
+    seek_field_back(marks, Place::end(rows, columns))
+}
+
+// Key 260: the first field that starts after the place, else the first.
+pub fn next_field(marks: &[Mark], place: Place) -> Option<Place>
+    requires { (place.cell < length marks.now) × (length marks.now ≤ 7680) }
+    ensures { result ≡ next_field place.columns place.cell
+        (fields_of (unprotected marks.now) (length marks.now)) }
+{
+    seek_round(marks.len(), place, |cell| starts_field(marks, cell))
+}
+
+// Key 261: the last field that starts before the place, else the last.
+pub fn previous_field(marks: &[Mark], place: Place, rows: usize) -> Option<Place>
+    requires { (place.cell < length marks.now) × (rows ≤ 48) × (place.columns ≤ 160) ×
+        (length marks.now ≡ rows * place.columns) }
+    ensures { result ≡ previous_field place.columns place.cell
+        (fields_of (unprotected marks.now) (length marks.now)) }
+{
+    let before = seek_field_back(marks, place);
+    before.or_else(|| last_field(marks, rows, place.columns))
+}
+
+// Key 262: the first unprotected cell of the page.
+pub fn first_unprotected(marks: &[Mark], columns: usize) -> Option<Place>
+    requires { length marks.now ≤ 7680 }
+    ensures { result ≡ first_unprotected (unprotected marks.now) columns (length marks.now) }
+{
+    seek_first(
         marks.len(),
-        place,
         columns,
         |cell| page::is_unprotected(marks, cell),
     )
 }
 
-// The first field of the page, and the last.
-fn first_field(marks: &[Mark], columns: usize) -> Option<Place>
-    requires { (0 < columns) × (length marks.now ≤ 7680) }
-    ensures { result ≡ first_field columns (fields_of (unprotected marks.now) (length marks.now)) }
-{
-    seek_field(marks, Place::first(columns), columns)
-}
-
-fn last_field(marks: &[Mark], rows: usize, columns: usize) -> Option<Place>
-    requires { (0 < columns) × (rows ≤ 48) × (columns ≤ 160) × (length marks.now ≡ rows * columns) }
-    ensures { result ≡ last_field columns (fields_of (unprotected marks.now) (length marks.now)) }
-{
-    seek_field_back(marks, Place::end(rows, columns), columns)
-}
-
-// Key 260: the first field that starts after the place, else the first.
-pub fn next_field(marks: &[Mark], place: Place, columns: usize) -> Option<Place>
-    requires counted { Counted columns place }
-    requires cell_in_bounds { (place.cell < length marks.now) × (length marks.now ≤ 7680) }
-    ensures { result ≡ next_field columns place.cell
-        (fields_of (unprotected marks.now) (length marks.now)) }
-{
-    let after = seek_field(marks, place.next(columns), columns);
-    after.or_else(|| first_field(marks, columns))
-}
-
-// Key 261: the last field that starts before the place, else the last.
-pub fn previous_field(marks: &[Mark], place: Place, rows: usize, columns: usize) -> Option<Place>
-    requires counted { Counted columns place }
-    requires cell_in_bounds { (place.cell < length marks.now) × (rows ≤ 48) × (columns ≤ 160) ×
-        (length marks.now ≡ rows * columns) }
-    ensures { result ≡ previous_field columns place.cell
-        (fields_of (unprotected marks.now) (length marks.now)) }
-{
-    let before = seek_field_back(marks, place, columns);
-    before.or_else(|| last_field(marks, rows, columns))
-}
-
-// Key 262: the first unprotected cell of the page.
-pub fn first_unprotected(marks: &[Mark], columns: usize) -> Option<Place>
-    requires { (0 < columns) × (length marks.now ≤ 7680) }
-    ensures { result ≡ first_unprotected (unprotected marks.now) columns (length marks.now) }
-{
-    seek_unprotected(marks, Place::first(columns), columns)
-}
-
 // Where the cursor goes after a typed character: the next unprotected cell, going round the page.
-pub fn next_unprotected(marks: &[Mark], place: Place, columns: usize) -> Option<Place>
-    requires counted { Counted columns place }
-    requires cell_in_bounds { (place.cell < length marks.now) × (length marks.now ≤ 7680) }
+pub fn next_unprotected(marks: &[Mark], place: Place) -> Option<Place>
+    requires { (place.cell < length marks.now) × (length marks.now ≤ 7680) }
     ensures { result
-        ≡ next_unprotected (unprotected marks.now) columns (length marks.now) place.cell }
+        ≡ next_unprotected (unprotected marks.now) place.columns (length marks.now) place.cell }
 {
-    let after = seek_unprotected(marks, place.next(columns), columns);
-    after.or_else(|| first_unprotected(marks, columns))
+    seek_round(marks.len(), place, |cell| page::is_unprotected(marks, cell))
 }
 
 // M-107: whether a field has a required cell and holds nothing but 20s.

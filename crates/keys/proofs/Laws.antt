@@ -15,8 +15,8 @@ use Rattle.words.proofs.Passing.{passes, every_passes}
 use Rattle.page.specs.Marks.{is_protected, unprotected}
 use Rattle.page.specs.Page.{Page, part_stored}
 use Rattle.places.specs.declared.Place.{Place}
-use Rattle.places.specs.Places.{place_of, Counted}
-use Rattle.places.proofs.Counting.{cell_is, counted}
+use Rattle.places.specs.Places.{place_of}
+use Rattle.places.proofs.Counting.{cell_is, columns_are}
 use Rattle.fields.specs.Fields.{Field, field_start, field_end, fields_of}
 use Rattle.fields.proofs.Bounds.{start_of, end_of_lem}
 use Rattle.fields.proofs.Claims.{Lists, ◌has◌}
@@ -31,7 +31,7 @@ use Rattle.steps.proofs.Measuring.{measured}
 -- The cursor's place, as the code finds it on a valid terminal.
 pub record Found (t : Terminal) (place : Place) : Type 0 where
   pub cell : place.cell ≡ cursor_cell t.state
-  pub counted : Counted t.state.size.columns place
+  pub columns : place.columns ≡ t.state.size.columns
   pub inside : place.cell < length t.page.marks
   pub most : length t.page.marks ≤ 7680
   pub as_many : length t.page.marks ≡ cells_here t
@@ -42,7 +42,7 @@ found valid is =
     let here = cell_is _ _ is in
     record {
       cell = here;
-      counted = counted _ known.some_columns is (omega arith);
+      columns = columns_are _ _ is;
       inside = omega arith;
       most = known.most;
       as_many = known.as_many;
@@ -81,7 +81,7 @@ rest_shifted_lem t change is_unprotected stored left =
 
 module _ {t : Terminal} {place : Place} (here : Found t place) where
   -- The start of the cursor's field.
-  module _ {start : Place} (is : start ≡ place_of t.state.size.columns (field_start (unprotected t.page.marks) place.cell)) where
+  module _ {start : Place} (is : start ≡ place_of place.columns (field_start (unprotected t.page.marks) place.cell)) where
     pub starts_before : start.cell ≤ place.cell
     starts_before =
         let bounds = start_of (unprotected t.page.marks) place.cell in
@@ -89,7 +89,7 @@ module _ {t : Terminal} {place : Place} (here : Found t place) where
         omega arith
 
     pub start_is : start ≡ place_of t.state.size.columns (start_here t)
-    start_is = is ∙ ap (λ (cell : ℕ). place_of t.state.size.columns (field_start (unprotected t.page.marks) cell)) here.cell
+    start_is = is ∙ (λ i. place_of (here.columns i) (field_start (unprotected t.page.marks) (here.cell i)))
 
   -- Its end. The code asks the marks for it; the page has as many cells.
   module _ {end : ℕ} (is : end ≡ field_end (unprotected t.page.marks) (length t.page.marks) place.cell) where

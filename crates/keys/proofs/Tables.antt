@@ -12,7 +12,7 @@ use Rattle.page.specs.Page.{part_stored, mark_after_block}
 use Rattle.page.proofs.Keeping.{KeepsPart, blanked_keeps, closed_up_keeps, moved_right_keeps}
 use Rattle.page.proofs.Protecting.{typed_modified, tagged_modified}
 use Rattle.places.specs.Places.{place_of}
-use Rattle.places.proofs.Counting.{counted, on_rows}
+use Rattle.places.proofs.Counting.{on_rows}
 use Rattle.places.specs.declared.Place.{Place}
 use Rattle.std.specs.Prelude.{Option}
 use Rattle.fields.proofs.Claims.{Lands, on_cell, not_found}
@@ -65,7 +65,7 @@ module _ (t : Terminal) (valid : Valid t) where
   unfolding gone_to place_of
   gone_keeps_valid (on_cell cell here) =
       let known = size in
-      let place = on_rows t.state.size.rows (counted cell known.some_columns refl (omega arith)) (omega arith) in
+      let place = on_rows (place_of t.state.size.columns cell) t.state.size.rows known.some_columns (omega arith) in
       cursor_keeps_valid t.state valid.state _ _ (omega arith, place.0) (omega arith, place.1)
   gone_keeps_valid not_found = stays
 

@@ -161,7 +161,7 @@ fn type_character(state: State, characters: &mut [u8], marks: &mut [Mark], chara
         return steps::quiet(state);
     }
     let place = state.place();
-    let next = fields::next_unprotected(marks, place, state.size.columns);
+    let next = fields::next_unprotected(marks, place);
     page::store_typed(characters, marks, place.cell, character);
     steps::stored(gone_to(next, state), 1, false)
 }
@@ -172,7 +172,7 @@ fn to_next_field(state: State, characters: &[u8], marks: &[Mark]) -> Step
     ensures { told result (page_of characters.now marks.now)
         ≡ tells (to_next_field (terminal_of state characters.now marks.now)) }
 {
-    let sought = fields::next_field(marks, state.place(), state.size.columns);
+    let sought = fields::next_field(marks, state.place());
     steps::quiet(gone_to(sought, state))
 }
 
@@ -181,7 +181,7 @@ fn to_previous_field(state: State, characters: &[u8], marks: &[Mark]) -> Step
     ensures { told result (page_of characters.now marks.now)
         ≡ tells (to_previous_field (terminal_of state characters.now marks.now)) }
 {
-    let sought = fields::previous_field(marks, state.place(), state.size.rows, state.size.columns);
+    let sought = fields::previous_field(marks, state.place(), state.size.rows);
     steps::quiet(gone_to(sought, state))
 }
 
@@ -207,7 +207,7 @@ fn blank_field(state: State, characters: &mut [u8], marks: &mut [Mark]) -> Step
         return steps::quiet(state);
     }
     let place = state.place();
-    let start = fields::field_start(marks, place, state.size.columns);
+    let start = fields::field_start(marks, place);
     let end = fields::field_end(marks, place.cell);
     page::blank_cells(characters, marks, start.cell, end);
     steps::stored(

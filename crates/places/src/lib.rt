@@ -1,27 +1,31 @@
 // A cell with its row and column, counted along: a page is walked without dividing.
 #![tactic(auto)]
 
-ghost use Rattle.std.specs.Prelude.{◌≡◌, ◌+◌, ◌-◌, ◌*◌, ◌<◌, ◌≤◌};
+ghost use Rattle.std.specs.Prelude.{◌≡◌, ◌+◌, ◌-◌, ◌*◌, ◌/◌, ◌%◌, ◌<◌, ◌≤◌};
 ghost use Rattle.std.specs.Iterator.{at_most};
-ghost use Rattle.places.specs.Places.{place_of, cell_at, Counted, GivesNext};
 
+// A place of a page of so many columns.
 #[derive(Clone, Copy)]
 pub struct Place {
     pub cell: usize,
     pub row: usize,
     pub column: usize,
+    pub columns: usize,
+    pub ghost counted: { (row ≡ cell / columns + 1) × (column ≡ cell % columns + 1) },
 }
 
 impl Place {
+    ghost use Rattle.places.specs.Places.{place_of, cell_at};
+
     // The first cell of a page, 1;1.
     pub fn first(columns: usize) -> Self
-        requires { 0 < columns }
         ensures { result ≡ place_of columns 0 }
     {
         Place {
             cell: 0,
             row: 1,
             column: 1,
+            columns,
         }
     }
 
@@ -34,6 +38,7 @@ impl Place {
             cell: (row - 1) * columns + (column - 1),
             row,
             column,
+            columns,
         }
     }
 
@@ -46,56 +51,57 @@ impl Place {
             cell: rows * columns,
             row: rows + 1,
             column: 1,
+            columns,
         }
     }
 
     // The next cell in page order.
-    pub fn next(self, columns: usize) -> Self
-        requires { Counted columns self }
-        ensures { result ≡ place_of columns (self.cell + 1) }
+    pub fn next(self) -> Self
+        requires { self.cell ≤ 7680 }
+        ensures { result ≡ place_of self.columns (self.cell + 1) }
     {
-        if self.column < columns {
+        if self.column == self.columns {
             return Place {
                 cell: self.cell + 1,
-                row: self.row,
-                column: self.column + 1,
+                row: self.row + 1,
+                column: 1,
+                columns: self.columns,
             };
         }
         Place {
             cell: self.cell + 1,
-            row: self.row + 1,
-            column: 1,
+            row: self.row,
+            column: self.column + 1,
+            columns: self.columns,
         }
     }
 
     // The cell before it in page order.
-    pub fn back(self, columns: usize) -> Self
-        requires counted { Counted columns self }
-        requires cell_nonzero { 0 < self.cell }
-        ensures { result ≡ place_of columns (self.cell - 1) }
+    pub fn back(self) -> Self
+        requires { 0 < self.cell }
+        ensures { result ≡ place_of self.columns (self.cell - 1) }
     {
         if 1 < self.column {
             return Place {
                 cell: self.cell - 1,
                 row: self.row,
                 column: self.column - 1,
+                columns: self.columns,
             };
         }
         Place {
             cell: self.cell - 1,
             row: self.row - 1,
-            column: columns,
+            column: self.columns,
+            columns: self.columns,
         }
     }
-    // This place and those after it, in page order, on a page of so many columns and cells.
-    pub fn onward(self, columns: usize, cells: usize) -> Walk
-        ensures { result ≡ record { here = self; columns = columns; cells = cells } }
+
+    // This place and those after it, in page order, on a page of so many cells.
+    pub fn onward(self, cells: usize) -> Walk
+        ensures { result ≡ record { here = self; cells = cells } }
     {
-        Walk {
-            here: self,
-            columns,
-            cells,
-        }
+        Walk { here: self, cells }
     }
 }
 
@@ -103,14 +109,15 @@ impl Place {
 #[derive(Clone, Copy, Drop)]
 pub struct Walk {
     here: Place,
-    columns: usize,
     cells: usize,
 }
 
 impl Iterator for Walk {
+    ghost use Rattle.places.specs.Places.{GivesNext};
+
     type Item = Place;
 
-    ghost can_next = { λ walk. Counted walk.columns walk.here × (walk.cells ≤ 7680) };
+    ghost can_next = { λ walk. walk.cells ≤ 7680 };
 
     ghost next_gives = { GivesNext };
 
@@ -121,7 +128,7 @@ impl Iterator for Walk {
             return None;
         }
         let here = self.here;
-        self.here = here.next(self.columns);
+        self.here = here.next();
         Some(here)
     }
 }

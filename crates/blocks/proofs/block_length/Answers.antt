@@ -1,11 +1,11 @@
-use mathlib.Core.Path.{ap, ◌∙◌}
+use mathlib.Core.Path.{◌≡◌, ap, ◌∙◌}
 use mathlib.Core.List.{List}
 use Prim.Native.Nat.{ℕ, ◌+◌, ◌-◌, ◌<◌, ◌≤◌}
 use native.Mathlib.Omega.{arith}
 use lib.ListN.{length, length-append}
 use Rattle.page.specs.Page.{page_of, cells}
 use Rattle.places.specs.declared.Place.{Place}
-use Rattle.places.proofs.Walking.{sets_out_first, may_go, turn, walked}
+use Rattle.places.proofs.Walking.{sets_out_first, turn, walked}
 use Rattle.blocks.specs.Blocks.{bytes_at}
 use Rattle.blocks.proofs.Laws.{rest_from, rest_next, rest_ends, whole_block}
 use Rattle.blocks.proofs.block_length.Goals as goal
@@ -13,7 +13,7 @@ use Rattle.blocks.proofs.block_length.Goals as goal
 pub loop-place-init : goal.loop-place-init
 loop-place-init c =
     let is = c.into_iter-place-iterator.ensures.into_iter_gives ∙ c.onward-place-items.ensures in
-    let walks = sets_out_first c.requires.0 c.first.ensures is in
+    let walks = sets_out_first c.first.ensures is in
     record {
       walks = walks.0;
       bounded = omega arith;
@@ -23,18 +23,14 @@ loop-place-init c =
           omega (arith, ap rest walks.1, ap (length {A = ℕ}) (whole_block c.args.full c.args.columns page));
     }
 
-pub loop-place-init-derived : goal.loop-place-init-derived
-loop-place-init-derived c =
-    (may_go c.requires.1 (sets_out_first c.requires.0 c.first.ensures (c.into_iter-place-iterator.ensures.into_iter_gives ∙ c.onward-place-items.ensures)).0, tt)
-
 pub length_at-total-requires : goal.length_at-total-requires
 length_at-total-requires c =
-    let now = turn c.requires.1 c.loop-place.invariant.walks c.in-Some.ensures.steps in
-    record { counted = rw now.here c.loop-place.invariant.walks.known; cell_in_bounds = (rw now.here now.less, c.requires.1) }
+    let now = turn c.loop-place.invariant.walks c.in-Some.ensures.steps in
+    (rw now.here now.less, c.requires)
 
 pub loop-place-preserved : goal.loop-place-preserved
 loop-place-preserved c =
-    let now = turn c.requires.1 c.loop-place.invariant.walks c.in-Some.ensures.steps in
+    let now = turn c.loop-place.invariant.walks c.in-Some.ensures.steps in
     let cell = c.loop-place.place-iterator.here.cell in
     let place = ap (λ (p : Place). p.cell) now.here in
     let count = c.length_at-total.ensures in
@@ -46,8 +42,10 @@ loop-place-preserved c =
           let rest : ℕ → List ℕ = λ k. rest_from c.args.full c.args.columns page (cells page - k) k in
           let bytes : ℕ → List ℕ = bytes_at c.args.full c.args.columns page in
           let here : cell < cells page = omega (arith, same, now.less) in
+          let told : length (bytes_at c.args.full c.in-Some.place.columns page c.in-Some.place.cell) ≡ length (bytes cell) =
+          λ i. length (bytes_at c.args.full (now.same_columns i) page (place i)) in
           let joined = ap (length {A = ℕ}) (rest_next c.args.full c.args.columns page cell here) ∙ length-append (bytes cell) (rest (cell + 1)) in
-          omega (arith, c.loop-place.invariant.counted_off characters same, count.by_index characters same, ap (λ (k : ℕ). length (bytes k)) place, joined, ap (λ (k : ℕ). length (rest k)) now.next_cell);
+          omega (arith, c.loop-place.invariant.counted_off characters same, count.by_index characters same, told, joined, ap (λ (k : ℕ). length (rest k)) now.next_cell);
     }
 
 pub returns : goal.returns

@@ -5,14 +5,14 @@ use lib.ListN.{length}
 use Rattle.words.proofs.Output.{wrote_none, wrote_then}
 use Rattle.page.specs.Page.{page_of}
 use Rattle.page.specs.Marks.{unprotected}
-use Rattle.places.proofs.Counting.{on_rows}
+use Rattle.places.proofs.Counting.{on_rows, some_columns}
 use Rattle.blocks.proofs.Laws.{end_bounds, unstarted, unsent, sent_is, sent_length}
 use Rattle.blocks.proofs.put_at.Goals as goal
 
 pub returns-then-not-starts_field : goal.returns-then-not-starts_field
 returns-then-not-starts_field c =
     let none = sym c.starts_field.ensures ∙ c.if-not-starts_field.true in
-    rw (unstarted _ _ (page_of c.args.characters.now c.args.marks.now) _ c.requires.counted.right none) (wrote_none _ _)
+    rw (unstarted _ (page_of c.args.characters.now c.args.marks.now) c.args.place none) (wrote_none _ _)
 
 pub is_in_block-requires : goal.is_in_block-requires
 is_in_block-requires c =
@@ -21,7 +21,7 @@ is_in_block-requires c =
 pub returns-then-not-is_in_block : goal.returns-then-not-is_in_block
 returns-then-not-is_in_block c =
     let none = sym c.is_in_block.ensures ∙ c.if-not-is_in_block.true in
-    rw (unsent _ _ (page_of c.args.characters.now c.args.marks.now) _ c.requires.counted.right c.requires.columns_bound.3 _ c.field_end-end.ensures none) (wrote_none _ _)
+    rw (unsent _ (page_of c.args.characters.now c.args.marks.now) c.args.place c.requires.columns_bound.3 _ c.field_end-end.ensures none) (wrote_none _ _)
 
 pub put_place-next-requires : goal.put_place-next-requires
 put_place-next-requires c =
@@ -29,8 +29,8 @@ put_place-next-requires c =
     let marks = c.args.marks.now in
     let starts = sym c.starts_field.ensures ∙ c.if-not-starts_field.false in
     let sent = sym c.is_in_block.ensures ∙ c.if-not-is_in_block.false in
-    let size = sent_length c.args.full _ (page_of c.args.characters.now marks) _ c.requires.counted.right c.requires.columns_bound.3 _ c.field_end-end.ensures (omega arith) starts sent in
-    omega (arith, on_rows 48 c.requires.counted (omega arith))
+    let size = sent_length c.args.full (page_of c.args.characters.now marks) place c.requires.columns_bound.3 _ c.field_end-end.ensures (omega arith) starts sent in
+    omega (arith, on_rows place 48 (some_columns 48 place.columns (omega arith)) (omega arith))
 
 pub slice_bounds-put_all-count : goal.slice_bounds-put_all-count
 slice_bounds-put_all-count c = omega (arith, end_bounds (unprotected c.args.marks.now) (length c.args.marks.now) c.args.place.cell c.requires.columns_bound.1)
@@ -47,7 +47,7 @@ put_all-requires c =
     let marks = c.args.marks.now in
     let starts = sym c.starts_field.ensures ∙ c.if-not-starts_field.false in
     let sent = sym c.is_in_block.ensures ∙ c.if-not-is_in_block.false in
-    let size = sent_length c.args.full _ (page_of c.args.characters.now marks) _ c.requires.counted.right c.requires.columns_bound.3 _ c.field_end-end.ensures (omega arith) starts sent in
+    let size = sent_length c.args.full (page_of c.args.characters.now marks) place c.requires.columns_bound.3 _ c.field_end-end.ensures (omega arith) starts sent in
     let bounds = end_bounds (unprotected marks) (length marks) place.cell c.requires.columns_bound.1 in
     omega arith
 
@@ -58,5 +58,5 @@ returns c =
     let starts = sym c.starts_field.ensures ∙ c.if-not-starts_field.false in
     let sent = sym c.is_in_block.ensures ∙ c.if-not-is_in_block.false in
     let room : c.args.at ≤ length c.args.out.now = omega arith in
-    rw (sent_is c.args.full _ (page_of c.args.characters.now marks) _ c.requires.counted.right c.requires.columns_bound.3 _ c.field_end-end.ensures starts sent)
+    rw (sent_is c.args.full (page_of c.args.characters.now marks) place c.requires.columns_bound.3 _ c.field_end-end.ensures starts sent)
     (wrote_then room c.put_place-next.ensures c.put_all.ensures)

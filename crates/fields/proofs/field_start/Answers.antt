@@ -2,16 +2,16 @@ use mathlib.Core.Path.{sym, ap, ◌∙◌}
 use native.Mathlib.Omega.{arith}
 use Rattle.places.specs.Places.{place_of}
 use Rattle.fields.specs.Fields.{field_start}
-use Rattle.places.proofs.Counting.{counted, cell_is}
+use Rattle.places.proofs.Counting.{cell_is, columns_are}
 use Rattle.fields.proofs.Laws.{joined_has_before, start_here}
-use Rattle.fields.proofs.Walks.{start_on}
+use Rattle.fields.proofs.Walks.{start_on, place_here}
 use Rattle.fields.proofs.field_start.Goals as goal
 
 pub is_joined-requires : goal.is_joined-requires
 is_joined-requires c = c.loop-here.invariant.1
 
 pub back-here-requires : goal.back-here-requires
-back-here-requires c = let here = c.loop-here.invariant in record { counted = here.0; cell_nonzero = joined_has_before _ _ (sym c.is_joined.ensures ∙ c.loop-here-test.true) }
+back-here-requires c = joined_has_before _ _ (sym c.is_joined.ensures ∙ c.loop-here-test.true)
 
 pub loop-here-smaller : goal.loop-here-smaller
 loop-here-smaller c =
@@ -24,9 +24,9 @@ loop-here-preserved c =
     let here = c.loop-here.invariant in
     let back = cell_is _ _ c.back-here.ensures in
     let j = sym c.is_joined.ensures ∙ c.loop-here-test.true in
-    (counted _ here.0.some_columns c.back-here.ensures (omega (arith, here.0.on_page)), omega arith, here.2 ∙ start_on _ _ j ∙ ap (field_start _) (sym back))
+    (columns_are _ _ c.back-here.ensures ∙ here.0, omega arith, here.2 ∙ start_on _ _ j ∙ ap (field_start _) (sym back))
 
 pub returns : goal.returns
 returns c =
     let here = c.loop-here.invariant in
-    here.0.right ∙ ap (place_of _) (sym (here.2 ∙ start_here _ _ (sym c.is_joined.ensures ∙ c.loop-here-test.false)))
+    place_here _ here.0 ∙ ap (place_of _) (sym (here.2 ∙ start_here _ _ (sym c.is_joined.ensures ∙ c.loop-here-test.false)))

@@ -1,4 +1,4 @@
-use mathlib.Core.Path.{sym, ap, ◌∙◌}
+use mathlib.Core.Path.{refl, sym, ap, ◌∙◌}
 use native.Mathlib.Omega.{arith}
 use Rattle.std.specs.Prelude.{Some}
 use Rattle.places.specs.declared.Place.{Place}
@@ -13,31 +13,31 @@ pub loop-here-init : goal.loop-here-init
 loop-here-init g c =
     let is = c.into_iter-here-iterator.ensures.into_iter_gives ∙ c.onward-here-items.ensures in
     record {
-      walks = Walking.sets_out c.requires.counted c.requires.on_page.0 is;
-      way = λ passes agree. rw (ap (λ (w : Walk). w.here) is) (sets_out c.requires.counted c.requires.on_page.0);
+      walks = Walking.sets_out refl c.requires.on_page.0 is;
+      way = λ passes agree. rw (ap (λ (w : Walk). w.here) is) (sets_out c.requires.on_page.0);
     }
 
 pub test-requires : goal.test-requires
 test-requires g c =
-    let now = turn c.requires.on_page.1 c.loop-here.invariant.walks c.in-Some.ensures.steps in
+    let now = turn c.loop-here.invariant.walks c.in-Some.ensures.steps in
     c.requires.callable _ (omega (arith, now.less, ap (λ (p : Place). p.cell) now.here))
 
 pub returns-then-test : goal.returns-then-test
 returns-then-test g c passes agree =
-    let now = turn c.requires.on_page.1 c.loop-here.invariant.walks c.in-Some.ensures.steps in
+    let now = turn c.loop-here.invariant.walks c.in-Some.ensures.steps in
     let cell = ap (λ (p : Place). p.cell) now.here in
     let here = ap passes (sym cell) ∙ sym (agree _ _ (omega (arith, now.less, cell)) c.test.ensures) ∙ c.if-test.true in
     ap Some now.here ∙ one_first _ (comes_to (c.loop-here.invariant.way passes agree) now.less here) (first_unprotected_lem _ _ _ _ _ (omega (arith, c.requires.on_page)))
 
 pub loop-here-preserved : goal.loop-here-preserved
 loop-here-preserved g c =
-    let now = turn c.requires.on_page.1 c.loop-here.invariant.walks c.in-Some.ensures.steps in
+    let now = turn c.loop-here.invariant.walks c.in-Some.ensures.steps in
     let cell = ap (λ (p : Place). p.cell) now.here in
     record {
       walks = now.on;
       way = λ passes agree.
           let not-here = ap passes (sym cell) ∙ sym (agree _ _ (omega (arith, now.less, cell)) c.test.ensures) ∙ c.if-test.false in
-          goes_on (c.loop-here.invariant.way passes agree) now.less c.requires.on_page.1 not-here now.next;
+          goes_on (c.loop-here.invariant.way passes agree) now.less not-here now.next;
     }
 
 pub returns : goal.returns

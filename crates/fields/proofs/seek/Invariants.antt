@@ -9,6 +9,6 @@ use Rattle.fields.proofs.seek.Given as goal
 abbrev pub invariant-loop-here : goal.invariant-loop-here
 invariant-loop-here g l =
     record {
-      walks : OnWalk l.fn.columns l.fn.cells l.here-iterator;
-      way : (passes : ℕ → Bool) → ((cell : ℕ) (answer : Bool) → cell < l.fn.cells → goal.F-post g l.test cell answer → answer ≡ passes cell) → Onward passes l.fn.columns l.fn.cells l.fn.place l.here-iterator.here;
+      walks : OnWalk l.fn.place.columns l.fn.cells l.here-iterator;
+      way : (passes : ℕ → Bool) → ((cell : ℕ) (answer : Bool) → cell < l.fn.cells → goal.F-post g l.test cell answer → answer ≡ passes cell) → Onward passes l.fn.cells l.fn.place l.here-iterator.here;
     }

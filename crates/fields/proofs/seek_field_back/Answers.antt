@@ -7,7 +7,7 @@ use Rattle.fields.proofs.Searching.{one_last, last_start}
 use Rattle.fields.proofs.seek_field_back.Goals as goal
 
 pub loop-here-init : goal.loop-here-init
-loop-here-init c = sets_out_back c.requires.counted
+loop-here-init c = sets_out_back
 
 pub starts_field-requires : goal.starts_field-requires
 starts_field-requires c =

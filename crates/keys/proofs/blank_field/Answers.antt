@@ -18,7 +18,7 @@ pub place-place-requires : goal.place-place-requires
 place-place-requires c = (measured c.requires).on_page
 
 pub field_start-start-requires : goal.field_start-start-requires
-field_start-start-requires c = let here = found c.requires c.place-place.ensures in record { counted = here.counted; cell_in_bounds = here.inside }
+field_start-start-requires c = (found c.requires c.place-place.ensures).inside
 
 pub field_end-end-requires : goal.field_end-end-requires
 field_end-end-requires c =

@@ -16,7 +16,7 @@ pub place-place-requires : goal.place-place-requires
 place-place-requires c = (measured c.requires).on_page
 
 pub next_unprotected-next-requires : goal.next_unprotected-next-requires
-next_unprotected-next-requires c = let here = found c.requires c.place-place.ensures in record { counted = here.counted; cell_in_bounds = (here.inside, here.most) }
+next_unprotected-next-requires c = let here = found c.requires c.place-place.ensures in (here.inside, here.most)
 
 pub store_typed-requires : goal.store_typed-requires
 store_typed-requires c =
@@ -28,4 +28,4 @@ unfolding typed_step If◌then◌else◌
 returns c =
     let here = found c.requires c.place-place.ensures in
     let cell-unprotected = is_unprotected c.stands_unprotected.ensures c.if-not-stands_unprotected.false-raw in
-    rw (cell-unprotected, c.stored.ensures (cursor_cell c.args.state ∷ []) _ refl, c.gone_to.ensures, c.next_unprotected-next.ensures, here.as_many, c.store_typed.ensures, here.cell)
+    rw (cell-unprotected, c.stored.ensures (cursor_cell c.args.state ∷ []) _ refl, c.gone_to.ensures, c.next_unprotected-next.ensures, here.columns, here.as_many, c.store_typed.ensures, here.cell)

@@ -1,23 +1,14 @@
-use Prim.Native.Nat.{◌-◌, ◌/◌, ◌%◌}
-use native.Mathlib.Omega.{arith}
-use Rattle.places.proofs.Counting.{place_is, spelt, row_above, row_less}
+use Rattle.places.proofs.Counting.{right, back_in_row, row_before}
 use Rattle.places.proofs.Place.back.Goals as goal
 
-pub returns-then-self-gt1 : goal.returns-then-self-gt1
-returns-then-self-gt1 c =
-    let now = spelt c.requires.counted in
-    place_is _ _ _ _ (c.args.self.cell / c.args.columns) (c.args.self.cell % c.args.columns - 1)
-    (omega arith) (omega arith) (omega arith) (omega arith)
+pub invariant_of-result : goal.invariant_of-result
+invariant_of-result c = record { counted = back_in_row c.args.self.columns c.args.self.cell c.args.self.row c.args.self.column c.args.self.counted c.if-self-gt1.true }
 
-pub overflow_sub-result-3 : goal.overflow_sub-result-3
-overflow_sub-result-3 c =
-    let now = spelt c.requires.counted in
-    omega arith
+pub returns-then-self-gt1 : goal.returns-then-self-gt1
+returns-then-self-gt1 c = right _
+
+pub invariant_of-result-2 : goal.invariant_of-result-2
+invariant_of-result-2 c = record { counted = row_before c.args.self.columns c.args.self.cell c.args.self.row c.args.self.column c.args.self.counted c.requires c.if-self-gt1.false }
 
 pub returns : goal.returns
-returns c =
-    let now = spelt c.requires.counted in
-    let some = row_above c.args.self.cell c.args.columns (c.args.self.cell / c.args.columns) c.requires.cell_nonzero (omega arith) in
-    let above = row_less (c.args.self.cell / c.args.columns) c.args.columns some in
-    place_is _ _ _ _ (c.args.self.cell / c.args.columns - 1) (c.args.columns - 1)
-    (omega arith) (omega arith) (omega arith) (omega arith)
+returns c = right _
