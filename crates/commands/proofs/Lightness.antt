@@ -1,14 +1,13 @@
 -- Which line of a table a light event comes to, and one that is not light.
-use mathlib.Core.Path.{◌≡◌, refl, sym, ap, ◌∙◌}
-use mathlib.Core.Bool.{Bool, true, false, not}
+use mathlib.Core.Path.{◌≡◌, sym, ◌∙◌}
+use mathlib.Core.Bool.{true, false}
 use mathlib.Core.Logic.{⊎_elim}
 use Prim.Native.Nat.{ℕ, ◌<◌, ◌≤◌}
 use native.Mathlib.Omega.{arith}
-use borrow.Author.Tests.{ltb-true, eqb-true, eqb-false, ne_eqb, eq-eqb}
+use borrow.Author.Tests.{eqb-true, eqb-false, ne_eqb, eq-eqb}
 use lib.Dec.{ltb, eqb}
-use Rattle.words.specs.Choice.{If◌then◌else◌, ◌and◌, ◌or◌, ◌is◌to◌}
-use Rattle.words.specs.Lists.{all_from}
-use Rattle.words.proofs.Ranges.{in_range}
+use Rattle.words.specs.Choice.{◌is◌to◌}
+use Rattle.words.proofs.Testing.{code_tests}
 use Rattle.words.proofs.Choosing.{true_is_not_false, then_case, else_case, either_way, neither, refuted, second_decides, range_holds, range_fails}
 use Rattle.state.specs.declared.Size.{Size}
 use Rattle.state.specs.declared.Cursor.{Cursor}
@@ -96,44 +95,18 @@ module _ (final : ℕ) where
 
 module _ (final : ℕ) where
   -- A final byte that is light is listed, and but for o, m, h and l it is a move.
-  module _ (low : 0x40 ≤ final) (high : final ≤ 0x7E) where
-    abbrev is_listed_if_light : ℕ → Bool
-    is_listed_if_light n = not (is_light_final n) or ltb 0 (allowed n).most
+  pub light_listed : is_light_final final ≡ true → (allowed final).most ≡ 0 → ⊥
+  unfolding is_light_final is_plain_move allowed ◌is◌to◌
+  light_listed light none = grind (arith, code_tests)
 
-    all_listed : all_from is_listed_if_light 0x40 63 ≡ true
-    unfolding all_from is_light_final is_plain_move allowed not If◌then◌else◌ ◌and◌ ◌or◌ ◌is◌to◌
-    all_listed = refl
+  pub plain_is_move : is_plain_move final ≡ true → is_move final ≡ true
+  unfolding is_plain_move is_move ◌is◌to◌
+  plain_is_move plain = grind (arith, code_tests)
 
-    pub light_listed : is_light_final final ≡ true → (allowed final).most ≡ 0 → ⊥
-    unfolding not
-    light_listed light none =
-        let some : 0 < (allowed final).most = ltb-true _ _ (sym (second_decides _ _ (ap not light)) ∙ in_range is_listed_if_light 0x40 63 final all_listed low (omega arith)) in
-        omega (arith, none)
-
-    abbrev is_move_if_plain : ℕ → Bool
-    is_move_if_plain n = not (is_plain_move n) or is_move n
-
-    all_plain : all_from is_move_if_plain 0x40 63 ≡ true
-    unfolding all_from is_plain_move is_move not ◌and◌ ◌or◌ ◌is◌to◌
-    all_plain = refl
-
-    pub plain_is_move : is_plain_move final ≡ true → is_move final ≡ true
-    unfolding not
-    plain_is_move plain = sym (second_decides _ _ (ap not plain)) ∙ in_range is_move_if_plain 0x40 63 final all_plain low (omega arith)
-
-    -- And a move that is not light is one by tab stops.
-    abbrev is_tab_else_plain : ℕ → Bool
-    is_tab_else_plain n = eqb n 0x49 or eqb n 0x5A or is_plain_move n or not (is_move n)
-
-    all_tabs : all_from is_tab_else_plain 0x40 63 ≡ true
-    unfolding all_from is_plain_move is_move not ◌and◌ ◌or◌ ◌is◌to◌
-    all_tabs = refl
-
-    pub no_move_left : is_light_final final ≡ false → (final ≡ 0x49 → ⊥) → (final ≡ 0x5A → ⊥) → is_move final ≡ false
-    unfolding is_light_final not
-    no_move_left heavy i z =
-        let left : is_tab_else_plain final ≡ not (is_move final) = second_decides _ _ (ne_eqb final 0x49 i) ∙ second_decides _ _ (ne_eqb final 0x5A z) ∙ second_decides _ _ (neither heavy).0 in
-        refuted (is_move final) (λ move. true_is_not_false (sym (sym left ∙ in_range is_tab_else_plain 0x40 63 final all_tabs low (omega arith)) ∙ ap not move))
+  -- And a move that is not light is one by tab stops.
+  pub no_move_left : is_light_final final ≡ false → (final ≡ 0x49 → ⊥) → (final ≡ 0x5A → ⊥) → is_move final ≡ false
+  unfolding is_light_final is_plain_move is_move ◌is◌to◌
+  no_move_left heavy i z = grind (arith, code_tests)
 
   pub plain_left : is_light_final final ≡ true → (final ≡ 0x6F → ⊥) → (final ≡ 0x6D → ⊥) → (final ≡ 0x68 → ⊥) → (final ≡ 0x6C → ⊥) → is_plain_move final ≡ true
   unfolding is_light_final

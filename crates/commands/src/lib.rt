@@ -8,14 +8,13 @@ mod texts;
 
 ghost use Rattle.std.specs.Prelude.{◌≡◌, false, ◌≤◌, ◌+◌, length};
 ghost use Rattle.sequence.specs.declared.Event.TheVariants.{Control, EscCommand, BracketCommand};
-ghost use Rattle.page.specs.Page.{Page, page_of};
-ghost use Rattle.state.specs.State.{OnPage};
+ghost use Rattle.page.specs.Page.{page_of};
 ghost use Rattle.state.specs.declared.State.{State};
 ghost use Rattle.steps.specs.Steps.{Valid, cursor_cell, row_start, terminal_of};
 ghost use Rattle.steps.specs.Told.{told, told_or, tells, written};
 ghost use Rattle.commands.specs.Text.{text_step, line_down, line_up, control_step};
 ghost use Rattle.commands.specs.Commands.{fresh_step, esc_step, erasing, erase_part, bracket_step};
-ghost use Rattle.commands.specs.Host.{FinalInTable, event_step};
+ghost use Rattle.commands.specs.Host.{event_step};
 ghost use Rattle.commands.specs.Light.{is_light};
 
 pub use light::{is_light, light_step};
@@ -212,8 +211,7 @@ fn bracket_step(
     letter: u8,
 ) -> Result<Step, NoRoom>
     requires valid { Valid (terminal_of state characters.old marks.old) }
-    requires at_in_bounds { (at ≤ length out.old) × (0x40 ≤ letter) × (letter ≤ 0x7E) × (half.count ≤ 8) ×
-        (is_light state.size state.cursor (BracketCommand letter) ≡ false) }
+    requires at_in_bounds { (at ≤ length out.old) × (is_light state.size state.cursor (BracketCommand letter) ≡ false) }
     ensures { (before : State) →
         record { told = told_or result before (page_of characters.new marks.new); output = out.new }
         ≡ written at out.old
@@ -227,7 +225,7 @@ fn bracket_step(
     if most < half.count {
         return Ok(steps::refuse(state, Reason::WrongArguments, letter));
     }
-    let what = table::value(letter, half.arguments, 0);
+    let what = table::value(letter, &half.arguments, 0);
     let cells = characters.len();
     let step = match letter {
         b'I' => steps::quiet(state.tab_on(what)), // CHT
@@ -252,8 +250,7 @@ pub fn heavy_step(
     event: Event,
 ) -> Result<Step, NoRoom>
     requires valid { Valid (terminal_of state characters.old marks.old) }
-    requires at_in_bounds { (at ≤ length out.old) × FinalInTable event × (half.count ≤ 8) ×
-        (is_light state.size state.cursor event ≡ false) }
+    requires at_in_bounds { (at ≤ length out.old) × (is_light state.size state.cursor event ≡ false) }
     ensures { (before : State) →
         record { told = told_or result before (page_of characters.new marks.new); output = out.new }
         ≡ written at out.old

@@ -1,6 +1,6 @@
 // Events that touch neither page nor tab stops nor output: a run of host bytes does them in place, without handing the
 // state around. Which events are light is defined in specs/Light.antt, what they do in specs/Host.antt.
-ghost use Rattle.std.specs.Prelude.{◌≡◌, true, ◌≤◌};
+ghost use Rattle.std.specs.Prelude.{◌≡◌, true};
 ghost use Rattle.sequence.specs.declared.Event.TheVariants.{Control, EscCommand, BracketCommand};
 ghost use Rattle.sequence.specs.Range.{argument_of};
 ghost use Rattle.page.specs.Page.{Page};
@@ -9,7 +9,7 @@ ghost use Rattle.steps.specs.Light.{light_step};
 ghost use Rattle.table.specs.PrivateForms.{private_step};
 ghost use Rattle.commands.specs.Text.{control_step};
 ghost use Rattle.commands.specs.Commands.{esc_step, bracket_step};
-ghost use Rattle.commands.specs.Host.{FinalInTable, event_step};
+ghost use Rattle.commands.specs.Host.{event_step};
 ghost use Rattle.commands.specs.Light.{is_light, is_light_control, is_light_letter, is_light_final};
 
 use sequence::{Event, HalfRead, Reason};
@@ -87,17 +87,16 @@ fn light_letter(state: State, letter: u8) -> Light
 // After ESC [; the table is consulted before anything else, and lists each of these.
 fn light_final(state: State, half: HalfRead, letter: u8) -> Light
     requires on_page { OnPage state }
-    requires le_letter { (0x40 ≤ letter) × (letter ≤ 0x7E) × (half.count ≤ 8) × (is_light_final letter ≡ true) }
+    requires light { is_light_final letter ≡ true }
     ensures { (page : Page) →
         light_step result (record { state = state; page = page })
         ≡ bracket_step letter half (record { state = state; page = page }) }
 {
-    let arguments = half.arguments;
-    let count = half.count;
-    if table::most_arguments(letter) < count {
+    if table::most_arguments(letter) < half.count {
         return Light::Refused(Reason::WrongArguments, letter);
     }
-    let values = &arguments[..count as usize];
+    let arguments = &half.arguments;
+    let values = &arguments[..usize::from(half.count).min(arguments.len())];
     match letter {
         b'o' => table::settings::qualify_area(state, letter, table::value(letter, arguments, 0)), // DAQ
         b'm' => table::settings::rendition(state, letter, values), // SGR
@@ -119,7 +118,7 @@ fn private_command(state: State, half: HalfRead, letter: u8) -> Light
 // What a light event does. `half` is the half-read record before its byte, which has a command's arguments.
 pub fn light_step(state: State, half: HalfRead, event: Event) -> Light
     requires on_page { OnPage state }
-    requires final_in_table { FinalInTable event × (half.count ≤ 8) × (is_light state.size state.cursor event ≡ true) }
+    requires light { is_light state.size state.cursor event ≡ true }
     ensures { (page : Page) →
         light_step result (record { state = state; page = page })
         ≡ event_step half event (record { state = state; page = page }) }
