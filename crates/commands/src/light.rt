@@ -1,6 +1,6 @@
 // Events that touch neither page nor tab stops nor output: a run of host bytes does them in place, without handing the
 // state around. Which events are light is defined in specs/Light.antt, what they do in specs/Host.antt.
-ghost use Rattle.std.specs.Prelude.{◌≡◌, true};
+ghost use Rattle.std.specs.Prelude.{◌≡◌, true, take};
 ghost use Rattle.sequence.specs.declared.Event.TheVariants.{Control, EscCommand, BracketCommand};
 ghost use Rattle.sequence.specs.Range.{argument_of};
 ghost use Rattle.page.specs.Page.{Page};
@@ -35,10 +35,8 @@ fn is_light_letter(letter: u8) -> bool
 fn is_light_final(letter: u8) -> bool
     ensures { result ≡ is_light_final letter }
 {
-    matches!(
-        letter,
-        b'A'..=b'H' | b'd' | b'f' | b'o' | b'm' | b'h' | b'l'
-    )
+    // the range first: most commands are in it, and as one pattern with the others it was tested last
+    (b'A'..=b'H').contains(&letter) || matches!(letter, b'd' | b'f' | b'o' | b'm' | b'h' | b'l')
 }
 
 // Whether the event is light.
@@ -84,6 +82,13 @@ fn light_letter(state: State, letter: u8) -> Light
     }
 }
 
+// The arguments that a sequence has.
+fn given(half: &HalfRead) -> &[u16]
+    ensures { result.now ≡ take half.now.count half.now.arguments }
+{
+    &half.arguments[..usize::from(half.count).min(half.arguments.len())]
+}
+
 // After ESC [; the table is consulted before anything else, and lists each of these.
 fn light_final(state: State, half: HalfRead, letter: u8) -> Light
     requires on_page { OnPage state }
@@ -96,12 +101,11 @@ fn light_final(state: State, half: HalfRead, letter: u8) -> Light
         return Light::Refused(Reason::WrongArguments, letter);
     }
     let arguments = &half.arguments;
-    let values = &arguments[..usize::from(half.count).min(arguments.len())];
     match letter {
         b'o' => table::settings::qualify_area(state, letter, table::value(letter, arguments, 0)), // DAQ
-        b'm' => table::settings::rendition(state, letter, values), // SGR
-        b'h' => table::settings::set_mode(state, letter, true, values), // SM
-        b'l' => table::settings::set_mode(state, letter, false, values), // RM
+        b'm' => table::settings::rendition(state, letter, given(&half)), // SGR
+        b'h' => table::settings::set_mode(state, letter, true, given(&half)), // SM
+        b'l' => table::settings::set_mode(state, letter, false, given(&half)), // RM
         _ => table::moves::move_command(state, letter, arguments),
     }
 }

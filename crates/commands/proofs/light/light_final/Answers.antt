@@ -1,8 +1,7 @@
 use mathlib.Core.Path.{sym, ◌∙◌}
-use borrow.Author.Rules.{rules}
 use Rattle.steps.specs.Steps.{Terminal}
 use Rattle.steps.specs.Light.{light_step}
-use Rattle.commands.proofs.Finals.{too_many, not_too_many, as_many_arguments, final_move, final_o, final_m, final_h, final_l}
+use Rattle.commands.proofs.Finals.{too_many, not_too_many, final_move, final_o, final_m, final_h, final_l}
 use Rattle.commands.proofs.Lightness.{light_listed, plain_left, plain_is_move}
 use Rattle.commands.proofs.light.light_final.Goals as goal
 
@@ -34,8 +33,7 @@ returns-in-109 c =
     let asked = c.most_arguments.ensures in
     let light = light_listed c.args.letter c.requires.light in
     let passed = not_too_many c.args.letter c.args.half t _ asked (λ none. light (sym asked ∙ none)) c.if-most_arguments-half.false in
-    let all = as_many_arguments c.args.half.count 8 c.min.result c.args.half.arguments (search rules) (rw c.from.ensures at c.min.ensures) in
-    rw all at (c.rendition.ensures page) ∙ sym (passed ∙ final_m _ _ _ t c.in-109.is)
+    rw c.given.ensures at (c.rendition.ensures page) ∙ sym (passed ∙ final_m _ _ _ t c.in-109.is)
 
 pub returns-in-104 : goal.returns-in-104
 returns-in-104 c =
@@ -44,8 +42,7 @@ returns-in-104 c =
     let asked = c.most_arguments.ensures in
     let light = light_listed c.args.letter c.requires.light in
     let passed = not_too_many c.args.letter c.args.half t _ asked (λ none. light (sym asked ∙ none)) c.if-most_arguments-half.false in
-    let all = as_many_arguments c.args.half.count 8 c.min.result c.args.half.arguments (search rules) (rw c.from.ensures at c.min.ensures) in
-    rw all at (c.set_mode.ensures page) ∙ sym (passed ∙ final_h _ _ _ t c.in-104.is)
+    rw c.given-in-104.ensures at (c.set_mode.ensures page) ∙ sym (passed ∙ final_h _ _ _ t c.in-104.is)
 
 pub returns-in-108 : goal.returns-in-108
 returns-in-108 c =
@@ -54,8 +51,7 @@ returns-in-108 c =
     let asked = c.most_arguments.ensures in
     let light = light_listed c.args.letter c.requires.light in
     let passed = not_too_many c.args.letter c.args.half t _ asked (λ none. light (sym asked ∙ none)) c.if-most_arguments-half.false in
-    let all = as_many_arguments c.args.half.count 8 c.min.result c.args.half.arguments (search rules) (rw c.from.ensures at c.min.ensures) in
-    rw all at (c.set_mode-in-108.ensures page) ∙ sym (passed ∙ final_l _ _ _ t c.in-108.is)
+    rw c.given-in-108.ensures at (c.set_mode-in-108.ensures page) ∙ sym (passed ∙ final_l _ _ _ t c.in-108.is)
 
 pub returns-in_default : goal.returns-in_default
 returns-in_default c =
