@@ -26,6 +26,8 @@ use steps::Step;
 pub use texts::{TextRun, text_run};
 
 // Text: the cursor's cell takes the character, and the cursor goes on.
+// (`Valid` is asked, not in a type: calls take state and page from outside, damaged ones too, answered with 2; and a
+// struct of the two slices as `&mut` needs two clauses more in every contract, that its references are still the same.)
 fn text(state: State, characters: &mut [u8], marks: &mut [Mark], character: u8) -> Step
     requires { Valid (terminal_of state characters.old marks.old) }
     ensures { told result (page_of characters.new marks.new)
@@ -94,6 +96,7 @@ fn control(state: State, characters: &mut [u8], marks: &mut [Mark], byte: u8) ->
 }
 
 // After ESC, what is not light, but for S, which sends.
+// (Here and below a match is on what the host sends, as the definitions: an enum of commands would be one more table.)
 fn silent_esc_step(state: State, characters: &mut [u8], marks: &mut [Mark], byte: u8) -> Step
     requires valid { Valid (terminal_of state characters.old marks.old) }
     requires byte_value { (is_light state.size state.cursor (EscCommand byte) ≡ false) × (byte ≡ 0x53 → ⊥) }
@@ -113,6 +116,7 @@ fn silent_esc_step(state: State, characters: &mut [u8], marks: &mut [Mark], byte
 }
 
 // Erasing from one cell to before another, as erasure mode says.
+// (Of the three that erase this one counts, `erase_part` takes the argument, `erase_row` says where the row is.)
 fn erase_cells(
     state: State,
     characters: &mut [u8],
@@ -211,7 +215,8 @@ fn bracket_step(
     letter: u8,
 ) -> Result<Step, NoRoom>
     requires valid { Valid (terminal_of state characters.old marks.old) }
-    requires at_in_bounds { (at ≤ length out.old) × (is_light state.size state.cursor (BracketCommand letter) ≡ false) }
+    requires at_in_bounds { (at ≤ length out.old) ×
+        (is_light state.size state.cursor (BracketCommand letter) ≡ false) }
     ensures { (before : State) →
         record { told = told_or result before (page_of characters.new marks.new); output = out.new }
         ≡ written at out.old

@@ -16,6 +16,7 @@ use sequence::{Event, HalfRead, Reason};
 use state::{Cursor, Size, State};
 use steps::Light;
 
+// A match, with a line for each of the definition's. (`is_light` too.)
 fn is_light_control(size: Size, cursor: Cursor, code: u8) -> bool
     ensures { result ≡ is_light_control size cursor code }
 {

@@ -33,8 +33,8 @@ fn digit(table: &[u8; 256], letter: u8) -> u8
     table[usize::from(letter)] - b'0'
 }
 
-// How many arguments a command may have at most: document 01's table, consulted here alone. (A number, not an `Option`:
-// `allowed` gives 0 for a command that isn't listed.) A twin of `zero_is` but for the table, which each names.
+// How many arguments a command may have at most: document 01's table, consulted here alone.
+// (A number, not an `Option`: `allowed` gives 0 for one that isn't listed. `zero_is` differs in the table it names.)
 pub fn most_arguments(letter: u8) -> u8
     ensures { result ≡ (allowed letter).most }
 {

@@ -62,6 +62,7 @@ fn kept_column(row: u16, given: u16, column: usize, present: usize) -> usize
 }
 
 // After ESC [, the moves that look at no tab stop: A to H, d and f.
+// (A match on the byte, as `move_step` has it: an enum of commands would be one more table, from bytes to variants.)
 pub fn move_command(state: State, letter: u8, arguments: &[u16]) -> Light
     requires on_page { OnPage state }
     requires plain_move { is_plain_move letter ≡ true }
