@@ -1,6 +1,6 @@
 // Events that touch neither page nor tab stops nor output: a run of host bytes does them in place, without handing the
 // state around. Which events are light is defined in specs/Light.antt, what they do in specs/Host.antt.
-ghost use Rattle.std.specs.Prelude.{◌≡◌, true, take};
+ghost use Rattle.std.specs.Prelude.{◌≡◌, true};
 ghost use Rattle.sequence.specs.declared.Event.TheVariants.{Control, EscCommand, BracketCommand};
 ghost use Rattle.sequence.specs.Range.{argument_of};
 ghost use Rattle.page.specs.Page.{Page};
@@ -8,7 +8,7 @@ ghost use Rattle.state.specs.State.{OnPage};
 ghost use Rattle.steps.specs.Light.{light_step};
 ghost use Rattle.table.specs.PrivateForms.{private_step};
 ghost use Rattle.commands.specs.Text.{control_step};
-ghost use Rattle.commands.specs.Commands.{esc_step, bracket_step};
+ghost use Rattle.commands.specs.Commands.{esc_step, listed_step, bracket_step};
 ghost use Rattle.commands.specs.Host.{event_step};
 ghost use Rattle.commands.specs.Light.{is_light, is_light_control, is_light_letter, is_light_final};
 
@@ -83,11 +83,19 @@ fn light_letter(state: State, letter: u8) -> Light
     }
 }
 
-// The arguments that a sequence has.
-fn given(half: &HalfRead) -> &[u16]
-    ensures { result.now ≡ take half.now.count half.now.arguments }
+// SGR, SM and RM, which look at every argument. (Apart from `light_final`, which would lay out the record for moves too.)
+fn light_values(state: State, half: HalfRead, letter: u8) -> Light
+    requires { (letter ≡ 0x6D → ⊥) → (letter ≡ 0x68 → ⊥) → letter ≡ 0x6C }
+    ensures { (page : Page) →
+        light_step result (record { state = state; page = page })
+        ≡ listed_step letter half.arguments half.count (record { state = state; page = page }) }
 {
-    &half.arguments[..usize::from(half.count).min(half.arguments.len())]
+    let values = &half.arguments[..usize::from(half.count).min(half.arguments.len())];
+    match letter {
+        b'm' => table::settings::rendition(state, letter, values), // SGR
+        b'h' => table::settings::set_mode(state, letter, true, values), // SM
+        _ => table::settings::set_mode(state, letter, false, values), // l: RM
+    }
 }
 
 // After ESC [; the table is consulted before anything else, and lists each of these.
@@ -104,9 +112,7 @@ fn light_final(state: State, half: HalfRead, letter: u8) -> Light
     let arguments = &half.arguments;
     match letter {
         b'o' => table::settings::qualify_area(state, letter, table::value(letter, arguments, 0)), // DAQ
-        b'm' => table::settings::rendition(state, letter, given(&half)), // SGR
-        b'h' => table::settings::set_mode(state, letter, true, given(&half)), // SM
-        b'l' => table::settings::set_mode(state, letter, false, given(&half)), // RM
+        b'm' | b'h' | b'l' => light_values(state, half, letter),
         _ => table::moves::move_command(state, letter, arguments),
     }
 }
