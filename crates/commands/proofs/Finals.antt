@@ -2,10 +2,11 @@
 use mathlib.Core.Path.{◌≡◌, sym, ap, ◌∙◌}
 use mathlib.Core.Bool.{true, false}
 use mathlib.Core.List.{List}
-use Prim.Native.Nat.{ℕ, ◌+◌, ◌<◌, ◌≤◌}
+use Prim.Native.Nat.{ℕ, ◌+◌, ◌<◌, ◌≤◌, min}
 use borrow.Author.Tests.{eq-eqb, ne_eqb, lt-ltb, le-ltb}
 use lib.Dec.{ltb, eqb}
-use lib.ListN.{take}
+use lib.ListN.{length, take}
+use Rattle.std.proofs.lemmas.List.{take_min}
 use Rattle.words.specs.Choice.{If◌then◌else◌, ◌and◌, ◌or◌, ◌is◌to◌}
 use Rattle.words.proofs.Choosing.{then_case, else_case}
 use Rattle.sequence.specs.declared.HalfRead.{HalfRead}
@@ -36,6 +37,10 @@ module _ (final : ℕ) (half : HalfRead) (t : Terminal) (most : ℕ) (asked : mo
     pub not_too_many : half.count ≤ most → bracket_step final half t ≡ listed_step final half.arguments half.count t
     unfolding bracket_step
     not_too_many few = else_case _ _ _ listed ∙ else_case _ _ _ (ap (λ (m : ℕ). ltb m half.count) (sym asked) ∙ le-ltb _ _ few)
+
+-- As many arguments as the record counts, or all.
+pub as_many_arguments : (count size n : ℕ) (arguments : List ℕ) → length arguments ≡ size → n ≡ min count size → take n arguments ≡ take count arguments
+as_many_arguments count size n arguments long few = ap (λ (m : ℕ). take m arguments) (few ∙ ap (min count) (sym long)) ∙ take_min count arguments
 
 -- By final byte.
 module _ (final what : ℕ) (arguments : List ℕ) (count : ℕ) (t : Terminal) (given : what ≡ value_of final arguments 0) where

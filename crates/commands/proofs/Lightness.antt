@@ -1,15 +1,13 @@
 -- Which line of a table a light event comes to, and one that is not light.
-use mathlib.Core.Path.{◌≡◌, refl, sym, ap, ◌∙◌}
-use mathlib.Core.Bool.{Bool, true, false, not}
-use mathlib.Core.Logic.{⊎_elim}
-use Prim.Native.Nat.{ℕ, ◌<◌, ◌≤◌}
+use mathlib.Core.Path.{◌≡◌, sym, ◌∙◌}
+use mathlib.Core.Bool.{true, false}
+use Prim.Native.Nat.{ℕ}
 use native.Mathlib.Omega.{arith}
-use borrow.Author.Tests.{ltb-true, eqb-true, eqb-false, ne_eqb, eq-eqb}
+use borrow.Author.Tests.{eqb-true, eqb-false, ne_eqb, eq-eqb}
 use lib.Dec.{ltb, eqb}
-use Rattle.words.specs.Choice.{If◌then◌else◌, ◌and◌, ◌or◌, ◌is◌to◌}
-use Rattle.words.specs.Lists.{all_from}
-use Rattle.words.proofs.Ranges.{in_range}
-use Rattle.words.proofs.Choosing.{true_is_not_false, then_case, else_case, either_way, neither, refuted, second_decides, range_holds, range_fails}
+use Rattle.words.specs.Choice.{◌is◌to◌}
+use Rattle.words.proofs.Testing.{code_tests}
+use Rattle.words.proofs.Choosing.{true_is_not_false, then_case, else_case, either_way, neither, refuted, second_decides}
 use Rattle.state.specs.declared.Size.{Size}
 use Rattle.state.specs.declared.Cursor.{Cursor}
 use Rattle.table.specs.Table.{allowed}
@@ -39,101 +37,20 @@ pub light_letter_left : (letter : ℕ) → is_light_letter letter ≡ true → (
 unfolding is_light_letter
 light_letter_left letter light other = eqb-true letter 0x57 (sym (second_decides _ _ (ne_eqb letter 0x56 other)) ∙ light)
 
--- The letters and final bytes that are light, as the code asks for them.
-module _ (letter : ℕ) where
-  pub letter_is_light : ((letter ≡ 0x56 → ⊥) × (letter ≡ 0x57 → ⊥) → ⊥) → true ≡ is_light_letter letter
-  unfolding is_light_letter
-  letter_is_light light =
-      either_way (is_light_letter letter) sym
-      (λ heavy. absurd (light (eqb-false _ _ (neither heavy).0, eqb-false _ _ (neither heavy).1)))
-
-  pub letter_is_heavy : (letter ≡ 0x56 → ⊥) → (letter ≡ 0x57 → ⊥) → false ≡ is_light_letter letter
-  unfolding is_light_letter
-  letter_is_heavy v w = sym (second_decides _ _ (ne_eqb letter 0x56 v) ∙ ne_eqb letter 0x57 w)
-
-module _ (final : ℕ) where
-  pub record HeavyFinal : Type 0 where
-    pub no_move : 0x41 ≤ final → 0x48 < final
-    pub no_d : final ≡ 0x64 → ⊥
-    pub no_f : final ≡ 0x66 → ⊥
-    pub no_o : final ≡ 0x6F → ⊥
-    pub no_m : final ≡ 0x6D → ⊥
-    pub no_h : final ≡ 0x68 → ⊥
-    pub no_l : final ≡ 0x6C → ⊥
-
-  pub final_is_light : (HeavyFinal → ⊥) → true ≡ is_light_final final
-  unfolding is_light_final is_plain_move
-  final_is_light light =
-      either_way (is_light_final final) sym
-      (λ heavy.
-      let move = neither (neither heavy).0 in
-      let o = neither (neither heavy).1 in
-      let m = neither o.1 in
-      let h = neither m.1 in
-      let outside = range_fails final 0x41 0x48 move.0 in
-      absurd
-      (light
-      (record {
-        no_move = λ low. ⊎_elim (λ below. absurd (omega arith)) (λ above. above) outside;
-        no_d = eqb-false _ _ (neither move.1).0;
-        no_f = eqb-false _ _ (neither move.1).1;
-        no_o = eqb-false _ _ o.0;
-        no_m = eqb-false _ _ m.0;
-        no_h = eqb-false _ _ h.0;
-        no_l = eqb-false _ _ h.1;
-      })))
-
-  pub final_is_heavy : HeavyFinal → false ≡ is_light_final final
-  unfolding is_light_final is_plain_move
-  final_is_heavy heavy =
-      let outside : (final is 0x41 to 0x48) ≡ false = refuted (final is 0x41 to 0x48) (λ inside. let range = range_holds final 0x41 0x48 inside in omega (arith, heavy.no_move range.0)) in
-      sym
-      (second_decides _ _ (second_decides _ _ outside ∙ second_decides _ _ (ne_eqb final 0x64 heavy.no_d) ∙ ne_eqb final 0x66 heavy.no_f)
-      ∙ second_decides _ _ (ne_eqb final 0x6F heavy.no_o)
-      ∙ second_decides _ _ (ne_eqb final 0x6D heavy.no_m)
-      ∙ second_decides _ _ (ne_eqb final 0x68 heavy.no_h)
-      ∙ ne_eqb final 0x6C heavy.no_l)
-
 module _ (final : ℕ) where
   -- A final byte that is light is listed, and but for o, m, h and l it is a move.
-  module _ (low : 0x40 ≤ final) (high : final ≤ 0x7E) where
-    abbrev is_listed_if_light : ℕ → Bool
-    is_listed_if_light n = not (is_light_final n) or ltb 0 (allowed n).most
+  pub light_listed : is_light_final final ≡ true → (allowed final).most ≡ 0 → ⊥
+  unfolding is_light_final is_plain_move allowed ◌is◌to◌
+  light_listed light none = grind (arith, code_tests)
 
-    all_listed : all_from is_listed_if_light 0x40 63 ≡ true
-    unfolding all_from is_light_final is_plain_move allowed not If◌then◌else◌ ◌and◌ ◌or◌ ◌is◌to◌
-    all_listed = refl
+  pub plain_is_move : is_plain_move final ≡ true → is_move final ≡ true
+  unfolding is_plain_move is_move ◌is◌to◌
+  plain_is_move plain = grind (arith, code_tests)
 
-    pub light_listed : is_light_final final ≡ true → (allowed final).most ≡ 0 → ⊥
-    unfolding not
-    light_listed light none =
-        let some : 0 < (allowed final).most = ltb-true _ _ (sym (second_decides _ _ (ap not light)) ∙ in_range is_listed_if_light 0x40 63 final all_listed low (omega arith)) in
-        omega (arith, none)
-
-    abbrev is_move_if_plain : ℕ → Bool
-    is_move_if_plain n = not (is_plain_move n) or is_move n
-
-    all_plain : all_from is_move_if_plain 0x40 63 ≡ true
-    unfolding all_from is_plain_move is_move not ◌and◌ ◌or◌ ◌is◌to◌
-    all_plain = refl
-
-    pub plain_is_move : is_plain_move final ≡ true → is_move final ≡ true
-    unfolding not
-    plain_is_move plain = sym (second_decides _ _ (ap not plain)) ∙ in_range is_move_if_plain 0x40 63 final all_plain low (omega arith)
-
-    -- And a move that is not light is one by tab stops.
-    abbrev is_tab_else_plain : ℕ → Bool
-    is_tab_else_plain n = eqb n 0x49 or eqb n 0x5A or is_plain_move n or not (is_move n)
-
-    all_tabs : all_from is_tab_else_plain 0x40 63 ≡ true
-    unfolding all_from is_plain_move is_move not ◌and◌ ◌or◌ ◌is◌to◌
-    all_tabs = refl
-
-    pub no_move_left : is_light_final final ≡ false → (final ≡ 0x49 → ⊥) → (final ≡ 0x5A → ⊥) → is_move final ≡ false
-    unfolding is_light_final not
-    no_move_left heavy i z =
-        let left : is_tab_else_plain final ≡ not (is_move final) = second_decides _ _ (ne_eqb final 0x49 i) ∙ second_decides _ _ (ne_eqb final 0x5A z) ∙ second_decides _ _ (neither heavy).0 in
-        refuted (is_move final) (λ move. true_is_not_false (sym (sym left ∙ in_range is_tab_else_plain 0x40 63 final all_tabs low (omega arith)) ∙ ap not move))
+  -- And a move that is not light is one by tab stops.
+  pub no_move_left : is_light_final final ≡ false → (final ≡ 0x49 → ⊥) → (final ≡ 0x5A → ⊥) → is_move final ≡ false
+  unfolding is_light_final is_plain_move is_move ◌is◌to◌
+  no_move_left heavy i z = grind (arith, code_tests)
 
   pub plain_left : is_light_final final ≡ true → (final ≡ 0x6F → ⊥) → (final ≡ 0x6D → ⊥) → (final ≡ 0x68 → ⊥) → (final ≡ 0x6C → ⊥) → is_plain_move final ≡ true
   unfolding is_light_final

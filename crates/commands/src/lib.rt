@@ -14,7 +14,7 @@ ghost use Rattle.steps.specs.Steps.{Valid, cursor_cell, row_start, terminal_of};
 ghost use Rattle.steps.specs.Told.{told, told_or, tells, written};
 ghost use Rattle.commands.specs.Text.{text_step, line_down, line_up, control_step};
 ghost use Rattle.commands.specs.Commands.{fresh_step, esc_step, erasing, erase_part, bracket_step};
-ghost use Rattle.commands.specs.Host.{FinalInTable, event_step};
+ghost use Rattle.commands.specs.Host.{event_step};
 ghost use Rattle.commands.specs.Light.{is_light};
 
 pub use light::{is_light, light_step};
@@ -26,6 +26,8 @@ use steps::Step;
 pub use texts::{TextRun, text_run};
 
 // Text: the cursor's cell takes the character, and the cursor goes on.
+// (`Valid` is asked, not in a type: calls take state and page from outside, damaged ones too, answered with 2; and a
+// struct of the two slices as `&mut` needs two clauses more in every contract, that its references are still the same.)
 fn text(state: State, characters: &mut [u8], marks: &mut [Mark], character: u8) -> Step
     requires { Valid (terminal_of state characters.old marks.old) }
     ensures { told result (page_of characters.new marks.new)
@@ -94,6 +96,7 @@ fn control(state: State, characters: &mut [u8], marks: &mut [Mark], byte: u8) ->
 }
 
 // After ESC, what is not light, but for S, which sends.
+// (Here and below a match is on what the host sends, as the definitions: an enum of commands would be one more table.)
 fn silent_esc_step(state: State, characters: &mut [u8], marks: &mut [Mark], byte: u8) -> Step
     requires valid { Valid (terminal_of state characters.old marks.old) }
     requires byte_value { (is_light state.size state.cursor (EscCommand byte) ≡ false) × (byte ≡ 0x53 → ⊥) }
@@ -113,6 +116,7 @@ fn silent_esc_step(state: State, characters: &mut [u8], marks: &mut [Mark], byte
 }
 
 // Erasing from one cell to before another, as erasure mode says.
+// (Of the three that erase this one counts, `erase_part` takes the argument, `erase_row` says where the row is.)
 fn erase_cells(
     state: State,
     characters: &mut [u8],
@@ -211,7 +215,7 @@ fn bracket_step(
     letter: u8,
 ) -> Result<Step, NoRoom>
     requires valid { Valid (terminal_of state characters.old marks.old) }
-    requires at_in_bounds { (at ≤ length out.old) × (0x40 ≤ letter) × (letter ≤ 0x7E) × (half.count ≤ 8) ×
+    requires at_in_bounds { (at ≤ length out.old) ×
         (is_light state.size state.cursor (BracketCommand letter) ≡ false) }
     ensures { (before : State) →
         record { told = told_or result before (page_of characters.new marks.new); output = out.new }
@@ -226,7 +230,7 @@ fn bracket_step(
     if most < half.count {
         return Ok(steps::refuse(state, Reason::WrongArguments, letter));
     }
-    let what = table::value(letter, half.arguments, 0);
+    let what = table::value(letter, &half.arguments, 0);
     let cells = characters.len();
     let step = match letter {
         b'I' => steps::quiet(state.tab_on(what)), // CHT
@@ -251,8 +255,7 @@ pub fn heavy_step(
     event: Event,
 ) -> Result<Step, NoRoom>
     requires valid { Valid (terminal_of state characters.old marks.old) }
-    requires at_in_bounds { (at ≤ length out.old) × FinalInTable event × (half.count ≤ 8) ×
-        (is_light state.size state.cursor event ≡ false) }
+    requires at_in_bounds { (at ≤ length out.old) × (is_light state.size state.cursor event ≡ false) }
     ensures { (before : State) →
         record { told = told_or result before (page_of characters.new marks.new); output = out.new }
         ≡ written at out.old

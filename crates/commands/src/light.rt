@@ -1,6 +1,6 @@
 // Events that touch neither page nor tab stops nor output: a run of host bytes does them in place, without handing the
 // state around. Which events are light is defined in specs/Light.antt, what they do in specs/Host.antt.
-ghost use Rattle.std.specs.Prelude.{◌≡◌, true, ◌≤◌};
+ghost use Rattle.std.specs.Prelude.{◌≡◌, true};
 ghost use Rattle.sequence.specs.declared.Event.TheVariants.{Control, EscCommand, BracketCommand};
 ghost use Rattle.sequence.specs.Range.{argument_of};
 ghost use Rattle.page.specs.Page.{Page};
@@ -8,14 +8,15 @@ ghost use Rattle.state.specs.State.{OnPage};
 ghost use Rattle.steps.specs.Light.{light_step};
 ghost use Rattle.table.specs.PrivateForms.{private_step};
 ghost use Rattle.commands.specs.Text.{control_step};
-ghost use Rattle.commands.specs.Commands.{esc_step, bracket_step};
-ghost use Rattle.commands.specs.Host.{FinalInTable, event_step};
+ghost use Rattle.commands.specs.Commands.{esc_step, listed_step, bracket_step};
+ghost use Rattle.commands.specs.Host.{event_step};
 ghost use Rattle.commands.specs.Light.{is_light, is_light_control, is_light_letter, is_light_final};
 
 use sequence::{Event, HalfRead, Reason};
 use state::{Cursor, Size, State};
 use steps::Light;
 
+// A match, with a line for each of the definition's. (`is_light` too.)
 fn is_light_control(size: Size, cursor: Cursor, code: u8) -> bool
     ensures { result ≡ is_light_control size cursor code }
 {
@@ -35,10 +36,8 @@ fn is_light_letter(letter: u8) -> bool
 fn is_light_final(letter: u8) -> bool
     ensures { result ≡ is_light_final letter }
 {
-    matches!(
-        letter,
-        b'A'..=b'H' | b'd' | b'f' | b'o' | b'm' | b'h' | b'l'
-    )
+    // the range first: most commands are in it, and as one pattern with the others it was tested last
+    (b'A'..=b'H').contains(&letter) || matches!(letter, b'd' | b'f' | b'o' | b'm' | b'h' | b'l')
 }
 
 // Whether the event is light.
@@ -84,25 +83,36 @@ fn light_letter(state: State, letter: u8) -> Light
     }
 }
 
+// SGR, SM and RM, which look at every argument. (Apart from `light_final`, which would lay out the record for moves too.)
+fn light_values(state: State, half: HalfRead, letter: u8) -> Light
+    requires { (letter ≡ 0x6D → ⊥) → (letter ≡ 0x68 → ⊥) → letter ≡ 0x6C }
+    ensures { (page : Page) →
+        light_step result (record { state = state; page = page })
+        ≡ listed_step letter half.arguments half.count (record { state = state; page = page }) }
+{
+    let values = &half.arguments[..usize::from(half.count).min(half.arguments.len())];
+    match letter {
+        b'm' => table::settings::rendition(state, letter, values), // SGR
+        b'h' => table::settings::set_mode(state, letter, true, values), // SM
+        _ => table::settings::set_mode(state, letter, false, values), // l: RM
+    }
+}
+
 // After ESC [; the table is consulted before anything else, and lists each of these.
 fn light_final(state: State, half: HalfRead, letter: u8) -> Light
     requires on_page { OnPage state }
-    requires le_letter { (0x40 ≤ letter) × (letter ≤ 0x7E) × (half.count ≤ 8) × (is_light_final letter ≡ true) }
+    requires light { is_light_final letter ≡ true }
     ensures { (page : Page) →
         light_step result (record { state = state; page = page })
         ≡ bracket_step letter half (record { state = state; page = page }) }
 {
-    let arguments = half.arguments;
-    let count = half.count;
-    if table::most_arguments(letter) < count {
+    if table::most_arguments(letter) < half.count {
         return Light::Refused(Reason::WrongArguments, letter);
     }
-    let values = &arguments[..count as usize];
+    let arguments = &half.arguments;
     match letter {
         b'o' => table::settings::qualify_area(state, letter, table::value(letter, arguments, 0)), // DAQ
-        b'm' => table::settings::rendition(state, letter, values), // SGR
-        b'h' => table::settings::set_mode(state, letter, true, values), // SM
-        b'l' => table::settings::set_mode(state, letter, false, values), // RM
+        b'm' | b'h' | b'l' => light_values(state, half, letter),
         _ => table::moves::move_command(state, letter, arguments),
     }
 }
@@ -119,7 +129,7 @@ fn private_command(state: State, half: HalfRead, letter: u8) -> Light
 // What a light event does. `half` is the half-read record before its byte, which has a command's arguments.
 pub fn light_step(state: State, half: HalfRead, event: Event) -> Light
     requires on_page { OnPage state }
-    requires final_in_table { FinalInTable event × (half.count ≤ 8) × (is_light state.size state.cursor event ≡ true) }
+    requires light { is_light state.size state.cursor event ≡ true }
     ensures { (page : Page) →
         light_step result (record { state = state; page = page })
         ≡ event_step half event (record { state = state; page = page }) }

@@ -32,7 +32,7 @@ fn did_send(state: State, bytes: usize) -> Step
 // ESC [ 0 n.
 const READY: [u8; 4] = [0x1B, b'[', b'0', b'n'];
 
-// DSR 5: ready.
+// DSR 5: ready. (Here and below `out` and `at` stay two: `written` says of the whole output what it is after.)
 fn ready_report(state: State, out: &mut [u8], at: usize) -> Result<Step, NoRoom>
     requires { at ≤ length out.old }
     ensures { (before : State) (page : Page) →
@@ -68,7 +68,7 @@ fn cursor_report(state: State, out: &mut [u8], at: usize) -> Result<Step, NoRoom
     Ok(did_send(state, bytes))
 }
 
-// DSR: 5 asks for a ready report, 6 for the cursor's place.
+// DSR: 5 asks for a ready report, 6 for the cursor's place. (Numbers that the host sends, as the definition has them.)
 pub fn status_report(
     state: State,
     out: &mut [u8],

@@ -28,7 +28,7 @@ pub struct Cursor {
     pub column: usize,
 }
 
-// The pen, and the two modes.
+// The pen, and the two modes: flags, as each is set or reset by itself.
 #[derive(Clone, Copy)]
 pub struct Modes {
     pub pen: Mark,
@@ -38,7 +38,8 @@ pub struct Modes {
     pub full: bool,
 }
 
-// Manual input disabled, the soft lock, and the message: 0 none, 1 to 4 why a command was refused (`message_of`).
+// Manual input disabled, the soft lock (flags, as each is set by itself), and the message: 0 none, 1 to 4 why a command
+// was refused (`message_of`).
 #[derive(Clone, Copy)]
 pub struct Locks {
     pub manual: bool,
@@ -124,6 +125,7 @@ impl State {
     }
 
     // The cursor's cell.
+    // (`OnPage` is asked, not in the type: a State is what calls take from outside, damaged ones too, answered with 2.)
     pub fn place(self) -> Place
         requires { OnPage self }
         ensures { result ≡ place_of self.size.columns
@@ -133,6 +135,7 @@ impl State {
     }
 
     // Other locks, another message and byte.
+    // (`with_half` and `with_modes` are of this shape: each is the definition of its name, for one field.)
     fn with_locks(self, locks: Locks) -> Self
         ensures { result ≡ with_locks self locks }
     {
@@ -173,8 +176,10 @@ impl State {
         ensures { result ≡ unlocked self }
     {
         self.with_locks(Locks {
-            manual: self.locks.manual,
-            ..UNLOCKED
+            soft: false,
+            message: 0,
+            byte: 0,
+            ..self.locks
         })
     }
 

@@ -35,6 +35,7 @@ impl State {
     }
 
     // Another pen.
+    // (`with_erasure` and `with_full` are of this shape: each is the definition of its name, for one field.)
     pub fn with_pen(self, pen: Mark) -> Self
         ensures { result ≡ with_pen self pen }
     {

@@ -7,6 +7,7 @@ ghost use Rattle.state.specs.Tabs.{tabbed_on, tabbed_back};
 use crate::State;
 
 // The next tab stop to the right of a column, else the last column.
+// (`stop_left` differs in part, direction and edge: a function handed these three would say nothing itself.)
 fn stop_right(stops: &[bool; 160], last: usize, column: usize) -> usize
     requires { (1 ≤ column) × (column ≤ last) × (last ≤ 160) }
     ensures { result ≡ stop_right stops.now column (last - column) }

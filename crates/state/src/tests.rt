@@ -8,7 +8,7 @@ ghost use Rattle.state.specs.Tests.{stops_fit, valid_message, valid_state};
 use crate::{Cursor, Locks, Size, State};
 use page::{Attribute, Mark};
 
-// A page may have 24, 27 or 48 rows.
+// A page may have 24, 27 or 48 rows. (The next is of this shape: each is the definition of its name.)
 fn is_listed_rows(rows: usize) -> bool
     ensures { result ≡ listed_rows rows }
 {
@@ -69,11 +69,9 @@ impl Size {
     pub fn fits(self, characters: &[u8], marks: &[Mark]) -> bool
         ensures { result ≡ size_fits self (page_of characters.now marks.now) }
     {
-        if !self.is_listed() {
-            return false;
-        }
-        let cells = self.rows * self.columns;
-        characters.len() == cells && marks.len() == cells
+        self.is_listed()
+            && characters.len() == self.rows * self.columns
+            && marks.len() == self.rows * self.columns
     }
 }
 

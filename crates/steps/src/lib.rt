@@ -10,6 +10,7 @@ use sequence::Reason;
 use state::{Cursor, Modes, State};
 
 // A step that was done. One that may send has a `Result`, whose error `NoRoom` says that nothing happened.
+// (Its flags tell two more things of every step: no other field goes with them.)
 #[derive(Clone, Copy)]
 pub struct Step {
     pub state: State,
@@ -28,7 +29,7 @@ pub enum Light {
     Refused(Reason, u8),
 }
 
-// The cursor goes where it stands in a state.
+// The cursor goes where it stands in a state. (`sets` is of this shape: another field, and the variant that has it.)
 pub fn moves_to(state: State) -> Light
     ensures { result ≡ Light.Cursor state.cursor }
 {

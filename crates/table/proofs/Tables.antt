@@ -3,7 +3,7 @@
 use mathlib.Core.Path.{◌≡◌, ap, ◌∙◌}
 use mathlib.Core.List.{List, [], ◌∷◌}
 use Prim.Native.Nat.{ℕ, zero, suc, ◌+◌, ◌-◌, ◌<◌, ◌≤◌}
-use native.Mathlib.Nat.{add-zero}
+use native.Mathlib.Nat.{add-zero, zero-add}
 use native.Mathlib.Omega.{arith}
 use lib.ListN.{get_or}
 
@@ -21,14 +21,12 @@ module _ (rule : ℕ → ℕ) where
       let same : least + 1 + place ≡ least + suc place = omega arith in
       at_place (least + 1) more place (omega arith) ∙ ap (λ (n : ℕ). 0x30 + rule n) same
 
-  module _ (least size n : ℕ) (h : least ≤ n) (l : n < least + size) where
-    entry : get_or (digits_of rule least size) (n - least) 0 ≡ 0x30 + rule n
-    entry =
-        let same : least + (n - least) ≡ n = omega arith in
-        at_place least size (n - least) (omega arith) ∙ ap (λ (n : ℕ). 0x30 + rule n) same
+  module _ (size n : ℕ) (inside : n < size) where
+    entry : get_or (digits_of rule 0 size) n 0 ≡ 0x30 + rule n
+    entry = at_place 0 size n inside ∙ ap (λ (n : ℕ). 0x30 + rule n) (zero-add n)
 
-    pub is_digit : 0x30 ≤ get_or (digits_of rule least size) (n - least) 0
+    pub is_digit : 0x30 ≤ get_or (digits_of rule 0 size) n 0
     is_digit = omega (arith, entry)
 
-    pub digit_is : get_or (digits_of rule least size) (n - least) 0 - 0x30 ≡ rule n
+    pub digit_is : get_or (digits_of rule 0 size) n 0 - 0x30 ≡ rule n
     digit_is = omega (arith, entry)

@@ -9,28 +9,33 @@ pub mod moves;
 pub mod private_forms;
 pub mod settings;
 
-// A digit for each final byte, 40 to 7E (`letter` in the code, as `final` is a word of the language).
-// How many arguments a command may have at most; 0 is for one that isn't listed.
-//                        @ABCDEFGHIJKLMNOPQRSTUVWXYZ[\]^_`abcdefghijklmnopqrstuvwxyz{|}~
-const MOST: [u8; 63] = *b"011111112111000000000001001000000000102080008811000000000000000";
+// A digit for each byte, 64 to a line: final bytes are 40 to 7E (`letter` in the code, as `final` is a word of the
+// language). How many arguments a command may have at most; 0 is for one that isn't listed.
+const MOST: [u8; 256] = *b"\
+    0000000000000000000000000000000000000000000000000000000000000000\
+    0111111121110000000000010010000000001020800088110000000000000000\
+    0000000000000000000000000000000000000000000000000000000000000000\
+    0000000000000000000000000000000000000000000000000000000000000000";
 
 // What an argument of 0 stands for.
-//                           @ABCDEFGHIJKLMNOPQRSTUVWXYZ[\]^_`abcdefghijklmnopqrstuvwxyz{|}~
-const ZERO_IS: [u8; 63] = *b"011111111100000000000000001000000000101000000000000000000000000";
+//  @ABCDEFGHIJKLMNOPQRSTUVWXYZ[\]^_`abcdefghijklmnopqrstuvwxyz{|}~
+const ZERO_IS: [u8; 256] = *b"\
+    0000000000000000000000000000000000000000000000000000000000000000\
+    0111111111000000000000000010000000001010000000000000000000000000\
+    0000000000000000000000000000000000000000000000000000000000000000\
+    0000000000000000000000000000000000000000000000000000000000000000";
 
-// The digit that a table has for a final byte.
-fn digit(table: &[u8; 63], letter: u8) -> u8
-    requires le_letter { (0x40 ≤ letter) × (letter ≤ 0x7E) }
-    requires is_digit { 0x30 ≤ get_or table.now (letter - 0x40) 0 }
-    ensures { result ≡ get_or table.now (letter - 0x40) 0 - 0x30 }
+// The digit that a table has for a byte.
+fn digit(table: &[u8; 256], letter: u8) -> u8
+    requires { 0x30 ≤ get_or table.now letter 0 }
+    ensures { result ≡ get_or table.now letter 0 - 0x30 }
 {
-    table[(letter - b'@') as usize] - b'0'
+    table[usize::from(letter)] - b'0'
 }
 
-// How many arguments a command may have at most: document 01's table, consulted here alone. (A number, not an `Option`:
-// `allowed` gives 0 for a command that isn't listed.)
+// How many arguments a command may have at most: document 01's table, consulted here alone.
+// (A number, not an `Option`: `allowed` gives 0 for one that isn't listed. `zero_is` differs in the table it names.)
 pub fn most_arguments(letter: u8) -> u8
-    requires { (0x40 ≤ letter) × (letter ≤ 0x7E) }
     ensures { result ≡ (allowed letter).most }
 {
     digit(&MOST, letter)
@@ -38,19 +43,24 @@ pub fn most_arguments(letter: u8) -> u8
 
 // What an argument of 0 stands for.
 fn zero_is(letter: u8) -> u8
-    requires { (0x40 ≤ letter) × (letter ≤ 0x7E) }
     ensures { result ≡ (allowed letter).zero_is }
 {
     digit(&ZERO_IS, letter)
 }
 
-// The value of an argument, counted from 0.
-pub fn value(letter: u8, arguments: [u16; 8], i: usize) -> usize
-    requires { (0x40 ≤ letter) × (letter ≤ 0x7E) × (i ≤ 7) }
-    ensures { result ≡ value_of letter arguments i }
+// An argument as it was read, counted from 0; one that isn't there is 0.
+fn argument(arguments: &[u16], i: usize) -> u16
+    ensures { result ≡ get_or arguments.now i 0 }
 {
-    match arguments[i] {
-        0 => zero_is(letter) as usize,
-        given => given as usize,
+    arguments.get(i).copied().unwrap_or(0)
+}
+
+// The value of an argument, counted from 0.
+pub fn value(letter: u8, arguments: &[u16], i: usize) -> usize
+    ensures { result ≡ value_of letter arguments.now i }
+{
+    match argument(arguments, i) {
+        0 => usize::from(zero_is(letter)),
+        given => usize::from(given),
     }
 }

@@ -1,5 +1,5 @@
 // Document 01, "Commands": the commands of ESC [ that only move the cursor, but for tabs.
-ghost use Rattle.std.specs.Prelude.{◌≡◌, true, ◌≤◌};
+ghost use Rattle.std.specs.Prelude.{◌≡◌, true};
 ghost use Rattle.page.specs.Page.{Page};
 ghost use Rattle.state.specs.State.{OnPage};
 ghost use Rattle.steps.specs.Light.{light_step};
@@ -62,17 +62,18 @@ fn kept_column(row: u16, given: u16, column: usize, present: usize) -> usize
 }
 
 // After ESC [, the moves that look at no tab stop: A to H, d and f.
-pub fn move_command(state: State, letter: u8, arguments: [u16; 8]) -> Light
+// (A match on the byte, as `move_step` has it: an enum of commands would be one more table, from bytes to variants.)
+pub fn move_command(state: State, letter: u8, arguments: &[u16]) -> Light
     requires on_page { OnPage state }
-    requires le_letter { (0x40 ≤ letter) × (letter ≤ 0x7E) × (is_plain_move letter ≡ true) }
+    requires plain_move { is_plain_move letter ≡ true }
     ensures { (page : Page) →
         light_step result (record { state = state; page = page })
-        ≡ move_step letter arguments (record { state = state; page = page }) }
+        ≡ move_step letter arguments.now (record { state = state; page = page }) }
 {
     let first = crate::value(letter, arguments, 0);
     let second = crate::value(letter, arguments, 1);
-    let row = arguments[0];
-    let given = arguments[1];
+    let row = crate::argument(arguments, 0);
+    let given = crate::argument(arguments, 1);
     match letter {
         b'A' => steps::moves_to(state.up_by(first)), // CUU
         b'B' => steps::moves_to(state.down_by(first)), // CUD

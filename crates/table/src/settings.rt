@@ -15,6 +15,7 @@ use state::State;
 use steps::{Light, Step};
 
 // CTC: 0 sets a tab stop, 2 clears it, 5 clears all.
+// (Here and below a match is on numbers that the host sends, as the definitions: an enum would be one more table.)
 pub fn tab_control(state: State, letter: u8, what: usize) -> Step
     requires { OnPage state }
     ensures { (page : Page) →
@@ -70,11 +71,7 @@ pub fn rendition(state: State, letter: u8, values: &[u16]) -> Light
 fn is_area(pen: Mark, value: usize) -> bool
     ensures { result ≡ is_area pen value }
 {
-    match value {
-        0 | 1 | 3 | 4 => true,
-        20 => !page::has_attribute(pen, Attribute::Protected),
-        _ => false,
-    }
+    matches!(value, 0 | 1 | 3 | 4) || (value == 20 && !page::has_attribute(pen, Attribute::Protected))
 }
 
 // The pen that one of them leaves. (A pen, not an `Option`: `set_area` promises `area_set` of any value.)

@@ -46,11 +46,11 @@ pub struct Reply {
     pub sent: usize,
     pub stored: usize,
     pub refused: usize,
-    // Cells may have become protected or unprotected.
+    // Cells may have become protected or unprotected: a flag, that no other field goes with.
     pub protection: bool,
 }
 
-// Document 01's number.
+// Document 01's number, as a function that can be handed on by name.
 pub fn number_of(answer: Answer) -> u8
     ensures { result ≡ number_of answer }
 {
@@ -242,6 +242,7 @@ fn allows_bytes(state: State, characters: &[u8], marks: &[Mark], bytes: &[u8]) -
 }
 
 // Host bytes, at most 65,536. Transmissions are written from the output's start on.
+// (`key` is of this shape: a function of both, with closures, would have their contracts as clauses, longer than both.)
 pub fn host(
     state: State,
     characters: &mut [u8],

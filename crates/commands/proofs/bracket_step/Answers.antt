@@ -85,8 +85,8 @@ returns-in_default c =
     let passed = not_too_many c.args.letter c.args.half t _ c.most_arguments-most.ensures c.if-most-eq0.false c.if-most-half.false in
     let rest = c.in_default.in_default-own.rest in
     let asked = c.requires.at_in_bounds in
-    let move = no_move_left c.args.letter asked.1 asked.2 asked.4 rest.0.0.0.0.1 rest.0.0.0.1 in
-    let setting = no_setting_left c.args.letter asked.4 in
+    let move = no_move_left c.args.letter asked.1 rest.0.0.0.0.1 rest.0.0.0.1 in
+    let setting = no_setting_left c.args.letter asked.1 in
     λ before. rw
     (passed ∙ final_n _ _ _ _ t c.value-what.ensures move rest.0.0.1 rest.0.1 rest.1 setting.0 setting.1 setting.2 setting.3)
     (c.status_report.ensures before t.page)

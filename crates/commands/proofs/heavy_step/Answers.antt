@@ -9,15 +9,13 @@ use Rattle.commands.proofs.heavy_step.Goals as goal
 
 -- What a called function asks of the byte: the event is not light.
 pub control-requires : goal.control-requires
-control-requires c = record { valid = c.requires.valid; byte_value = ap (is_light _ _) (sym c.in-Control.is) ∙ c.requires.at_in_bounds.3 }
+control-requires c = record { valid = c.requires.valid; byte_value = ap (is_light _ _) (sym c.in-Control.is) ∙ c.requires.at_in_bounds.1 }
 
 pub esc_step-requires : goal.esc_step-requires
-esc_step-requires c = record { valid = c.requires.valid; at_in_bounds = (c.requires.at_in_bounds.0, ap (is_light _ _) (sym c.in-EscCommand.is) ∙ c.requires.at_in_bounds.3) }
+esc_step-requires c = record { valid = c.requires.valid; at_in_bounds = (c.requires.at_in_bounds.0, ap (is_light _ _) (sym c.in-EscCommand.is) ∙ c.requires.at_in_bounds.1) }
 
--- And the final byte of a command of ESC [ is in the table.
 pub bracket_step-requires : goal.bracket_step-requires
-bracket_step-requires c = let told = c.in-BracketCommand.is in
-    let final = c.requires.at_in_bounds.1 _ told in record { valid = c.requires.valid; at_in_bounds = (c.requires.at_in_bounds.0, final.0, final.1, c.requires.at_in_bounds.2, ap (is_light _ _) (sym told) ∙ c.requires.at_in_bounds.3) }
+bracket_step-requires c = record { valid = c.requires.valid; at_in_bounds = (c.requires.at_in_bounds.0, ap (is_light _ _) (sym c.in-BracketCommand.is) ∙ c.requires.at_in_bounds.1) }
 
 -- What the called function tells of the event, where it sends nothing; else what it writes.
 pub returns-in-Text : goal.returns-in-Text
@@ -44,7 +42,7 @@ returns-in-BracketCommand c = λ before. rw c.in-BracketCommand.is (c.bracket_st
 pub unreachable-requires : goal.unreachable-requires
 unfolding is_light
 unreachable-requires c =
-    let heavy = c.requires.at_in_bounds.3 in
+    let heavy = c.requires.at_in_bounds.1 in
     ⊎_elim (λ e. true_is_not_false (ap (is_light _ _) (sym e) ∙ heavy))
     (⊎_elim (λ e. true_is_not_false (ap (is_light _ _) (sym e.1) ∙ heavy)) (λ e. true_is_not_false (ap (is_light _ _) (sym e.2) ∙ heavy)))
     c.in-Nothing.is

@@ -6,10 +6,10 @@ use Rattle.table.specs.Table.{allowed}
 use Rattle.table.proofs.Tables.{digits_of, is_digit, digit_is}
 use Rattle.table.proofs.zero_is.Goals as goal
 
-pub digit-requires-clause-is_digit : goal.digit-requires-clause-is_digit
+pub digit-requires : goal.digit-requires
 unfolding digits_of allowed If◌then◌else◌ ◌and◌ ◌or◌ ◌is◌to◌
-digit-requires-clause-is_digit c = is_digit (λ (final : ℕ). (allowed final).zero_is) 0x40 63 c.args.letter (search rules) (search rules)
+digit-requires c = is_digit (λ (final : ℕ). (allowed final).zero_is) 256 c.args.letter (search rules)
 
 pub returns : goal.returns
 unfolding digits_of allowed If◌then◌else◌ ◌and◌ ◌or◌ ◌is◌to◌
-returns c = c.digit.ensures ∙ digit_is (λ (final : ℕ). (allowed final).zero_is) 0x40 63 c.args.letter (search rules) (search rules)
+returns c = c.digit.ensures ∙ digit_is (λ (final : ℕ). (allowed final).zero_is) 256 c.args.letter (search rules)

@@ -12,7 +12,7 @@ use Rattle.steps.proofs.Measuring.{measured}
 use Rattle.terminal.specs.Runs.{count_of}
 use Rattle.terminal.specs.Answers.{number_of}
 use Rattle.terminal.proofs.Running.{counted_one, joined, sets_out, ends_done}
-use Rattle.terminal.proofs.Onward.{goes_over_text, text_past, arrived_valid, arrived_final, arrived_count, arrived_past, arrived_inside, goes_lightly, goes_heavily, stops_full}
+use Rattle.terminal.proofs.Onward.{goes_over_text, text_past, arrived_valid, arrived_past, arrived_inside, goes_lightly, goes_heavily, stops_full}
 use Rattle.terminal.proofs.run.Goals as goal
 
 pub loop-taken-init : goal.loop-taken-init
@@ -63,7 +63,7 @@ read-read-requires c = record { half_value = (parts c.loop-taken.here c.loop-tak
 
 pub light_step-light-requires : goal.light_step-light-requires
 light_step-light-requires c = let more = c.loop-taken-test.true in
-    let read = c.read-read.ensures in record { on_page = (measured (arrived_valid _ _ _ _ _ _ _ _ _ _ c.loop-taken.invariant.0 more _ read)).on_page; final_in_table = (arrived_final _ _ _ _ _ _ _ _ _ _ c.loop-taken.invariant.0 more _ read, arrived_count _ _ _ _ _ _ _ _ _ _ c.loop-taken.invariant.0 more _ read, sym c.is_light.ensures ∙ c.if-is_light.true) }
+    let read = c.read-read.ensures in record { on_page = (measured (arrived_valid _ _ _ _ _ _ _ _ _ _ c.loop-taken.invariant.0 more _ read)).on_page; light = sym c.is_light.ensures ∙ c.if-is_light.true }
 
 pub loop-taken-smaller-in-Cursor : goal.loop-taken-smaller-in-Cursor
 loop-taken-smaller-in-Cursor c =
@@ -125,7 +125,7 @@ pub heavy_step-requires : goal.heavy_step-requires
 heavy_step-requires c = let more = c.loop-taken-test.true in
     let read = c.read-read.ensures in
     let going = c.loop-taken.invariant.0 in
-    let next = c.with_half-next.ensures in record { valid = rw next (arrived_valid _ _ _ _ _ _ _ _ _ _ c.loop-taken.invariant.0 more _ read); at_in_bounds = (omega (arith, going.room, going.as_long), arrived_final _ _ _ _ _ _ _ _ _ _ c.loop-taken.invariant.0 more _ read, arrived_count _ _ _ _ _ _ _ _ _ _ c.loop-taken.invariant.0 more _ read, rw next (sym c.is_light.ensures ∙ c.if-is_light.false)) }
+    let next = c.with_half-next.ensures in record { valid = rw next (arrived_valid _ _ _ _ _ _ _ _ _ _ c.loop-taken.invariant.0 more _ read); at_in_bounds = (omega (arith, going.room, going.as_long), rw next (sym c.is_light.ensures ∙ c.if-is_light.false)) }
 
 pub overflow_sub-result : goal.overflow_sub-result
 overflow_sub-result c =

@@ -7,16 +7,15 @@ use Rattle.commands.proofs.light.light_step.Goals as goal
 
 pub light_control-requires : goal.light_control-requires
 unfolding is_light
-light_control-requires c = record { on_page = c.requires.on_page; code_value = ap (is_light _ _) (sym c.in-Control.is) ∙ c.requires.final_in_table.2 }
+light_control-requires c = record { on_page = c.requires.on_page; code_value = ap (is_light _ _) (sym c.in-Control.is) ∙ c.requires.light }
 
 pub light_letter-requires : goal.light_letter-requires
 unfolding is_light
-light_letter-requires c = ap (is_light _ _) (sym c.in-EscCommand.is) ∙ c.requires.final_in_table.2
+light_letter-requires c = ap (is_light _ _) (sym c.in-EscCommand.is) ∙ c.requires.light
 
 pub light_final-requires : goal.light_final-requires
 unfolding is_light
-light_final-requires c = let is = c.in-BracketCommand.is in
-    let final = c.requires.final_in_table.0 _ is in record { on_page = c.requires.on_page; le_letter = (final.0, final.1, c.requires.final_in_table.1, ap (is_light _ _) (sym is) ∙ c.requires.final_in_table.2) }
+light_final-requires c = record { on_page = c.requires.on_page; light = ap (is_light _ _) (sym c.in-BracketCommand.is) ∙ c.requires.light }
 
 pub returns-in-Nothing : goal.returns-in-Nothing
 unfolding event_step light_step
@@ -25,7 +24,7 @@ returns-in-Nothing c = λ page. rw (c.moves_to.ensures, c.in-Nothing.is)
 -- Text is not light.
 pub unreachable-requires : goal.unreachable-requires
 unfolding is_light
-unreachable-requires c = true_is_not_false (sym (ap (is_light _ _) (sym c.in-Text.is) ∙ c.requires.final_in_table.2))
+unreachable-requires c = true_is_not_false (sym (ap (is_light _ _) (sym c.in-Text.is) ∙ c.requires.light))
 
 pub returns-in-Control : goal.returns-in-Control
 unfolding event_step light_step

@@ -48,4 +48,4 @@ unfolding move_step light_step is_plain_move If◌then◌else◌ ◌is◌to◌
 returns-in_default c =
     λ page.
     let is_f : c.args.letter ≡ 0x66 = grind (arith, code_tests) in
-    rw (c.to_place-in_default.ensures page, c.kept_column.ensures, c.value-second.ensures, c.value-first.ensures, is_f)
+    rw (c.to_place-in_default.ensures page, c.kept_column.ensures, c.value-second.ensures, c.value-first.ensures, c.argument-row.ensures, c.argument-given.ensures, is_f)

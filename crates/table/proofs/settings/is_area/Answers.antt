@@ -3,22 +3,14 @@ use Rattle.words.proofs.Testing.{code_tests}
 use Rattle.table.specs.Settings.{is_area}
 use Rattle.table.proofs.settings.is_area.Goals as goal
 
-pub returns-in-0 : goal.returns-in-0
+pub returns-then-matches : goal.returns-then-matches
 unfolding is_area
-returns-in-0 c = grind (arith, code_tests)
+returns-then-matches c = grind (arith, code_tests)
 
-pub returns-in-0-2 : goal.returns-in-0-2
+pub returns-then-value-eq20 : goal.returns-then-value-eq20
 unfolding is_area
-returns-in-0-2 c = grind (arith, code_tests)
+returns-then-value-eq20 c = grind (arith, code_tests)
 
-pub returns-in-20 : goal.returns-in-20
+pub returns-else-value-eq20 : goal.returns-else-value-eq20
 unfolding is_area
-returns-in-20 c = grind (arith, code_tests)
-
-pub returns-in_default : goal.returns-in_default
-unfolding is_area
-returns-in_default c = grind (arith, code_tests)
-
-pub returns-in_default-2 : goal.returns-in_default-2
-unfolding is_area
-returns-in_default-2 c = grind (arith, code_tests)
+returns-else-value-eq20 c = grind (arith, code_tests)
