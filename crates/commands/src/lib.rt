@@ -8,8 +8,7 @@ mod texts;
 
 ghost use Rattle.std.specs.Prelude.{◌≡◌, false, ◌≤◌, ◌+◌, length};
 ghost use Rattle.sequence.specs.declared.Event.TheVariants.{Control, EscCommand, BracketCommand};
-ghost use Rattle.page.specs.Page.{Page, page_of};
-ghost use Rattle.state.specs.State.{OnPage};
+ghost use Rattle.page.specs.Page.{page_of};
 ghost use Rattle.state.specs.declared.State.{State};
 ghost use Rattle.steps.specs.Steps.{Valid, cursor_cell, row_start, terminal_of};
 ghost use Rattle.steps.specs.Told.{told, told_or, tells, written};

@@ -1,8 +1,7 @@
 -- The two passes over the copy: what is laid is counted, then written.
 use mathlib.Core.Path.{◌≡◌, refl, sym, ap, ◌∙◌, subst}
-use mathlib.Core.Bool.{false}
 use mathlib.Core.List.{List, [], ◌∷◌, ◌++◌, append_assoc}
-use Prim.Native.Nat.{ℕ, ◌+◌, ◌-◌, ◌<◌, ◌≤◌}
+use Prim.Native.Nat.{ℕ, ◌+◌, ◌<◌, ◌≤◌}
 use native.Mathlib.Nat.{zero-add}
 use native.Mathlib.Omega.{arith}
 use borrow.Author.Tests.{lt-ltb, le-ltb, le-leb, lt-leb}
@@ -15,17 +14,8 @@ use Rattle.blocks.specs.Lay.{lay}
 use Rattle.copy.specs.Copy.{IsBlock, NextLaid}
 use Rattle.copy.proofs.Laws.{lay_end}
 
-part_length : (block copy : List ℕ) (at : ℕ) {bytes : List ℕ} {next : ℕ} → NextLaid block copy at bytes next → length (lay block (drop at copy)) ≡ length bytes + length (lay block (drop next copy))
-part_length block copy at {bytes} part = ap (length {A = ℕ}) part.laid ∙ length-append bytes _
-
--- The next part of what is laid, counted: it exceeds the room left, or leaves some; at the end 03 needs one byte.
+-- What is laid, counted down: at the end 03 needs one byte.
 module _ (block copy : List ℕ) (room left at : ℕ) (counted : length (lay block copy) + left ≡ room + length (lay block (drop at copy))) where
-  pub part_exceeds : {bytes : List ℕ} {next : ℕ} → NextLaid block copy at bytes next → left < length bytes → leb (length (lay block copy)) room ≡ false
-  part_exceeds part exceeds = lt-leb (length (lay block copy)) room (omega (arith, part_length block copy at part))
-
-  pub part_counted : {bytes : List ℕ} {next : ℕ} → NextLaid block copy at bytes next → length bytes ≤ left → length (lay block copy) + (left - length bytes) ≡ room + length (lay block (drop next copy))
-  part_counted part fits = omega (arith, part_length block copy at part)
-
   pub all_counted : IsBlock (drop at copy) → (get_or copy at 0 ≡ 0x1B → ⊥) → ltb 0 left ≡ leb (length (lay block copy)) room
   all_counted rest no-escape =
       let one = ap (length {A = ℕ}) (lay_end block copy at rest no-escape) in

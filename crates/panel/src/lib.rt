@@ -3,7 +3,7 @@
 // crate panel_c exports the three under the same names.
 #![tactic(auto)]
 
-ghost use Rattle.std.specs.Prelude.{◌≡◌, [], List, ℕ, ◌*◌, ◌≤◌, length, MatchResult};
+ghost use Rattle.std.specs.Prelude.{◌≡◌, [], ◌*◌, ◌≤◌, length, MatchResult};
 ghost use Rattle.words.specs.Output.{placed};
 ghost use Rattle.page.specs.Page.{page_of};
 ghost use Rattle.state.specs.Tests.{size_fits};

@@ -2,11 +2,11 @@
 use mathlib.Core.Path.{◌≡◌, sym, ap, ◌∙◌, subst}
 use mathlib.Core.Bool.{true}
 use mathlib.Core.List.{List, [], ◌∷◌, ◌++◌, append-nil}
-use Prim.Native.Nat.{ℕ, ◌+◌, ◌-◌, ◌<◌, ◌≤◌}
+use Prim.Native.Nat.{ℕ, ◌+◌, ◌-◌, ◌≤◌}
 use Prim.Native.Char.{code}
 use native.Mathlib.Nat.{add-zero}
 use native.Mathlib.Omega.{arith}
-use lib.ListN.{length, take, drop, length-take, length-drop, take-append-drop, drop_of_length-le}
+use lib.ListN.{length, take, drop, length-take, length-drop, take-append-drop}
 use lib.Seq.{take_all}
 use Rattle.words.specs.Choice.{◌or◌}
 use Rattle.page.specs.Page.{Page}
@@ -28,16 +28,6 @@ use Rattle.promises.proofs.Calling.{first_done}
 use Rattle.promises.proofs.Theorems.{demand_2}
 use Rattle.samples.specs.Samples.{InTwoReads, Restored, esc_s, SentOn}
 use Rattle.samples.proofs.Asking.{after_esc, valid_after_esc, full_sent, full_asked}
-
--- A cut past the end is one at the end.
-pub past_the_end : (bytes : List ℕ) (cut : ℕ) → length bytes < cut → (length bytes ≤ length bytes) × (take (length bytes) bytes ≡ take cut bytes) × (drop (length bytes) bytes ≡ drop cut bytes)
-past_the_end bytes cut past =
-    let at_end : length bytes ≤ length bytes = omega arith in
-    let after : length bytes ≤ cut = omega arith in (
-      at_end,
-      take_all (length bytes) bytes at_end ∙ sym (take_all cut bytes after),
-      drop_of_length-le bytes at_end ∙ sym (drop_of_length-le bytes after),
-    )
 
 pub whole_rest : (bytes : List ℕ) (at : ℕ) → at ≤ length bytes → take (length bytes - at) (drop at bytes) ≡ drop at bytes
 whole_rest bytes at inside =

@@ -13,8 +13,8 @@ use page::Mark;
 use state::{Size, State};
 use steps::Light;
 
-// Each has a number, and a line of document 01's table: `number_of` and `gives` of specs/Answers.antt. (No Result, since
-// 3 comes with steps done.)
+// Each has a number, and a line of document 01's table: `number_of` and `gives` of specs/Answers.antt. (No Result: 3
+// comes with steps done.)
 #[derive(Clone, Copy)]
 pub enum Answer {
     Done = 0,
