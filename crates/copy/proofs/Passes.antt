@@ -14,6 +14,9 @@ use Rattle.blocks.specs.Lay.{lay}
 use Rattle.copy.specs.Copy.{IsBlock, NextLaid}
 use Rattle.copy.proofs.Laws.{lay_end}
 
+part_length : (block copy : List ℕ) (at : ℕ) {bytes : List ℕ} {next : ℕ} → NextLaid block copy at bytes next → length (lay block (drop at copy)) ≡ length bytes + length (lay block (drop next copy))
+part_length block copy at {bytes} part = ap (length {A = ℕ}) part.laid ∙ length-append bytes _
+
 -- What is laid, counted down: at the end 03 needs one byte.
 module _ (block copy : List ℕ) (room left at : ℕ) (counted : length (lay block copy) + left ≡ room + length (lay block (drop at copy))) where
   pub all_counted : IsBlock (drop at copy) → (get_or copy at 0 ≡ 0x1B → ⊥) → ltb 0 left ≡ leb (length (lay block copy)) room
