@@ -81,7 +81,7 @@ fn laid_part<'a>(block: Entries<'a>, own: &'a [u8]) -> &'a [u8]
     own
 }
 
-// Whether what is laid fits: counted down, since a sum might not fit a number.
+// Whether what is laid fits: counted down, since a sum might not fit a number, and no further than to what doesn't fit.
 fn has_room(block: Entries, copy: Entries, room: usize) -> bool
     ensures { result ≡ leb (length (lay block.entry.bytes.now copy.entry.bytes.now)) room }
 {

@@ -64,7 +64,8 @@ pub fn is_locked_out(key: usize, state: State) -> bool
 }
 
 // Whether the cursor's cell is unprotected. Here and below `characters` is lent for the contract, which speaks of the
-// whole terminal. (The two slices and `Valid` stand at each function, since the C interface lends them so.)
+// whole terminal. (The page stays two slices with `Valid` at each function: so the C interface lends it, and so the
+// contracts of the public functions name it.)
 fn stands_unprotected(state: State, characters: &[u8], marks: &[Mark]) -> bool
     requires { Valid (terminal_of state characters.now marks.now) }
     ensures { result
@@ -260,7 +261,7 @@ fn shift_rest<F: FnOnce(&mut [u8], &mut [Mark], usize, usize)>(
     steps::stored(state, rest.end - rest.start, false)
 }
 
-// The keys from 256 on that send nothing; a number that is no key does nothing.
+// The keys from 256 on that send nothing; a number that is no key does nothing. (A match, since no two keys do the same.)
 fn act(state: State, characters: &mut [u8], marks: &mut [Mark], key: usize) -> Step
     requires valid { Valid (terminal_of state characters.old marks.old) }
     requires key_value { (is_typing key ≡ false) × (key ≡ 266 → ⊥) }
