@@ -9,7 +9,7 @@ use mathlib.Core.List.{List, [], ◌++◌}
 use Prim.Native.Nat.{ℕ, ◌*◌, ◌≤◌, min}
 use native.Mathlib.Nat.{mul-le-mul_right}
 use native.Mathlib.Omega.{arith}
-use borrow.Author.Tests.{eq-eqb}
+use borrow.Author.Tests.{eq-eqb, ne_eqb}
 use lib.ListN.{length, take, drop, replicate, length-replicate, take-append-drop}
 use lib.Seq.{length-take-le}
 use Rattle.words.specs.Choice.{If◌then◌else◌}
@@ -181,3 +181,10 @@ module _ (rows columns cells from end : ℕ) (before : Lent) (enough : Enough be
       (either_way (listed_size size)
       (λ listed. rw (good_number listed) (did_as (ap started (good_start size (lent_page rows columns) (lent_sizes rows columns) listed)) (good_did listed)))
       (λ unlisted. rw (refused_number unlisted) (did_as (ap started (refused_start size (lent_page rows columns) (lent_sizes rows columns) unlisted)) (refused_did unlisted))))
+
+  -- The same, of a start that was answered 0, and of one that was not.
+  pub started_well : number_of reply.answer ≡ 0 → CallDone (call_of (start rows columns) s) from before (record { held = Some (record { cells = cells; state = reply.state }); end = end; rest = None }) whole
+  started_well good = start_did (rw good refl)
+
+  pub started_badly : (number_of reply.answer ≡ 0 → ⊥) → CallDone (call_of (start rows columns) s) from before (record { held = None; end = end; rest = None }) whole
+  started_badly bad = start_did (rw (ne_eqb _ _ bad) refl)

@@ -50,12 +50,15 @@ module _ (list : List ℕ) (n at : ℕ) (sum : at + n ≡ length list) where
       let after : drop n moved ≡ take at list = ap (drop n) is ∙ drop_at (take n list) (take at list) n first in
       rw (is_filled, old_row, first, after)
 
--- The last store of `close_up`, and of `move_right`.
-pub closes_up : (part : List ℕ) → 0 < length part → set (copy_within part 1 (length part) 0) (length part - 1) 0x20 ≡ closed_up part
+-- The last store of `close_up`, over the parts that are left, and over the library's copy; and that of `move_right`.
+pub closes_up : (part : List ℕ) → 0 < length part → set (drop 1 part ++ drop (length part - 1) part) (length part - 1) 0x20 ≡ closed_up part
 unfolding closed_up
 closes_up part h =
     let last : length part - 1 < length part = omega arith in
-    rw (copied_up part 1 (length part - 1) (omega arith), drop-cons part (length part - 1) 0, set_at (drop 1 part) _ _ _ (length part - 1) (length-drop 1 part), drop_of_length-le part {i = suc (length part - 1)} (omega arith))
+    rw (drop-cons part (length part - 1) 0, set_at (drop 1 part) _ _ _ (length part - 1) (length-drop 1 part), drop_of_length-le part {i = suc (length part - 1)} (omega arith))
+
+pub closes_up_within : (part : List ℕ) → 0 < length part → set (copy_within part 1 (length part) 0) (length part - 1) 0x20 ≡ closed_up part
+closes_up_within part h = rw (copied_up part 1 (length part - 1) (omega arith)) (closes_up part h)
 
 pub moves_right : (part : List ℕ) → 0 < length part → set (copy_within part 0 (length part - 1) 1) 0 0x20 ≡ moved_right part
 unfolding moved_right

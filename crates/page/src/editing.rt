@@ -26,7 +26,7 @@ fn blank(part: &mut [u8])
 }
 
 // The part closes up, with a 20 at its end.
-#[tactic(auto, using(crate::proofs::Laws::closes_up))]
+#[tactic(auto, using(crate::proofs::Laws::closes_up_within))]
 fn close_up(part: &mut [u8])
     requires { 0 < length part.old }
     ensures { part.new ≡ closed_up part.old }
