@@ -6,55 +6,52 @@ use native.Mathlib.Nat.{zero-add}
 use native.Mathlib.Omega.{arith}
 use borrow.Author.Tests.{lt-ltb, le-ltb, le-leb, lt-leb}
 use lib.Dec.{ltb, leb}
-use lib.ListN.{length, drop, get_or, length-append}
+use lib.ListN.{length, length-append}
 use Rattle.words.specs.Output.{Wrote}
 use Rattle.words.proofs.Choosing.{less_or_not}
 use Rattle.words.proofs.Output.{wrote_none, wrote_then}
 use Rattle.blocks.specs.Lay.{lay}
-use Rattle.copy.specs.Copy.{IsBlock, NextLaid}
-use Rattle.copy.proofs.Laws.{lay_end}
 
 part_length : (block copy : List ℕ) (at : ℕ) {bytes : List ℕ} {next : ℕ} → NextLaid block copy at bytes next → length (lay block (drop at copy)) ≡ length bytes + length (lay block (drop next copy))
 part_length block copy at {bytes} part = ap (length {A = ℕ}) part.laid ∙ length-append bytes _
 
 -- What is laid, counted down: at the end 03 needs one byte.
-module _ (block copy : List ℕ) (room left at : ℕ) (counted : length (lay block copy) + left ≡ room + length (lay block (drop at copy))) where
-  pub all_counted : IsBlock (drop at copy) → (get_or copy at 0 ≡ 0x1B → ⊥) → ltb 0 left ≡ leb (length (lay block copy)) room
-  all_counted rest no-escape =
-      let one = ap (length {A = ℕ}) (lay_end block copy at rest no-escape) in
-      less_or_not 0 left
-      (λ some. lt-ltb 0 left some ∙ sym (le-leb (length (lay block copy)) room (omega (arith, one))))
-      (λ none. le-ltb 0 left none ∙ sym (lt-leb (length (lay block copy)) room (omega (arith, one))))
+pub all_counted : (all room left end : ℕ) → end ≡ 1 → all + left ≡ room + end → ltb 0 left ≡ leb all room
+all_counted all room left end one counted =
+    less_or_not 0 left
+    (λ some. lt-ltb 0 left some ∙ sym (le-leb all room (omega arith)))
+    (λ none. le-ltb 0 left none ∙ sym (lt-leb all room (omega arith)))
 
--- What is written so far, with what is laid from here on, is all that is laid.
-pub record Writing (block copy before : List ℕ) (next at : ℕ) (now : List ℕ) : Type 0 where
-  pub copy_here : IsBlock (drop at copy)
+-- What is written so far, with what is laid for the rest of the copy, is all that is laid.
+pub record Writing (block copy before : List ℕ) (next : ℕ) (rest now : List ℕ) : Type 0 where
   pub bytes : List ℕ
   pub wrote : Wrote 0 bytes before next now
-  pub whole : bytes ++ lay block (drop at copy) ≡ lay block copy
+  pub whole : bytes ++ lay block rest ≡ lay block copy
 
-pub writing_starts : (block copy before : List ℕ) → IsBlock copy → Writing block copy before 0 0 before
-writing_starts block copy before is_whole = record { copy_here = is_whole; bytes = []; wrote = wrote_none 0 before; whole = refl }
+pub writing_starts : (block copy before : List ℕ) → Writing block copy before 0 copy before
+writing_starts block copy before = record { bytes = []; wrote = wrote_none 0 before; whole = refl }
 
-module _ {block copy before : List ℕ} {next at : ℕ} {now : List ℕ} (writing : Writing block copy before next at now) where
-  lengths : length writing.bytes + length (lay block (drop at copy)) ≡ length (lay block copy)
+module _ {block copy before : List ℕ} {next : ℕ} {here now : List ℕ} (writing : Writing block copy before next here now) where
+  lengths : length writing.bytes + length (lay block here) ≡ length (lay block copy)
   lengths = sym (length-append writing.bytes _) ∙ ap (length {A = ℕ}) writing.whole
 
-  pub part_fits : {bytes : List ℕ} {further : ℕ} → NextLaid block copy at bytes further → length (lay block copy) ≤ length before → length now ≡ length before → next + length bytes ≤ length now
-  part_fits part fits same = omega (arith, lengths, part_length block copy at part, writing.wrote.next_is)
+  -- The next part fits, and then there is more written;
+  module _ (bytes rest : List ℕ) (laid : lay block here ≡ bytes ++ lay block rest) where
+    pub part_fits : length (lay block copy) ≤ length before → length now ≡ length before → next + length bytes ≤ length now
+    part_fits fits same = omega (arith, lengths, ap (length {A = ℕ}) laid ∙ length-append bytes _, writing.wrote.next_is)
 
-  pub part_written : {bytes : List ℕ} {further : ℕ} → NextLaid block copy at bytes further → {end : ℕ} {after : List ℕ} → Wrote next bytes now end after → Writing block copy before end further after
-  part_written {bytes} part wrote =
-      record {
-        copy_here = part.goes_to;
-        bytes = writing.bytes ++ bytes;
-        wrote = wrote_then (omega arith) writing.wrote wrote;
-        whole = append_assoc writing.bytes bytes _ ∙ ap (λ (list : List ℕ). writing.bytes ++ list) (sym part.laid) ∙ writing.whole;
-      }
+    pub part_written : {end : ℕ} {after : List ℕ} → Wrote next bytes now end after → Writing block copy before end rest after
+    part_written wrote =
+        record {
+          bytes = writing.bytes ++ bytes;
+          wrote = wrote_then (omega arith) writing.wrote wrote;
+          whole = append_assoc writing.bytes bytes _ ∙ ap (λ (list : List ℕ). writing.bytes ++ list) (sym laid) ∙ writing.whole;
+        }
 
-  module _ (no-escape : get_or copy at 0 ≡ 0x1B → ⊥) where
+  -- at the end 03 does, and then all is.
+  module _ (end_laid : lay block here ≡ 0x03 ∷ []) where
     all_but_end : writing.bytes ++ (0x03 ∷ []) ≡ lay block copy
-    all_but_end = ap (λ (list : List ℕ). writing.bytes ++ list) (sym (lay_end block copy at writing.copy_here no-escape)) ∙ writing.whole
+    all_but_end = ap (λ (list : List ℕ). writing.bytes ++ list) (sym end_laid) ∙ writing.whole
 
     pub end_fits : length (lay block copy) ≤ length before → length now ≡ length before → next < length now
     end_fits fits same = omega (arith, sym (length-append writing.bytes (0x03 ∷ [])) ∙ ap (length {A = ℕ}) all_but_end, writing.wrote.next_is)

@@ -2,29 +2,49 @@
 // The bytes that are laid are `lay` of crates/blocks/specs/Lay.antt.
 #![tactic(auto)]
 
-ghost use Rattle.std.specs.Prelude.{◌≡◌, ◌<◌, ◌≤◌, leb, length, drop, get_or};
+ghost use Rattle.std.specs.Prelude.{◌≡◌, ◌<◌, ◌≤◌, true, leb, length};
+ghost use Rattle.std.specs.Iterator.{at_most};
 ghost use Rattle.words.specs.Output.{Wrote};
-ghost use Rattle.blocks.specs.Lay.{lay};
-ghost use Rattle.copy.specs.Copy.{IsBlock, entry_end, same_head, NextLaid, laying};
+ghost use Rattle.blocks.specs.Blocks.{Entry, entry_bytes};
+ghost use Rattle.blocks.specs.Decode.{decode, valid_entry};
+ghost use Rattle.blocks.specs.Lay.{laid_on, lay};
+ghost use Rattle.copy.specs.Copy.{IsBlock, entry_end, same_head, GivesEntry, laying};
 
 use output::NoRoom;
 
 // An entry of a block starts with it.
 const ESC: u8 = 0x1B;
 
-// What is laid for an entry of the copy, from the block or from the copy, and where the copy's next entry starts.
-#[derive(Clone, Copy)]
-struct Part<'a> {
+// The entries of a block from one on, each as its bytes.
+#[derive(Clone, Copy, Drop)]
+struct Entries<'a> {
     bytes: &'a [u8],
-    next: usize,
+    ghost block: { IsBlock bytes.now },
 }
 
-// Where the entry ends whose ESC is at a place.
-fn entry_end(bytes: &[u8], at: usize) -> usize
-    requires { at < length bytes.now }
-    ensures { result ≡ entry_end bytes.now at }
+impl<'a> Iterator for Entries<'a> {
+    type Item = &'a [u8];
+
+    ghost next_gives = { λ entries given rest. GivesEntry entries.bytes.now given rest.bytes.now };
+
+    ghost remaining = { λ entries. at_most (length entries.bytes.now) };
+
+    fn next(&mut self) -> Option<&'a [u8]> {
+        if self.bytes[0] != ESC {
+            return None;
+        }
+        let (entry, rest) = self.bytes.split_at(entry_end(self.bytes));
+        self.bytes = rest;
+        Some(entry)
+    }
+}
+
+// Where the entry ends that bytes start with.
+fn entry_end(bytes: &[u8]) -> usize
+    requires { 0 < length bytes.now }
+    ensures { result ≡ entry_end bytes.now }
 {
-    for end in at + 1..bytes.len() {
+    for end in 1..bytes.len() {
         if bytes[end] < 0x20 {
             return end;
         }
@@ -32,7 +52,8 @@ fn entry_end(bytes: &[u8], at: usize) -> usize
     bytes.len()
 }
 
-// Whether two entries are of one row and column: their bytes are the same up to the f.
+// Whether two entries are of one row and column: their bytes are the same up to the f. (The loop returns on either
+// answer: `all` and `any` would go on past one of the two.)
 fn same_head(one: &[u8], other: &[u8]) -> bool
     ensures { result ≡ same_head one.now other.now }
 {
@@ -47,59 +68,41 @@ fn same_head(one: &[u8], other: &[u8]) -> bool
     false
 }
 
-// For the copy's entry at a place: the first of the block with its row and column, else itself.
-fn laid_part<'a>(block: &'a [u8], copy: &'a [u8], at: usize) -> Part<'a>
-    requires { IsBlock block.now × IsBlock (drop at copy.now) × (get_or copy.now at 0 ≡ 0x1B) }
-    ensures { NextLaid block.now copy.now at result.bytes.now result.next }
+// What is laid for an entry of the copy: the block's first of its row and column, else itself.
+fn laid_part<'a>(block: Entries<'a>, own: &'a [u8]) -> &'a [u8]
+    ensures { (entry : Entry) → valid_entry entry ≡ true → own.now ≡ entry_bytes entry →
+        result.now ≡ entry_bytes (laid_on (decode block.entry.bytes.now) entry) }
 {
-    let next = entry_end(copy, at);
-    // A while, as in the two passes below: each turn passes an entry, and the byte after it says whether one follows.
-    let mut here = 0;
-    while block[here] == ESC {
-        let end = entry_end(block, here);
-        if same_head(&block[here..], &copy[at..]) {
-            return Part {
-                bytes: &block[here..end],
-                next,
-            };
+    for sent in block {
+        if same_head(sent, own) {
+            return sent;
         }
-        here = end;
     }
-    Part {
-        bytes: &copy[at..next],
-        next,
-    }
+    own
 }
 
-// Whether what is laid fits: counted down, since a sum might not fit a number.
-fn has_room(block: &[u8], copy: &[u8], room: usize) -> bool
-    requires { IsBlock block.now × IsBlock copy.now }
-    ensures { result ≡ leb (length (lay block.now copy.now)) room }
+// Whether what is laid fits: counted down, since a sum might not fit a number, and no further than to what doesn't fit.
+fn has_room(block: Entries, copy: Entries, room: usize) -> bool
+    ensures { result ≡ leb (length (lay block.entry.bytes.now copy.entry.bytes.now)) room }
 {
     let mut left = room;
-    let mut at = 0;
-    while copy[at] == ESC {
-        let part = laid_part(block, copy, at);
-        let Some(rest) = left.checked_sub(part.bytes.len()) else {
+    for own in copy {
+        let Some(rest) = left.checked_sub(laid_part(block, own).len()) else {
             return false;
         };
         left = rest;
-        at = part.next;
     }
     0 < left
 }
 
 // All that is laid, written.
-fn put_laid(out: &mut [u8], block: &[u8], copy: &[u8]) -> usize
-    requires { IsBlock block.now × IsBlock copy.now × (length (lay block.now copy.now) ≤ length out.old) }
-    ensures { Wrote 0 (lay block.now copy.now) out.old result out.new }
+fn put_laid(out: &mut [u8], block: Entries, copy: Entries) -> usize
+    requires { length (lay block.bytes.now copy.bytes.now) ≤ length out.old }
+    ensures { Wrote 0 (lay block.entry.bytes.now copy.entry.bytes.now) out.old result out.new }
 {
     let mut next = 0;
-    let mut at = 0;
-    while copy[at] == ESC {
-        let part = laid_part(block, copy, at);
-        next = output::put_all(out, next, part.bytes);
-        at = part.next;
+    for own in copy {
+        next = output::put_all(out, next, laid_part(block, own));
     }
     output::put_byte(out, next, 0x03)
 }
@@ -111,6 +114,8 @@ pub fn lay(block: &[u8], copy: &[u8], out: &mut [u8]) -> Result<usize, NoRoom>
     ensures { record { answer = result; output = out.new }
         ≡ laying (lay block.now copy.now) out.old }
 {
+    let block = Entries { bytes: block };
+    let copy = Entries { bytes: copy };
     if !has_room(block, copy, out.len()) {
         return Err(NoRoom);
     }

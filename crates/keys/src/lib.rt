@@ -1,8 +1,9 @@
 // Document 01, "Fields, keys and blocks": the keys. What each function gives is defined in specs/Keys.antt.
 #![tactic(auto)]
 
-ghost use Rattle.std.specs.Prelude.{◌≡◌, false};
-ghost use Rattle.page.specs.Page.{page_of, takes_from_right, takes_from_left, closed_up, moved_right};
+ghost use Rattle.std.specs.Prelude.{◌≡◌, Bool, false, List, ℕ, ◌-◌, ◌<◌, ◌≤◌, length};
+ghost use Rattle.std.specs.Borrow.{Bor, MutBor};
+ghost use Rattle.page.specs.Page.{Page, page_of, part_stored};
 ghost use Rattle.steps.specs.Steps.{Valid, terminal_of, cursor_cell};
 ghost use Rattle.steps.specs.Told.{told, told_or, tells, written};
 ghost use Rattle.steps.specs.Seen.{seen, unprotected_at, takes_at, fields_here, end_here};
@@ -18,7 +19,8 @@ use state::State;
 use std::ops::Range;
 use steps::Step;
 
-// The keys that type a character, those that store in the cursor's field, and those that look for a field.
+// The keys that type a character, those that store in the cursor's field, and those that look for a field: a name for
+// each range, since one test with the range as a parameter would only leave the numbers at the call.
 #[tactic(auto, using(crate::proofs::Numbers::numbers))]
 fn is_typing(key: usize) -> bool
     ensures { result ≡ is_typing key }
@@ -62,7 +64,8 @@ pub fn is_locked_out(key: usize, state: State) -> bool
 }
 
 // Whether the cursor's cell is unprotected. Here and below `characters` is lent for the contract, which speaks of the
-// whole terminal.
+// whole terminal. (The page stays two slices with `Valid` at each function: so the C interface lends it, and so the
+// contracts of the public functions name it.)
 fn stands_unprotected(state: State, characters: &[u8], marks: &[Mark]) -> bool
     requires { Valid (terminal_of state characters.now marks.now) }
     ensures { result
@@ -99,37 +102,39 @@ fn takes_here(state: State, characters: &[u8], marks: &[Mark], character: u8) ->
     page::takes(page::mark_at(marks, state.place().cell), character)
 }
 
-// Whether the cells that 264 closes up take what comes to them. (It and the next differ in the page's function alone,
-// as the two that shift do; a parameter for that would have to repeat its contract.)
-fn takes_deleting(state: State, characters: &[u8], marks: &[Mark]) -> bool
-    requires { Valid (terminal_of state characters.now marks.now) }
-    ensures { result ≡ takes_from_right
-        (seen (terminal_of state characters.now marks.now)) (cursor_cell state)
+// Whether the cells that 264 or 265 changes take what comes to them: the page is asked about the rest of the field.
+fn rest_takes<F: FnOnce(&[u8], &[Mark], usize, usize) -> bool>(
+    state: State,
+    characters: &[u8],
+    marks: &[Mark],
+    take: F,
+) -> bool
+    ghost taken: { Page → ℕ → ℕ → Bool }
+    requires valid { Valid (terminal_of state characters.now marks.now) }
+    requires asked { (cells tags : Bor (List ℕ)) (from to : ℕ) → cells.now ≡ characters.now → tags.now ≡ marks.now →
+        from < to → to ≤ length cells.now → length tags.now ≡ length cells.now → F.pre take cells tags from to }
+    requires answers { (cells tags : Bor (List ℕ)) (from to : ℕ) (answer : Bool) →
+        F.post take cells tags from to answer → answer ≡ taken (page_of cells.now tags.now) from (to - from - 1) }
+    ensures { result ≡ taken (seen (terminal_of state characters.now marks.now)) (cursor_cell state)
         (carried (terminal_of state characters.now marks.now)) }
 {
     let rest = rest_of_field(state, characters, marks);
-    page::take_from_right(characters, marks, rest.start, rest.end)
+    take(characters, marks, rest.start, rest.end)
 }
 
-// Whether the cells that 265 moves into do.
-fn takes_inserting(state: State, characters: &[u8], marks: &[Mark]) -> bool
-    requires { Valid (terminal_of state characters.now marks.now) }
-    ensures { result ≡ takes_from_left
-        (seen (terminal_of state characters.now marks.now)) (cursor_cell state)
-        (carried (terminal_of state characters.now marks.now)) }
-{
-    let rest = rest_of_field(state, characters, marks);
-    page::take_from_left(characters, marks, rest.start, rest.end)
-}
-
-// Whether line 8 holds.
+// Whether line 8 holds. (Here and in `act` a key is document 01's number: a caller may pass any, as docs/CONTRACTS.md
+// says, and an enum would ask more. The page's functions stand in closures, since by name alone they aren't found yet.)
 pub fn is_not_taken(key: usize, state: State, characters: &[u8], marks: &[Mark]) -> bool
     requires { Valid (terminal_of state characters.now marks.now) }
     ensures { result ≡ is_not_taken key (terminal_of state characters.now marks.now) }
 {
     match key {
-        264 => !takes_deleting(state, characters, marks),
-        265 => !takes_inserting(state, characters, marks),
+        264 => !rest_takes(state, characters, marks, |cells, tags, from, to| {
+            page::take_from_right(cells, tags, from, to)
+        }),
+        265 => !rest_takes(state, characters, marks, |cells, tags, from, to| {
+            page::take_from_left(cells, tags, from, to)
+        }),
         _ => is_typing(key) && !takes_here(state, characters, marks, key as u8),
     }
 }
@@ -230,35 +235,33 @@ fn rest_of_field(state: State, characters: &[u8], marks: &[Mark]) -> Range<usize
     place.cell..end
 }
 
-// 264.
-fn delete_here(state: State, characters: &mut [u8], marks: &mut [Mark]) -> Step
-    requires { Valid (terminal_of state characters.old marks.old) }
+// 264 and 265: the page changes the rest of the field.
+fn shift_rest<F: FnOnce(&mut [u8], &mut [Mark], usize, usize)>(
+    state: State,
+    characters: &mut [u8],
+    marks: &mut [Mark],
+    change: F,
+) -> Step
+    ghost changed: { List ℕ → List ℕ }
+    requires valid { Valid (terminal_of state characters.old marks.old) }
+    requires takes { (cells tags : MutBor (List ℕ)) (from to : ℕ) → cells.now ≡ characters.old →
+        tags.now ≡ marks.old → from < to → to ≤ length cells.now → length tags.now ≡ length cells.now →
+        F.pre change cells tags from to }
+    requires changes { (cells tags left left_tags : MutBor (List ℕ)) (from to : ℕ) →
+        F.post change cells tags from to tt left left_tags →
+        page_of left.now left_tags.now ≡ part_stored changed from to (page_of cells.now tags.now) }
     ensures { told result (page_of characters.new marks.new)
-        ≡ tells (rest_shifted closed_up (terminal_of state characters.old marks.old)) }
+        ≡ tells (rest_shifted changed (terminal_of state characters.old marks.old)) }
 {
     if !stands_unprotected(state, characters, marks) {
         return steps::quiet(state);
     }
     let rest = rest_of_field(state, characters, marks);
-    page::delete_character(characters, marks, rest.start, rest.end);
+    change(characters, marks, rest.start, rest.end);
     steps::stored(state, rest.end - rest.start, false)
 }
 
-// 265.
-fn insert_here(state: State, characters: &mut [u8], marks: &mut [Mark]) -> Step
-    requires { Valid (terminal_of state characters.old marks.old) }
-    ensures { told result (page_of characters.new marks.new)
-        ≡ tells (rest_shifted moved_right (terminal_of state characters.old marks.old)) }
-{
-    if !stands_unprotected(state, characters, marks) {
-        return steps::quiet(state);
-    }
-    let rest = rest_of_field(state, characters, marks);
-    page::insert_blank(characters, marks, rest.start, rest.end);
-    steps::stored(state, rest.end - rest.start, false)
-}
-
-// The keys from 256 on that send nothing; a number that is no key does nothing.
+// The keys from 256 on that send nothing; a number that is no key does nothing. (A match, since no two keys do the same.)
 fn act(state: State, characters: &mut [u8], marks: &mut [Mark], key: usize) -> Step
     requires valid { Valid (terminal_of state characters.old marks.old) }
     requires key_value { (is_typing key ≡ false) × (key ≡ 266 → ⊥) }
@@ -274,8 +277,12 @@ fn act(state: State, characters: &mut [u8], marks: &mut [Mark], key: usize) -> S
         261 => to_previous_field(state, characters, marks),
         262 => to_first_unprotected(state, characters, marks),
         263 => blank_field(state, characters, marks),
-        264 => delete_here(state, characters, marks),
-        265 => insert_here(state, characters, marks),
+        264 => shift_rest(state, characters, marks, |cells, tags, from, to| {
+            page::delete_character(cells, tags, from, to)
+        }),
+        265 => shift_rest(state, characters, marks, |cells, tags, from, to| {
+            page::insert_blank(cells, tags, from, to)
+        }),
         268 => steps::quiet(state.unlock()),
         _ => steps::quiet(state),
     }

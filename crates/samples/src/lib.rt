@@ -36,7 +36,7 @@ fn place_of_cut(bytes: &[u8], cut: usize) -> usize
     cut.min(bytes.len())
 }
 
-// Host bytes, cut anywhere, in two calls.
+// Host bytes, cut anywhere, in two calls. (Here and below a page is two slices, as the C interface lends it.)
 pub fn host_in_two(
     state: State,
     characters: &mut [u8],

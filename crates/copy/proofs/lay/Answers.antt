@@ -11,9 +11,7 @@ unfolding laying
 returns-then-not-has_room c = sym (else_case _ _ _ (sym c.has_room.ensures ∙ c.if-not-has_room.true))
 
 pub put_laid-requires : goal.put_laid-requires
-put_laid-requires c =
-    let asked = c.requires in
-    (asked.0, asked.1, leb-true _ _ (sym c.has_room.ensures ∙ c.if-not-has_room.false))
+put_laid-requires c = leb-true _ _ (sym c.has_room.ensures ∙ c.if-not-has_room.false)
 
 pub returns : goal.returns
 unfolding laying

@@ -46,11 +46,11 @@ returns-in-263 c = rw (c.blank_field.ensures, c.in-263.is)
 
 pub returns-in-264 : goal.returns-in-264
 unfolding taken_step is_typing ◌is◌to◌ ◌and◌ If◌then◌else◌
-returns-in-264 c = rw (c.delete_here.ensures, c.in-264.is)
+returns-in-264 c = rw (c.shift_rest.ensures, c.in-264.is)
 
 pub returns-in-265 : goal.returns-in-265
 unfolding taken_step is_typing ◌is◌to◌ ◌and◌ If◌then◌else◌
-returns-in-265 c = rw (c.insert_here.ensures, c.in-265.is)
+returns-in-265 c = rw (c.shift_rest-in-265.ensures, c.in-265.is)
 
 pub returns-in-268 : goal.returns-in-268
 unfolding taken_step is_typing ◌is◌to◌ ◌and◌ If◌then◌else◌

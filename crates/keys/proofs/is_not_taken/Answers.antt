@@ -15,11 +15,11 @@ overflow_cast-key c =
 
 pub returns-in-264 : goal.returns-in-264
 unfolding is_not_taken is_typing ◌is◌to◌ ◌and◌ If◌then◌else◌
-returns-in-264 c = rw (c.in-264.is, sym c.takes_deleting.ensures)
+returns-in-264 c = rw (c.in-264.is, sym c.rest_takes.ensures)
 
 pub returns-in-265 : goal.returns-in-265
 unfolding is_not_taken is_typing ◌is◌to◌ ◌and◌ If◌then◌else◌
-returns-in-265 c = rw (c.in-265.is, sym c.takes_inserting.ensures)
+returns-in-265 c = rw (c.in-265.is, sym c.rest_takes-in-265.ensures)
 
 pub returns-then-is_typing : goal.returns-then-is_typing
 unfolding is_not_taken If◌then◌else◌

@@ -13,7 +13,7 @@ overflow_cast-key c =
 pub returns-then-is_typing : goal.returns-then-is_typing
 returns-then-is_typing c =
     let t : Terminal = record { state = c.args.state; page = page_of c.args.characters.now c.args.marks.now } in
-    typing_told c.args.key t c.args.out.now c.requires.marks_value c.requires.marks_value_2 {step = c.type_character.result} (sym c.is_typing.ensures ∙ c.if-is_typing.true) c.type_character.ensures
+    typing_told c.args.key t c.args.out.now c.requires.marks_value c.requires.marks_value_2 (sym c.is_typing.ensures ∙ c.if-is_typing.true) c.type_character.ensures
 
 pub returns-then-key-eq266 : goal.returns-then-key-eq266
 returns-then-key-eq266 c =
@@ -26,4 +26,4 @@ act-requires c = record { valid = c.requires.valid; key_value = (sym c.is_typing
 pub returns : goal.returns
 returns c =
     let t : Terminal = record { state = c.args.state; page = page_of c.args.characters.now c.args.marks.now } in
-    key_told c.args.key t c.args.out.now c.requires.marks_value c.requires.marks_value_2 {step = c.act.result} c.if-key-eq266.false c.act.ensures
+    key_told c.args.key t c.args.out.now c.requires.marks_value c.requires.marks_value_2 c.if-key-eq266.false c.act.ensures
