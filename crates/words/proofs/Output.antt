@@ -1,12 +1,12 @@
 -- Laws of writing into a lent output: writes that follow each other are one write of the joined bytes.
 use mathlib.Core.Path.{◌≡◌, refl, sym, ap, ◌∙◌}
 use mathlib.Core.List.{List, [], ◌∷◌, ◌++◌, append_assoc}
-use Prim.Native.Nat.{ℕ, suc, ◌+◌, ◌-◌, ◌<◌, ◌≤◌}
+use Prim.Native.Nat.{ℕ, ◌+◌, ◌<◌, ◌≤◌}
 use native.Mathlib.Nat.{add-zero}
 use native.Mathlib.Numerals.{add-one}
 use native.Mathlib.Omega.{arith}
-use lib.ListN.{length, take, drop, get_or, set, length-append, length-take, length-drop, take-append-drop}
-use lib.Seq.{set_split, take-suc, get_or-drop, take_at, drop_at, drop-drop, length-take-le}
+use lib.ListN.{length, take, drop, set, length-append, length-take, length-drop, take-append-drop}
+use lib.Seq.{set_split, take_at, drop_at, drop-drop, length-take-le}
 use Rattle.words.specs.Output.{placed, Wrote}
 
 placed_twice : (at : ℕ) (first second list : List ℕ) → at ≤ length list → placed (at + length first) second (placed at first list) ≡ placed at (first ++ second) list
@@ -59,15 +59,3 @@ wrote_then {at} {first} {second} {list} h a b =
       next_is = simp length-append (omega (arith, a.next_is, b.next_is));
       left = b.left ∙ (λ i. placed (a.next_is i) second (a.left i)) ∙ placed_twice at first second list h;
     }
-
--- a part of a list, written byte by byte: how long it is, and one byte more
-module _ (list : List ℕ) (from to : ℕ) where
-  pub length_part : to ≤ length list → length (take (to - from) (drop from list)) ≡ to - from
-  length_part h = simp (length-take, length-drop) (omega arith)
-
-  pub part_more : from ≤ to → to < length list → take (to - from) (drop from list) ++ (get_or list to 0 ∷ []) ≡ take (to + 1 - from) (drop from list)
-  part_more low high =
-      let longer : to + 1 - from ≡ suc (to - from) = omega arith in
-      let there : from + (to - from) ≡ to = omega arith in
-      let inside : to - from < length (drop from list) = simp length-drop (omega arith) in
-      sym (rw longer (take-suc (drop from list) (to - from) 0 inside ∙ rw (get_or-drop from list (to - from) 0, there)))
