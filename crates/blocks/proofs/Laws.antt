@@ -8,7 +8,7 @@ use lib.ListN.{length, take, drop, length-append}
 use Rattle.words.specs.Choice.{If◌then◌else◌, ◌and◌}
 use Rattle.words.specs.Lists.{selected}
 use Rattle.words.proofs.Choosing.{then_case, else_case, both_hold, first_fails, second_fails}
-use Rattle.words.proofs.Output.{length_part}
+use Rattle.words.proofs.Writing.{length_part}
 use Rattle.page.specs.Marks.{unprotected}
 use Rattle.page.specs.Page.{Page, cells}
 use Rattle.places.specs.declared.Place.{Place}
@@ -56,7 +56,7 @@ module _ (full : Bool) (page : Page) (place : Place) where
         let on_page : end ≤ cells page = omega (arith, is_end) in
         ap (length {A = ℕ}) (sent_is starts sent)
         ∙ length-append (head_bytes place.row place.column) (take (end - place.cell) (drop place.cell page.characters))
-        ∙ ap (λ (n : ℕ). length (head_bytes place.row place.column) + n) (length_part page.characters place.cell end on_page)
+        ∙ ap (λ (n : ℕ). length (head_bytes place.row place.column) + n) (length_part place.cell end page.characters on_page)
 
 -- The bytes that a block has from a cell on.
 abbrev pub rest_from : Bool → ℕ → Page → ℕ → ℕ → List ℕ

@@ -6,7 +6,7 @@ ghost use Rattle.std.specs.Prelude.{List, ◌≡◌, ℕ, ◌+◌, ◌*◌, ◌<
 ghost use Rattle.words.specs.Choice.{If◌then◌else◌};
 ghost use Rattle.words.specs.Output.{Wrote};
 ghost use Rattle.drawing.specs.Drawing.{numbered, flagged, spaced, pair_line, pen_line, locks_line};
-ghost use Rattle.drawing.specs.Drawing.{all_stops, stops_line, all_arguments, half_line, state_lines};
+ghost use Rattle.drawing.specs.Drawing.{stop_of, all_stops, stops_line, all_arguments, half_line, state_lines};
 ghost use Rattle.drawing.specs.Drawing.{character_line, mark_line, row_lines, drawn, FiveDigitsEach};
 
 use page::Mark;
@@ -68,15 +68,18 @@ fn put_locks(text: &mut [u8], at: usize, locks: Locks) -> usize
     output::put_byte(text, end, b'\n')
 }
 
+fn put_stop(text: &mut [u8], at: usize, stop: bool) -> usize
+    requires { at < length text.old }
+    ensures { Wrote at (stop_of stop) text.old result text.new }
+{
+    output::put_byte(text, at, byte_if(stop, b'T', b'.'))
+}
+
 fn put_each_stop(text: &mut [u8], at: usize, stops: [bool; 160]) -> usize
     requires { at + 160 ≤ length text.old }
     ensures { Wrote at (all_stops stops) text.old result text.new }
 {
-    let mut next = at;
-    for stop in &stops {
-        next = output::put_byte(text, next, byte_if(*stop, b'T', b'.'));
-    }
-    next
+    output::put_each(text, at, &stops, put_stop)
 }
 
 fn put_stops(text: &mut [u8], at: usize, stops: [bool; 160]) -> usize
@@ -99,11 +102,7 @@ fn put_arguments(text: &mut [u8], at: usize, arguments: [u16; 8]) -> usize
     requires { at + 48 ≤ length text.old }
     ensures { Wrote at (all_arguments arguments) text.old result text.new }
 {
-    let mut next = at;
-    for argument in &arguments {
-        next = put_argument(text, next, *argument);
-    }
-    next
+    output::put_each(text, at, &arguments, put_argument)
 }
 
 fn put_half(text: &mut [u8], at: usize, half: HalfRead) -> usize

@@ -76,11 +76,7 @@ pub fn put_hex(text: &mut [u8], at: usize, bytes: &[u8]) -> usize
     requires { at + 2 * length bytes.now ≤ length text.old }
     ensures { Wrote at (hex_of bytes.now) text.old result text.new }
 {
-    let mut next = at;
-    for byte in bytes {
-        next = put_hex_byte(text, next, *byte);
-    }
-    next
+    output::put_each(text, at, bytes, put_hex_byte)
 }
 
 // A number of two bytes as four digits.
@@ -96,11 +92,7 @@ pub fn put_hex_pairs(text: &mut [u8], at: usize, numbers: &[u16]) -> usize
     requires { at + 4 * length numbers.now ≤ length text.old }
     ensures { Wrote at (hex_pairs numbers.now) text.old result text.new }
 {
-    let mut next = at;
-    for number in numbers {
-        next = put_hex_pair(text, next, *number);
-    }
-    next
+    output::put_each(text, at, numbers, put_hex_pair)
 }
 
 // With leading zeros: three digits, each counted off what the one before left, then two.

@@ -1,9 +1,12 @@
 // Bytes and decimal numbers, written into a lent output from a place on; each function gives the place after.
 #![tactic(auto)]
 
-ghost use Rattle.std.specs.Prelude.{◌≡◌, [], ◌∷◌, ◌+◌, ◌*◌, ◌/◌, ◌%◌, ◌<◌, ◌≤◌, length};
+ghost use mathlib.Core.List.{flat_map};
+ghost use Rattle.std.specs.Prelude.{◌≡◌, List, [], ◌∷◌, ℕ, ◌+◌, ◌*◌, ◌/◌, ◌%◌, ◌<◌, ◌≤◌, length};
+ghost use Rattle.std.specs.Borrow.{MutBor};
 ghost use Rattle.words.specs.Output.{Wrote};
 ghost use Rattle.output.specs.Decimal.{decimal, place_bytes};
+ghost use Rattle.output.specs.Piece.{Piece};
 
 // What is to be written doesn't fit into the room that is left, and nothing was written.
 #[derive(Clone, Copy, Debug, PartialEq, Eq)]
@@ -62,6 +65,28 @@ pub fn put_all(out: &mut [u8], at: usize, bytes: &[u8]) -> usize
 {
     let next = at + bytes.len();
     out[at..next].copy_from_slice(bytes);
+    next
+}
+
+// Each item in its turn, as `put` writes one.
+pub fn put_each<T: Copy, F: Fn(&mut [u8], usize, T) -> usize>(
+    out: &mut [u8],
+    at: usize,
+    items: &[T],
+    put: F,
+) -> usize
+    ghost piece: { Piece T }
+    requires room { at + length items.now * piece.width ≤ length out.old }
+    requires takes { (part : MutBor (List ℕ)) (here : ℕ) (item : T) →
+        here + piece.width ≤ length part.now → F.pre put part here item }
+    requires writes { (part left : MutBor (List ℕ)) (here next : ℕ) (item : T) →
+        F.post put part here item next left → Wrote here (piece.bytes item) part.now next left.now }
+    ensures { Wrote at (flat_map piece.bytes items.now) out.old result out.new }
+{
+    let mut next = at;
+    for item in items {
+        next = put(out, next, *item);
+    }
     next
 }
 

@@ -13,6 +13,10 @@ use Rattle.state.specs.declared.State.{State}
 use Rattle.record.specs.Bytes.{number_bytes, flag_bytes}
 use Rattle.record.specs.Record.{record_length, first_bytes, argument_bytes, stop_bytes, record_of}
 
+pub number_length : (number : ℕ) → length (number_bytes 2 number) ≡ 2
+unfolding number_bytes
+number_length number = refl
+
 pub first_length : (s : State) → length (first_bytes s) ≡ 19
 unfolding first_bytes number_bytes
 first_length s = refl

@@ -5,7 +5,7 @@ mod numbers;
 
 ghost use Rattle.std.specs.Prelude.{◌≡◌, ◌+◌, ◌%◌, ◌<◌, ◌≤◌, length, get_or};
 ghost use Rattle.words.specs.Output.{Wrote};
-ghost use Rattle.record.specs.Bytes.{number_at, flag_at, read_each, same_bytes};
+ghost use Rattle.record.specs.Bytes.{flag_bytes, number_at, flag_at, read_each, same_bytes};
 ghost use Rattle.record.specs.Record.{first_bytes, argument_bytes, stop_bytes, record_of, state_in, is_good};
 
 pub use numbers::{put_numbers, read_numbers, says_numbers};
@@ -97,15 +97,18 @@ fn put_arguments(bytes: &mut [u8], at: usize, arguments: [u16; 8]) -> usize
     numbers::put_numbers(bytes, at, &arguments)
 }
 
+fn put_flag(bytes: &mut [u8], at: usize, flag: bool) -> usize
+    requires { at < length bytes.old }
+    ensures { Wrote at (flag_bytes flag) bytes.old result bytes.new }
+{
+    output::put_byte(bytes, at, u8::from(flag))
+}
+
 fn put_stops(bytes: &mut [u8], at: usize, stops: [bool; 160]) -> usize
     requires { at + 160 ≤ length bytes.old }
     ensures { Wrote at (stop_bytes stops) bytes.old result bytes.new }
 {
-    let mut next = at;
-    for stop in &stops {
-        next = output::put_byte(bytes, next, u8::from(*stop));
-    }
-    next
+    output::put_each(bytes, at, &stops, put_flag)
 }
 
 // The record of a state.

@@ -17,11 +17,7 @@ pub fn put_numbers(bytes: &mut [u8], at: usize, numbers: &[u16]) -> usize
     ensures { Wrote at (flat_map (number_bytes 2) numbers.now)
         bytes.old result bytes.new }
 {
-    let mut next = at;
-    for number in numbers {
-        next = put_number(bytes, next, *number);
-    }
-    next
+    output::put_each(bytes, at, numbers, put_number)
 }
 
 // A number whose bytes are there.

@@ -1,7 +1,7 @@
 -- Laws of writing into a lent output: writes that follow each other are one write of the joined bytes.
 use mathlib.Core.Path.{◌≡◌, refl, sym, ap, ◌∙◌}
 use mathlib.Core.List.{List, [], ◌∷◌, ◌++◌, append_assoc}
-use Prim.Native.Nat.{ℕ, ◌+◌, ◌-◌, ◌<◌, ◌≤◌}
+use Prim.Native.Nat.{ℕ, ◌+◌, ◌<◌, ◌≤◌}
 use native.Mathlib.Nat.{add-zero}
 use native.Mathlib.Numerals.{add-one}
 use native.Mathlib.Omega.{arith}
@@ -59,8 +59,3 @@ wrote_then {at} {first} {second} {list} h a b =
       next_is = simp length-append (omega (arith, a.next_is, b.next_is));
       left = b.left ∙ (λ i. placed (a.next_is i) second (a.left i)) ∙ placed_twice at first second list h;
     }
-
--- how long a part of a list is
-module _ (list : List ℕ) (from to : ℕ) where
-  pub length_part : to ≤ length list → length (take (to - from) (drop from list)) ≡ to - from
-  length_part h = simp (length-take, length-drop) (omega arith)

@@ -2,7 +2,7 @@
 use mathlib.Core.Path.{◌≡◌, refl, sym, ◌∙◌}
 use mathlib.Core.List.{List, [], ◌∷◌, ◌++◌, append-nil, append_assoc, flat_map}
 use Prim.Native.Nat.{ℕ, ◌+◌, ◌*◌, ◌<◌, ◌≤◌}
-use native.Mathlib.Nat.{zero-mul, suc-mul}
+use native.Mathlib.Nat.{zero-mul, suc-mul, mul-le-mul_right}
 use native.Mathlib.Numerals.{add-one}
 use native.Mathlib.Omega.{arith}
 use lib.ListN.{length, take, get_or, length-append}
@@ -47,3 +47,10 @@ module _ {A : Type 0} (f : A → List ℕ) (list : List A) {at : ℕ} {before : 
   pub walk_reached : {i next : ℕ} {text : List ℕ} (width : ℕ) → ((x : A) → length (f x) ≡ width) → Walked f list at before i next text → next ≡ at + i * width
   walk_reached {i} width each so_far =
       so_far.2.next_is ∙ rw (flat_length f width each (take i list), length-take-le i list so_far.0)
+
+  -- the next element fits where all of them do
+  pub walk_fits : {i next : ℕ} {text : List ℕ} (width : ℕ) → ((x : A) → length (f x) ≡ width) → Walked f list at before i next text → i < length list → at + length list * width ≤ length before → next + width ≤ length text
+  walk_fits {i} width each so_far h fits =
+      let more : (i + 1) * width ≡ i * width + width = rw (add-one i, suc-mul i width) in
+      let fewer : i + 1 ≤ length list = omega arith in
+      omega (arith, more, mul-le-mul_right width fewer, so_far.1, walk_reached width each so_far)

@@ -1,6 +1,6 @@
+use mathlib.Core.Path.{refl}
 use Rattle.drawing.specs.Drawing.{spaced}
-use Rattle.words.proofs.Pieces.{Walked}
 use Rattle.drawing.proofs.put_arguments.Given as goal
 
-abbrev pub invariant-loop-argument : goal.invariant-loop-argument
-invariant-loop-argument l = Walked spaced l.argument-items l.at l.initial.text l.argument-index l.next l.text
+abbrev pub ghost-put_each : goal.ghost-put_each
+ghost-put_each a = record { bytes = spaced; width = 6; long = λ argument. refl }

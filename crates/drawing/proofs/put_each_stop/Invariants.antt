@@ -1,6 +1,6 @@
+use mathlib.Core.Path.{refl}
 use Rattle.drawing.specs.Drawing.{stop_of}
-use Rattle.words.proofs.Pieces.{Walked}
 use Rattle.drawing.proofs.put_each_stop.Given as goal
 
-abbrev pub invariant-loop-stop : goal.invariant-loop-stop
-invariant-loop-stop l = Walked stop_of l.stop-items l.at l.initial.text l.stop-index l.next l.text
+abbrev pub ghost-put_each : goal.ghost-put_each
+ghost-put_each a = record { bytes = stop_of; width = 1; long = λ stop. refl }

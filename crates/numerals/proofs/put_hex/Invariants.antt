@@ -1,6 +1,6 @@
+use mathlib.Core.Path.{refl}
 use Rattle.numerals.specs.Hexadecimal.{hex_byte}
-use Rattle.words.proofs.Pieces.{Walked}
 use Rattle.numerals.proofs.put_hex.Given as goal
 
-abbrev pub invariant-loop-byte : goal.invariant-loop-byte
-invariant-loop-byte l = Walked hex_byte l.bytes l.at l.initial.text l.byte-index l.next l.text
+abbrev pub ghost-put_each : goal.ghost-put_each
+ghost-put_each a = record { bytes = hex_byte; width = 2; long = λ item. refl }
