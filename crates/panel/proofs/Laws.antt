@@ -1,10 +1,13 @@
 -- The lines of an exported function, one by one, in the terms of its code.
 use mathlib.Core.Path.{◌≡◌, refl, sym, ap, ◌∙◌}
-use mathlib.Core.List.{List}
-use Prim.Native.Nat.{ℕ, ◌<◌, ◌≤◌}
+use mathlib.Core.List.{List, [], ◌∷◌}
+use Prim.Native.Nat.{ℕ, ◌/◌, ◌%◌, ◌<◌, ◌≤◌}
 use native.Mathlib.Omega.{arith}
 use borrow.Author.Tests.{not-false, eqb-true, lt-ltb, le-ltb}
 use lib.ListN.{length}
+use Rattle.std.specs.Prelude.{get_or}
+use Rattle.std.specs.Int.{to_le_bytes, w64}
+use Rattle.std.proofs.Math.Nat.{div-div-eq-div-mul}
 use Rattle.words.specs.Output.{placed}
 use Rattle.words.proofs.Choosing.{then_case, else_case, either_line}
 use Rattle.page.specs.Page.{Page}
@@ -20,6 +23,20 @@ use Rattle.panel.specs.Panel.{Lent, lent_of, result_length, result_bytes, mark_b
 pub result_length_lem : (number taken sent stored : ℕ) → length (result_bytes number taken sent stored) ≡ result_length
 unfolding result_bytes number_bytes
 result_length_lem number taken sent stored = refl
+
+-- The lowest four of the bytes of a number.
+abbrev pub lowest_four : List ℕ → List ℕ
+lowest_four bytes = get_or bytes 0 0 ∷ get_or bytes 1 0 ∷ get_or bytes 2 0 ∷ get_or bytes 3 0 ∷ []
+
+four_bytes : (n : ℕ) → lowest_four (to_le_bytes w64 n) ≡ number_bytes 4 n
+unfolding number_bytes
+four_bytes n =
+    let two : n / 65536 ≡ n / 256 / 256 = sym (div-div-eq-div-mul n 256 256) in
+    let three : n / 16777216 ≡ n / 256 / 256 / 256 = sym (ap (λ (n : ℕ). n / 256) (div-div-eq-div-mul n 256 256) ∙ div-div-eq-div-mul n 65536 256) in
+    λ i. n % 256 ∷ n / 256 % 256 ∷ two i % 256 ∷ three i % 256 ∷ []
+
+pub four_told : {bytes : List ℕ} (n : ℕ) → bytes ≡ to_le_bytes w64 n → lowest_four bytes ≡ number_bytes 4 n
+four_told n are = ap lowest_four are ∙ four_bytes n
 
 -- Where neither length is wrong.
 pub right_lengths : (packed result : List ℕ) → wrong_length packed result ≤ 0 → (length packed ≡ 195) × (length result ≡ 13)

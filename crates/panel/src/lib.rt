@@ -23,25 +23,14 @@ pub const RESULT_LENGTH: usize = 13;
 // As many cells as the largest page has.
 const MOST_CELLS: usize = 7680;
 
-// The number, and the counts in four bytes each.
+// The number, and the lowest four bytes of each count.
 fn result_bytes(number: u8, taken: usize, sent: usize, stored: usize) -> [u8; RESULT_LENGTH]
     ensures { result ≡ result_bytes number taken sent stored }
 {
-    [
-        number,
-        record::low_byte(taken),
-        record::low_byte(taken / 256),
-        record::low_byte(taken / 256 / 256),
-        record::low_byte(taken / 256 / 256 / 256),
-        record::low_byte(sent),
-        record::low_byte(sent / 256),
-        record::low_byte(sent / 256 / 256),
-        record::low_byte(sent / 256 / 256 / 256),
-        record::low_byte(stored),
-        record::low_byte(stored / 256),
-        record::low_byte(stored / 256 / 256),
-        record::low_byte(stored / 256 / 256 / 256),
-    ]
+    let [t0, t1, t2, t3, ..] = taken.to_le_bytes();
+    let [s0, s1, s2, s3, ..] = sent.to_le_bytes();
+    let [c0, c1, c2, c3, ..] = stored.to_le_bytes();
+    [number, t0, t1, t2, t3, s0, s1, s2, s3, c0, c1, c2, c3]
 }
 
 // The result slice, written whole.

@@ -49,18 +49,11 @@ const STOPS: usize = 35;
 // As many bytes as a record has.
 pub const LENGTH: usize = 195;
 
-// The lowest byte of a number.
-pub fn low_byte(number: usize) -> u8
-    ensures { result ≡ number % 256 }
-{
-    (number % 256) as u8
-}
-
 // As much of a number as two bytes say.
 fn two_bytes(number: usize) -> u16
     ensures { result ≡ number % 65536 }
 {
-    u16::from_le_bytes([low_byte(number), low_byte(number / 256)])
+    (number % 65536) as u16
 }
 
 // The bytes before the arguments and the tab stops.

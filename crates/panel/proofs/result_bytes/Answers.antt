@@ -1,10 +1,12 @@
-use Rattle.record.specs.Bytes.{number_bytes}
+use mathlib.Core.List.{◌∷◌, ◌++◌}
 use Rattle.panel.specs.Panel.{result_bytes}
+use Rattle.panel.proofs.Laws.{four_told}
 use Rattle.panel.proofs.result_bytes.Goals as goal
 
 pub returns : goal.returns
-unfolding result_bytes number_bytes
+unfolding result_bytes
 returns c =
-    rw (c.low_byte-12.ensures, c.low_byte-11.ensures, c.low_byte-10.ensures, c.low_byte-9.ensures)
-    (rw (c.low_byte-8.ensures, c.low_byte-7.ensures, c.low_byte-6.ensures, c.low_byte-5.ensures)
-    (rw (c.low_byte-4.ensures, c.low_byte-3.ensures, c.low_byte-2.ensures, c.low_byte.ensures)))
+    let taken = four_told c.args.taken c.to_le_bytes.ensures in
+    let sent = four_told c.args.sent c.to_le_bytes-2.ensures in
+    let stored = four_told c.args.stored c.to_le_bytes-3.ensures in
+    λ i. c.args.number ∷ (taken i ++ sent i ++ stored i)
