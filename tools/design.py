@@ -112,6 +112,11 @@ def point_1(files):
                     yield name, function, 'no place: a match on numbers or bytes from outside'
 
 
+def one_call(kept):
+    """Whether a body is a single call, which hands on what it is given."""
+    return re.fullmatch(r'\{ (?:x : : )*(?:x \. )?x \((?:(?! \) [^;}] )[^{}|;])*\) (?:; )?\}', kept) is not None
+
+
 def point_2(files):
     groups = {}
     for name, text in files:
@@ -121,10 +126,11 @@ def point_2(files):
                 groups.setdefault(' '.join(kept), []).append((name, function))
         for struct, body in types(text, 'struct'):
             groups.setdefault('struct ' + struct + ' '.join(body.split()), []).append((name, struct))
-    for group in groups.values():
+    for shapes, group in groups.items():
         if len(group) > 1:
+            same = ', '.join(f'{n.split("/")[1]}::{f}' for n, f in group)
             for name, function in group:
-                yield name, function, 'of one shape: ' + ', '.join(f'{n.split("/")[1]}::{f}' for n, f in group)
+                yield name, function, ('no place: one call of what serves all: ' if one_call(shapes) else 'of one shape: ') + same
 
 
 def point_3(files):
