@@ -12,9 +12,6 @@ use Rattle.words.proofs.Choosing.{less_or_not}
 use Rattle.words.proofs.Output.{wrote_none, wrote_then}
 use Rattle.blocks.specs.Lay.{lay}
 
-part_length : (block copy : List ℕ) (at : ℕ) {bytes : List ℕ} {next : ℕ} → NextLaid block copy at bytes next → length (lay block (drop at copy)) ≡ length bytes + length (lay block (drop next copy))
-part_length block copy at {bytes} part = ap (length {A = ℕ}) part.laid ∙ length-append bytes _
-
 -- What is laid, counted down: at the end 03 needs one byte.
 pub all_counted : (all room left end : ℕ) → end ≡ 1 → all + left ≡ room + end → ltb 0 left ≡ leb all room
 all_counted all room left end one counted =

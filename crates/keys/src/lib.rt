@@ -261,7 +261,7 @@ fn shift_rest<F: FnOnce(&mut [u8], &mut [Mark], usize, usize)>(
     steps::stored(state, rest.end - rest.start, false)
 }
 
-// The keys from 256 on that send nothing; a number that is no key does nothing. (A match, since no two keys do the same.)
+// The keys from 256 on that send nothing; a number that is no key does nothing. (A match: no two do the same.)
 fn act(state: State, characters: &mut [u8], marks: &mut [Mark], key: usize) -> Step
     requires valid { Valid (terminal_of state characters.old marks.old) }
     requires key_value { (is_typing key ≡ false) × (key ≡ 266 → ⊥) }
