@@ -12,6 +12,7 @@ use page::{Attribute, Mark};
 use places::Place;
 
 // Whether a field is sent: every one in a full block, else one in which something is modified.
+// (Bounds, not the part: the definition of a field names its cells by their numbers on the page.)
 fn is_in_block(marks: &[Mark], full: bool, from: usize, to: usize) -> bool
     requires { (from ≤ to) × (to ≤ length marks.now) }
     ensures { result ≡ is_in_block full marks.now (record { start = from; length = to - from }) }

@@ -38,7 +38,7 @@ pub fn field_start(marks: &[Mark], place: Place) -> Place
     requires { place.cell < length marks.now }
     ensures { result ≡ place_of place.columns (field_start (unprotected marks.now) place.cell) }
 {
-    // A while: what it asks is where it stops, and no number is counted.
+    // A while: it asks about the place where it stops, and a walk back gives the one before that.
     let mut here = place;
     while is_joined(marks, here.cell) {
         here = here.back();
@@ -107,10 +107,7 @@ fn seek_field_back(marks: &[Mark], place: Place) -> Option<Place>
     ensures { result ≡ last_field place.columns
         (fields_from (unprotected marks.now) (length marks.now) 0 place.cell) }
 {
-    // A while: an iterator back over a page would serve this one search.
-    let mut here = place;
-    while 0 < here.cell {
-        here = here.back();
+    for here in place.backward() {
         if starts_field(marks, here.cell) {
             return Some(here);
         }
@@ -168,6 +165,7 @@ pub fn next_unprotected(marks: &[Mark], place: Place) -> Option<Place>
 }
 
 // M-107: whether a field has a required cell and holds nothing but 20s.
+// (Bounds, not the parts: see page::take_from_right.)
 fn is_left_blank(characters: &[u8], marks: &[Mark], from: usize, to: usize) -> bool
     requires { (from ≤ to) × (to ≤ length marks.now) × (length characters.now ≡ length marks.now) }
     ensures { result ≡ is_left_blank

@@ -69,6 +69,7 @@ fn store_part<F: FnOnce(&mut [u8])>(
     tag(marks, from, to);
 }
 
+// (Three functions for three keys: each promises its own change, which `store_part` makes.)
 // Key 263: the cells from `from` to before `to` become 20s.
 pub fn blank_cells(characters: &mut [u8], marks: &mut [Mark], from: usize, to: usize)
     requires { (from ≤ to) × (to ≤ length characters.old) × (length marks.old ≡ length characters.old) }

@@ -1,5 +1,6 @@
 // The page: characters and marks in two lent slices, each as long as the page has cells.
 // What each function leaves in them is defined in specs/Page.antt.
+// (Two slices and no struct of them: the C interface lends two, and most functions pass on or change only one.)
 #![tactic(auto)]
 
 // What a mark says of its cell: bit 0 of the mark, bit 1, and so on.

@@ -8,7 +8,7 @@ use crate::Attribute;
 // What a cell has beside its character, a bit for each mark; bits 10 to 15 are zero.
 pub type Mark = u16;
 
-// The mark that has this attribute and no other.
+// The mark that has this attribute and no other. (The bits are as the C interface has them, not the enum's numbers.)
 fn mark_of(attribute: Attribute) -> Mark
     ensures { result ≡ 2 ^ bit_of attribute }
 {
@@ -78,7 +78,7 @@ fn alphabetic_takes(character: u8) -> bool
     matches!(character, b' ' | b'-' | b'.' | b'A'..=b'Z' | b'a'..=b'z')
 }
 
-// Whether a cell with these marks takes a character that a key brings.
+// Whether a cell with these marks takes a character that a key brings. (Asked in turn, as the definition is read.)
 #[tactic(auto, using(words::proofs::Choosing::tests), unfolding(crate::specs::Marks::takes))]
 pub fn takes(mark: Mark, character: u8) -> bool
     ensures { result ≡ takes mark character }

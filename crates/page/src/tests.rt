@@ -55,6 +55,7 @@ fn all_take(marks: &[Mark], characters: &[u8]) -> bool
         .all(|(mark, character)| takes(*mark, *character))
 }
 
+// (Bounds, not the parts, here and in the next three: the promises name the cells by their numbers on the page.)
 // Key 264: whether the cells from `from` to before `to`, but the last, take what closes up into them.
 pub fn take_from_right(characters: &[u8], marks: &[Mark], from: usize, to: usize) -> bool
     requires { (from < to) × (to ≤ length characters.now) × (length marks.now ≡ length characters.now) }

@@ -1,6 +1,7 @@
 -- Document 01, "The terminal and its sources": page order. Cells are numbered from 0, rows and columns from 1.
 use Rattle.std.specs.Prelude.{◌≡◌, refl, ℕ, ◌+◌, ◌-◌, ◌*◌, ◌/◌, ◌%◌, ◌<◌, ◌≤◌, Option, Some, None}
 use Rattle.places.specs.declared.Walk.{Walk}
+use Rattle.places.specs.declared.WalkBack.{WalkBack}
 use Rattle.places.specs.declared.Place.{Place}
 
 -- The cell with this number, on a page of so many columns.
@@ -26,3 +27,11 @@ GivesNext walk (Some place) after =
     × (walk.here.cell < walk.cells)
     × (after ≡ record walk { here = place_of walk.here.columns (walk.here.cell + 1) })
 GivesNext walk None after = (walk.cells ≤ walk.here.cell) × (after ≡ walk)
+
+-- A walk back likewise: it gives the place before the one that it has come to, and comes to it.
+abbrev pub GivesBefore : WalkBack → Option Place → WalkBack → Type 0
+GivesBefore walk (Some place) after =
+    (0 < walk.here.cell)
+    × (place ≡ place_of walk.here.columns (walk.here.cell - 1))
+    × (after ≡ record { here = place })
+GivesBefore walk None after = (walk.here.cell ≡ 0) × (after ≡ walk)

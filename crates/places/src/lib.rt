@@ -1,7 +1,7 @@
 // A cell with its row and column, counted along: a page is walked without dividing.
 #![tactic(auto)]
 
-ghost use Rattle.std.specs.Prelude.{◌≡◌, ◌+◌, ◌-◌, ◌*◌, ◌/◌, ◌%◌, ◌<◌, ◌≤◌};
+ghost use Rattle.std.specs.Prelude.{◌≡◌, ◌+◌, ◌-◌, ◌*◌, ◌/◌, ◌%◌, ◌<◌, ◌≤◌, ⊤};
 ghost use Rattle.std.specs.Iterator.{at_most};
 
 // A place of a page of so many columns.
@@ -103,6 +103,13 @@ impl Place {
     {
         Walk { here: self, cells }
     }
+
+    // The places before this one, from the nearest back to the page's first.
+    pub fn backward(self) -> WalkBack
+        ensures { result ≡ record { here = self } }
+    {
+        WalkBack { here: self }
+    }
 }
 
 // The places of a page from one on.
@@ -130,5 +137,31 @@ impl Iterator for Walk {
         let here = self.here;
         self.here = here.next();
         Some(here)
+    }
+}
+
+// The places of a page before one.
+#[derive(Clone, Copy, Drop)]
+pub struct WalkBack {
+    here: Place,
+}
+
+impl Iterator for WalkBack {
+    ghost use Rattle.places.specs.Places.{GivesBefore};
+
+    type Item = Place;
+
+    ghost can_next = { λ _. ⊤ };
+
+    ghost next_gives = { GivesBefore };
+
+    ghost remaining = { λ walk. at_most walk.here.cell };
+
+    fn next(&mut self) -> Option<Place> {
+        if self.here.cell == 0 {
+            return None;
+        }
+        self.here = self.here.back();
+        Some(self.here)
     }
 }

@@ -14,7 +14,7 @@ use Rattle.page.specs.Marks.{unprotected}
 use Rattle.page.specs.Page.{cells}
 use Rattle.places.specs.declared.Place.{Place}
 use Rattle.places.specs.Places.{place_of, cell_at}
-use Rattle.places.proofs.Counting.{cell_is, counted, spelt, on_rows}
+use Rattle.places.proofs.Counting.{spelt, on_rows}
 use Rattle.fields.specs.Fields.{Field}
 use Rattle.fields.proofs.Claims.{IsField, ◌has◌}
 use Rattle.blocks.specs.Blocks.{head_bytes, entry_bytes, entry_of, encode}
@@ -45,21 +45,20 @@ record RightPlace (size : Size) (cell : ℕ) (place : Place) : Type 0 where
   column_fits : place.column ≤ size.columns
   cell_there : cell_at size.columns place.row place.column ≡ cell
 
-right_place : (size : Size) (cell : ℕ) → 0 < size.columns → cell < size.rows * size.columns → cell ≤ 7680 → RightPlace size cell (place_of size.columns cell)
-right_place size cell some inside most =
+right_place : (size : Size) (cell : ℕ) → 0 < size.columns → cell < size.rows * size.columns → RightPlace size cell (place_of size.columns cell)
+unfolding place_of
+right_place size cell some inside =
     let place = place_of size.columns cell in
-    let right = counted cell some refl most in
-    let now = spelt right in
-    let same = cell_is size.columns cell refl in
-    let fits = on_rows size.rows right (omega arith) in
-    let above : place.row - 1 ≡ place.cell / size.columns = omega arith in
-    let left : place.column - 1 ≡ place.cell % size.columns = omega arith in
+    let now = spelt size.columns cell place.row place.column place.counted some in
+    let fits = on_rows place size.rows some inside in
+    let above : place.row - 1 ≡ cell / size.columns = omega arith in
+    let left : place.column - 1 ≡ cell % size.columns = omega arith in
     record {
       some_row = omega arith;
       row_fits = fits.0;
       some_column = omega arith;
       column_fits = fits.1;
-      cell_there = (λ i. above i * size.columns + left i) ∙ sym now.cell ∙ same;
+      cell_there = (λ i. above i * size.columns + left i) ∙ sym now.cell;
     }
 
 module _ (sender : Terminal) (valid : Valid sender) where
@@ -75,7 +74,7 @@ module _ (sender : Terminal) (valid : Valid sender) where
     right =
         let known = measured valid in
         subst (λ (size : Size). RightPlace size cell here) (sym ready.size)
-        (right_place sender.state.size cell known.some_columns (omega (arith, known.all_cells, known.as_many)) (omega (arith, known.most, known.as_many)))
+        (right_place sender.state.size cell known.some_columns (omega (arith, known.all_cells, known.as_many)))
 
     head_feeds : Feeds sender t (head_bytes here.row here.column) there (λ _. ⊥)
     head_feeds =

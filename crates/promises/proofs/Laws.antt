@@ -2,7 +2,7 @@
 -- follow its rules, keeps cutting, continuing, keys, what blocks keep, their bound, the copy and omission.
 use mathlib.Core.Path.{◌≡◌}
 use mathlib.Core.Bool.{Bool, true, false}
-use mathlib.Core.List.{List, [], Memᴰ}
+use mathlib.Core.List.{List, Memᴰ}
 use Prim.Native.Nat.{ℕ, ◌≤◌}
 use lib.ListN.{length}
 use Rattle.blocks.proofs.Claims.{IsReport}

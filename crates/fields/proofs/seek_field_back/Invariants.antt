@@ -5,7 +5,4 @@ use Rattle.fields.proofs.seek_field_back.Given as goal
 
 -- no cell at which a field starts has been passed
 abbrev pub invariant-loop-here : goal.invariant-loop-here
-invariant-loop-here l = Back (starts_field (unprotected l.marks)) l.initial.here l.here
-
-abbrev pub decreases-loop-here : goal.decreases-loop-here
-decreases-loop-here l = l.here.cell
+invariant-loop-here l = Back (starts_field (unprotected l.marks)) l.fn.place l.here-iterator.here
