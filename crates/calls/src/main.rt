@@ -78,34 +78,38 @@ fn four(frame: &[u8], at: usize) -> u32
     u32::from_be_bytes([frame[at], frame[at + 1], frame[at + 2], frame[at + 3]])
 }
 
-// At most 2,048 bytes, in hexadecimal.
-fn print_piece<W: Write>(printing: &mut Printing<W>, bytes: &[u8])
-    requires { length bytes.now ≤ 2048 }
-{
-    let mut text = [0u8; 4096];
-    let end = numerals::put_hex(&mut text, 0, bytes);
-    printing.print(&text[..end]);
+// What a line has in hexadecimal, bytes or marks: at most 1,024 of them at a time.
+trait Hexadecimal: Copy {
+    fn put(text: &mut [u8; 4096], items: &[Self]) -> usize
+        requires { length items.now ≤ 1024 }
+        ensures { result ≤ 4096 };
 }
 
-fn print_line<W: Write>(printing: &mut Printing<W>, bytes: &[u8]) {
-    for piece in bytes.chunks(2048) {
-        print_piece(printing, piece);
+// Two digits for each byte.
+impl Hexadecimal for u8 {
+    fn put(text: &mut [u8; 4096], items: &[u8]) -> usize {
+        numerals::put_hex(text, 0, items)
     }
-    printing.print(b"\n");
 }
 
-// At most 1,024 marks, four digits each.
-fn print_marks_piece<W: Write>(printing: &mut Printing<W>, marks: &[Mark])
-    requires { length marks.now ≤ 1024 }
+// Four for each mark.
+impl Hexadecimal for Mark {
+    fn put(text: &mut [u8; 4096], items: &[Mark]) -> usize {
+        numerals::put_hex_pairs(text, 0, items)
+    }
+}
+
+fn print_piece<W: Write, T: Hexadecimal>(printing: &mut Printing<W>, items: &[T])
+    requires { length items.now ≤ 1024 }
 {
     let mut text = [0u8; 4096];
-    let end = numerals::put_hex_pairs(&mut text, 0, marks);
+    let end = T::put(&mut text, items);
     printing.print(&text[..end]);
 }
 
-fn print_marks_line<W: Write>(printing: &mut Printing<W>, marks: &[Mark]) {
-    for piece in marks.chunks(1024) {
-        print_marks_piece(printing, piece);
+fn print_line<W: Write, T: Hexadecimal>(printing: &mut Printing<W>, items: &[T]) {
+    for piece in items.chunks(1024) {
+        print_piece(printing, piece);
     }
     printing.print(b"\n");
 }
@@ -159,7 +163,7 @@ fn print_call<W: Write>(
     print_changed(printing, count_changed(&out[sent..]));
     print_state(printing, reply.state);
     print_line(printing, &parts.characters[..lent.characters]);
-    print_marks_line(printing, &parts.marks[..lent.marks]);
+    print_line(printing, &parts.marks[..lent.marks]);
     Held {
         state: reply.state,
         lent,

@@ -11,7 +11,7 @@ ghost use Rattle.frames.specs.Frames.{frame_in, frame_of, start, host, key};
 ghost use Rattle.frames.specs.Printing.{line_of, printed, refusal};
 ghost use Rattle.frames.specs.Sessions.{Session, call_of, uncalled};
 ghost use Rattle.frames.specs.Held.{longer, line_in, kind_of, frame_at, kept, session_in};
-ghost use Rattle.frames.specs.Held.{lent, Enough, CallDone, CallMade};
+ghost use Rattle.frames.specs.Held.{lent, CallDone, CallMade};
 
 mod printing;
 
@@ -57,8 +57,7 @@ fn kind_of(bytes: &[u8]) -> Option<Kind>
 
 // A byte of a line, which has so many already: how many it has then. The count is a number beside the line, as the
 // definitions `longer` and `line_in` have it: a struct of both would be no plainer.
-pub fn collect(line: &mut [u8], digits: usize, byte: u8) -> usize
-    requires { length line.old ≡ 512 }
+pub fn collect(line: &mut [u8; 512], digits: usize, byte: u8) -> usize
     ensures { (result ≡ longer digits) × (line.new ≡ set line.old digits byte) }
 {
     if digits < 512 {
@@ -69,8 +68,7 @@ pub fn collect(line: &mut [u8], digits: usize, byte: u8) -> usize
 }
 
 // The bytes that a finished line says, left in the place of their digits.
-pub fn bytes(line: &mut [u8], digits: usize) -> usize
-    requires { length line.old ≡ 512 }
+pub fn bytes(line: &mut [u8; 512], digits: usize) -> usize
     ensures { Wrote 0 (bytes_in (line_in line.old digits)) line.old result line.new
         × (result ≤ 256) }
 {
@@ -84,8 +82,7 @@ pub fn bytes(line: &mut [u8], digits: usize) -> usize
 }
 
 // The frame that a finished line says; its bytes are left in the place of their digits.
-pub fn frame(line: &mut [u8], digits: usize) -> Option<Kind>
-    requires { length line.old ≡ 512 }
+pub fn frame(line: &mut [u8; 512], digits: usize) -> Option<Kind>
     ensures { (result ≡ kind_of (frame_of (line_in line.old digits)))
         × (line.new ≡ placed 0 (bytes_in (line_in line.old digits)) line.old) }
 {
@@ -105,8 +102,8 @@ fn put_line(text: &mut [u8], head: &[u8], sent: &[u8]) -> usize
 }
 
 // The line of a call that was answered so.
-fn print(text: &mut [u8], reply: Reply, out: &[u8]) -> usize
-    requires { (reply.sent ≤ length out.now) × (reply.sent ≤ 65536) × (131087 ≤ length text.old) }
+fn print(text: &mut [u8], reply: Reply, out: &[u8; 65536]) -> usize
+    requires { (reply.sent ≤ 65536) × (131087 ≤ length text.old) }
     ensures { (page : Page) → Wrote 0 (printed (given reply page out.now))
         text.old result text.new }
 {
@@ -166,12 +163,12 @@ fn no_call(held: Option<Held>, text: &mut [u8]) -> Printed
 fn start_call(
     rows: u8,
     columns: u8,
-    characters: &mut [u8],
-    marks: &mut [Mark],
-    out: &[u8],
+    characters: &mut [u8; 7680],
+    marks: &mut [Mark; 7680],
+    out: &[u8; 65536],
     text: &mut [u8],
 ) -> Printed
-    requires { Enough (lent characters.old marks.old out.now text.old) }
+    requires { 131087 ≤ length text.old }
     ensures { (before : Session) → (from : ℕ) → CallDone (call_of (start rows columns) before) from
         (lent characters.old marks.old out.now text.old)
         result (lent characters.new marks.new out.now text.new) }
@@ -193,16 +190,15 @@ fn start_call(
 // The host bytes of the line from place `from` to before `to`.
 fn host_call(
     held: Option<Held>,
-    line: &[u8],
+    line: &[u8; 512],
     from: usize,
     to: usize,
-    characters: &mut [u8],
-    marks: &mut [Mark],
-    out: &mut [u8],
+    characters: &mut [u8; 7680],
+    marks: &mut [Mark; 7680],
+    out: &mut [u8; 65536],
     text: &mut [u8],
 ) -> Printed
-    requires enough { Enough (lent characters.old marks.old out.old text.old) }
-    requires line_len { (length line.now ≡ 512) × (from ≤ 512) }
+    requires { (from ≤ 512) × (131087 ≤ length text.old) }
     ensures { CallMade (host (drop from (take to line.now))) held from
         (lent characters.old marks.old out.old text.old)
         result (lent characters.new marks.new out.new text.new) }
@@ -233,12 +229,12 @@ fn host_call(
 fn key_call(
     held: Option<Held>,
     number: u16,
-    characters: &mut [u8],
-    marks: &mut [Mark],
-    out: &mut [u8],
+    characters: &mut [u8; 7680],
+    marks: &mut [Mark; 7680],
+    out: &mut [u8; 65536],
     text: &mut [u8],
 ) -> Printed
-    requires { Enough (lent characters.old marks.old out.old text.old) }
+    requires { 131087 ≤ length text.old }
     ensures { (from : ℕ) → CallMade (key number) held from
         (lent characters.old marks.old out.old text.old)
         result (lent characters.new marks.new out.new text.new) }
@@ -267,15 +263,14 @@ fn key_call(
 pub fn call(
     held: Option<Held>,
     kind: Option<Kind>,
-    line: &[u8],
+    line: &[u8; 512],
     from: usize,
-    characters: &mut [u8],
-    marks: &mut [Mark],
-    out: &mut [u8],
+    characters: &mut [u8; 7680],
+    marks: &mut [Mark; 7680],
+    out: &mut [u8; 65536],
     text: &mut [u8],
 ) -> Printed
-    requires enough { Enough (lent characters.old marks.old out.old text.old) }
-    requires line_len { (length line.now ≡ 512) × (from ≤ 512) }
+    requires { (from ≤ 512) × (131087 ≤ length text.old) }
     ensures call_made { CallMade (frame_at kind line.now from) held from
         (lent characters.old marks.old out.old text.old)
         result (lent characters.new marks.new out.new text.new) }

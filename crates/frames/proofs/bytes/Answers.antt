@@ -18,9 +18,6 @@ returns-then-digits-gt512 c =
     let line = c.args.line.now in
     (subst (λ (said : List ℕ). Wrote 0 said line 0 line) (sym (line_too_long _ _ c.if-digits-gt512.true)) (wrote_none 0 line), omega arith)
 
-pub slice_bounds-is_hexadecimal-end-2 : goal.slice_bounds-is_hexadecimal-end-2
-slice_bounds-is_hexadecimal-end-2 c = sym (length-take-le _ _ (omega arith))
-
 pub returns-then-not-is_hexadecimal : goal.returns-then-not-is_hexadecimal
 returns-then-not-is_hexadecimal c =
     let line = c.args.line.now in

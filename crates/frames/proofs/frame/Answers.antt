@@ -11,12 +11,6 @@ use Rattle.frames.specs.Held.{line_in, kind_of}
 use Rattle.frames.proofs.Lending.{wrote_inside}
 use Rattle.frames.proofs.frame.Goals as goal
 
-pub slice_bounds-kind_of-end : goal.slice_bounds-kind_of-end
-slice_bounds-kind_of-end c = wrote_inside c.bytes-count.ensures.0
-
-pub slice_bounds-kind_of-end-2 : goal.slice_bounds-kind_of-end-2
-slice_bounds-kind_of-end-2 c = sym (length-take-le _ _ (wrote_inside c.bytes-count.ensures.0))
-
 pub returns : goal.returns
 unfolding frame_of
 returns c =

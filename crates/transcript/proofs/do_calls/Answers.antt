@@ -5,9 +5,6 @@ use Rattle.frames.proofs.Lending.{wrote_inside}
 use Rattle.frames.proofs.Running.{after_same, all_to_come, carries_on, ends, none_to_come}
 use Rattle.transcript.proofs.do_calls.Goals as goal
 
-pub call-printed-requires-clause-line_len : goal.call-printed-requires-clause-line_len
-call-printed-requires-clause-line_len g c = (c.loop.invariant.1, c.loop.invariant.0)
-
 pub shared_ref_as_front-print : goal.shared_ref_as_front-print
 shared_ref_as_front-print g c = let fits = wrote_inside c.call-printed.ensures.call_made.text in search rules
 
