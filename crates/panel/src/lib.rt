@@ -147,7 +147,7 @@ fn admit(
     tested
 }
 
-// The three take marks of our own for those that the bytes lent say; the entries work on them.
+// The three work on marks of our own, as the bytes lent say them. They take C's slices side by side, as the tests above do.
 
 // A fresh page of so many rows and columns.
 pub fn panel_start(
