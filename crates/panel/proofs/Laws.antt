@@ -10,15 +10,15 @@ use Rattle.std.specs.Int.{to_le_bytes, w64}
 use Rattle.std.proofs.Math.Nat.{div-div-eq-div-mul}
 use Rattle.words.specs.Output.{placed}
 use Rattle.words.proofs.Choosing.{then_case, else_case, either_line}
-use Rattle.page.specs.Page.{Page}
-use Rattle.steps.specs.Steps.{Terminal}
+use Rattle.page.specs.Page.{Page, page_of}
+use Rattle.steps.specs.Steps.{Terminal, terminal_of}
 use Rattle.terminal.specs.declared.Answer.TheVariants.{WrongSize, WrongState}
 use Rattle.terminal.specs.declared.Reply.{Reply}
 use Rattle.terminal.specs.Answers.{Outcome, number_of, given}
 use Rattle.terminal.specs.Calls.{start_call}
 use Rattle.record.specs.Bytes.{number_bytes}
-use Rattle.record.specs.Record.{record_of}
-use Rattle.panel.specs.Panel.{Lent, lent_of, result_length, result_bytes, mark_bytes, page_in, terminal_in, handed_back, untouched, refused_with, left_by, wrong_length, wrong_content, panel_start, on_terminal, RefusedBy}
+use Rattle.record.specs.Record.{record_of, state_in}
+use Rattle.panel.specs.Panel.{Lent, lent_of, result_length, result_bytes, mark_bytes, page_in, terminal_in, handed_back, untouched, refused_with, left_by, wrong_length, wrong_content, panel_start, on_terminal, RefusedBy, Admitted}
 
 pub result_length_lem : (number taken sent stored : ℕ) → length (result_bytes number taken sent stored) ≡ result_length
 unfolding result_bytes number_bytes
@@ -88,3 +88,11 @@ module _ (lent : Lent) (wrong : ℕ) (told : wrong ≡ wrong_length lent.packed 
       done_call good outcome did =
           ap (left_by lent) did
           ∙ sym (else_case _ _ _ (le-ltb 0 _ (rw told at none)) ∙ else_case _ _ _ (le-ltb 0 _ (rw bad-told at good)))
+
+-- An entry called on what was admitted, and what it handed back told to C.
+pub admitted_call : (lent : Lent) {own : List ℕ} → Admitted lent.packed lent.characters lent.marks lent.result own → (call : Terminal → Outcome) (reply : Reply) (page : Page) (output : List ℕ) → given reply page output ≡ call (terminal_of (state_in lent.packed) lent.characters own) → {number : ℕ} {packed marks result : List ℕ} → number ≡ number_of reply.answer → packed ≡ record_of reply.state → marks ≡ placed 0 (mark_bytes page.marks) lent.marks → result ≡ result_bytes (number_of reply.answer) reply.taken reply.sent reply.stored → handed_back number (lent_of packed page.characters marks output result) ≡ on_terminal call lent
+admitted_call lent admitted call reply page output did n p m r =
+    let content = sym (ap (λ (l : List ℕ). wrong_content lent.packed (page_of lent.characters l)) admitted.marks_read) ∙ admitted.good_content in
+    handed_on lent reply page output n p m r
+    ∙ done_call lent 0 (sym admitted.right_lengths) call (omega arith) 0 (sym content) (omega arith) _
+    (did ∙ ap (λ (l : List ℕ). call (terminal_of (state_in lent.packed) lent.characters l)) admitted.marks_read)

@@ -26,6 +26,11 @@ unfolding marks_said
 said_there cells bytes =
     either_line (λ (n : ℕ). n * 2 ≤ bytes) _ _ _ (λ said. omega (arith, eqb-true bytes (cells * 2) (both said).1)) (λ _. omega arith)
 
+-- So many bytes there are for marks that were read.
+pub read_there : (cells : ℕ) (bytes : List ℕ) {own : List ℕ} → own ≡ marks_in cells bytes → length own * 2 ≤ length bytes
+read_there cells bytes is =
+    omega (arith, ap length is ∙ length-each (number_at 2 bytes) 2 0 (marks_said cells (length bytes)), said_there cells (length bytes))
+
 said_most : (cells bytes : ℕ) → marks_said cells bytes ≤ 7680
 unfolding marks_said
 said_most cells bytes =

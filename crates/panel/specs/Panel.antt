@@ -1,5 +1,5 @@
 -- Document 02, M-100: what the three functions that C calls give back and leave.
-use Rattle.std.specs.Prelude.{◌≡◌, not, ℕ, ◌*◌, ◌<◌, eqb, leb, ltb, length, Result, Ok, Err}
+use Rattle.std.specs.Prelude.{◌≡◌, not, ℕ, ◌*◌, ◌<◌, eqb, leb, ltb, length}
 use mathlib.Core.List.{List, [], ◌∷◌, ◌++◌, flat_map}
 use Rattle.words.specs.Choice.{If◌then◌else◌, ◌and◌}
 use Rattle.words.specs.Output.{placed}
@@ -141,10 +141,6 @@ PanelKeyAllows lent key number left = handed_back number left ≡ panel_key lent
 pub record RefusedBy (refusal : Answer) (number : ℕ) : Type 0 where
   pub some : 0 < number
   pub told : number_of refusal ≡ number
-
-abbrev pub number_told : Result ℕ Answer → ℕ
-number_told (Ok number) = number
-number_told (Err refusal) = number_of refusal
 
 -- Nothing that is lent to a call on a terminal is wrong, and these are its marks.
 pub record Admitted (packed characters marks result own : List ℕ) : Type 0 where

@@ -10,7 +10,7 @@ ghost use Rattle.state.specs.Tests.{size_fits};
 ghost use Rattle.terminal.specs.Answers.{number_of};
 ghost use Rattle.record.specs.Record.{record_of, state_in};
 ghost use Rattle.panel.specs.Panel.{lent_of, result_bytes, marks_said, mark_bytes, wrong_length, wrong_content};
-ghost use Rattle.panel.specs.Panel.{RefusedBy, number_told, Admitted, Turned};
+ghost use Rattle.panel.specs.Panel.{RefusedBy, Admitted, Turned};
 ghost use Rattle.panel.specs.Panel.{PanelStartAllows, PanelHostAllows, PanelKeyAllows};
 
 use page::Mark;
@@ -147,87 +147,7 @@ fn admit(
     tested
 }
 
-// A start, host bytes and a key, on marks of our own: those that the bytes lent say, and the entries work on.
-fn start_on(
-    rows: usize,
-    columns: usize,
-    packed: &mut [u8],
-    characters: &mut [u8],
-    marks: &mut [u8],
-    own: &mut [Mark],
-    res: &mut [u8],
-) -> Result<u8, Answer>
-    requires { length own.old ≡ marks_said (length characters.old) (length marks.old) }
-    ensures { PanelStartAllows rows columns
-        (lent_of packed.old characters.old marks.old [] res.old)
-        (number_told result) (lent_of packed.new characters.new marks.new [] res.new) }
-{
-    wrong_length(packed, res)?;
-    record::read_numbers(marks, own);
-    let number = hand_on(terminal::start(rows, columns, characters, own), packed, res);
-    pack_marks(marks, own);
-    Ok(number)
-}
-
-// Two functions: as one with a closure for the call, panel_host took more bytes of stack than docs/PROMISES.md says.
-fn host_on(
-    packed: &mut [u8],
-    characters: &mut [u8],
-    marks: &mut [u8],
-    own: &mut [Mark],
-    bytes: &[u8],
-    out: &mut [u8],
-    res: &mut [u8],
-) -> Result<u8, Answer>
-    requires { length own.old ≡ marks_said (length characters.old) (length marks.old) }
-    ensures { PanelHostAllows
-        (lent_of packed.old characters.old marks.old out.old
-        res.old)
-        bytes.now (number_told result)
-        (lent_of packed.new characters.new marks.new out.new
-        res.new) }
-{
-    admit(packed, characters, marks, own, res)?;
-    let state = record::state_in(packed);
-    let number = hand_on(
-        terminal::host(state, characters, own, bytes, out),
-        packed,
-        res,
-    );
-    pack_marks(marks, own);
-    Ok(number)
-}
-
-fn key_on(
-    packed: &mut [u8],
-    characters: &mut [u8],
-    marks: &mut [u8],
-    own: &mut [Mark],
-    key: usize,
-    out: &mut [u8],
-    res: &mut [u8],
-) -> Result<u8, Answer>
-    requires { length own.old ≡ marks_said (length characters.old) (length marks.old) }
-    ensures { PanelKeyAllows
-        (lent_of packed.old characters.old marks.old out.old
-        res.old)
-        key (number_told result)
-        (lent_of packed.new characters.new marks.new out.new
-        res.new) }
-{
-    admit(packed, characters, marks, own, res)?;
-    let state = record::state_in(packed);
-    let number = hand_on(terminal::key(state, characters, own, key, out), packed, res);
-    pack_marks(marks, own);
-    Ok(number)
-}
-
-// The number that C is given.
-fn number_told(told: Result<u8, Answer>) -> u8
-    ensures { result ≡ number_told told }
-{
-    told.unwrap_or_else(terminal::number_of)
-}
+// The three work on marks of our own, as the bytes lent say them. They take C's slices side by side, as the tests above do.
 
 // A fresh page of so many rows and columns.
 pub fn panel_start(
@@ -242,17 +162,16 @@ pub fn panel_start(
         (lent_of packed.old characters.old marks.old [] res.old)
         result (lent_of packed.new characters.new marks.new [] res.new) }
 {
+    if let Err(refusal) = wrong_length(packed, res) {
+        return terminal::number_of(refusal);
+    }
     let cells = marks_said(characters.len(), marks.len());
-    let mut own = [0; MOST_CELLS];
-    number_told(start_on(
-        rows,
-        columns,
-        packed,
-        characters,
-        marks,
-        &mut own[..cells],
-        res,
-    ))
+    let mut room = [0; MOST_CELLS];
+    let own = &mut room[..cells];
+    record::read_numbers(marks, own);
+    let number = hand_on(terminal::start(rows, columns, characters, own), packed, res);
+    pack_marks(marks, own);
+    number
 }
 
 // Host bytes, at most 65,536. What is sent is written from the output's start on.
@@ -272,16 +191,18 @@ pub fn panel_host(
         res.new) }
 {
     let cells = marks_said(characters.len(), marks.len());
-    let mut own = [0; MOST_CELLS];
-    number_told(host_on(
+    let mut room = [0; MOST_CELLS];
+    let own = &mut room[..cells];
+    if let Err(refusal) = admit(packed, characters, marks, own, res) {
+        return terminal::number_of(refusal);
+    }
+    let number = hand_on(
+        terminal::host(record::state_in(packed), characters, own, bytes, out),
         packed,
-        characters,
-        marks,
-        &mut own[..cells],
-        bytes,
-        out,
         res,
-    ))
+    );
+    pack_marks(marks, own);
+    number
 }
 
 // A key, by its number. What is sent is written from the output's start on.
@@ -301,6 +222,16 @@ pub fn panel_key(
         res.new) }
 {
     let cells = marks_said(characters.len(), marks.len());
-    let mut own = [0; MOST_CELLS];
-    number_told(key_on(packed, characters, marks, &mut own[..cells], key, out, res))
+    let mut room = [0; MOST_CELLS];
+    let own = &mut room[..cells];
+    if let Err(refusal) = admit(packed, characters, marks, own, res) {
+        return terminal::number_of(refusal);
+    }
+    let number = hand_on(
+        terminal::key(record::state_in(packed), characters, own, key, out),
+        packed,
+        res,
+    );
+    pack_marks(marks, own);
+    number
 }

@@ -1,5 +1,6 @@
 // Document 02, M-100: the three functions of the crate panel, exported for a program in C. Each hands on what it is
 // given and promises what the library's promises. include/panel.h declares them; docs/PANEL.md is for who calls them.
+// Three of one shape, with slices side by side: they are the C interface.
 #![tactic(auto)]
 
 ghost use Rattle.std.specs.Prelude.{[]};

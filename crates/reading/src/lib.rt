@@ -34,7 +34,7 @@ pub fn takes_text(half: HalfRead, byte: u8) -> bool
     half.kind == sequence::NONE && sequence::is_text(byte) // else it belongs to a sequence
 }
 
-// Byte by byte.
+// Byte by byte. (Here, in read and in read_command `from` is asked to be in the slice: the caller goes on in the same.)
 fn read_on(half: HalfRead, bytes: &[u8], from: usize) -> Reading
     requires half_value { valid_half_read half ≡ true }
     requires from_in_bounds { from < length bytes.now }

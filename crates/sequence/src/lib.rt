@@ -10,7 +10,7 @@ ghost use Rattle.sequence.specs.Reading.{reads_on, ends, refuses, is_control, is
 ghost use Rattle.sequence.specs.Reading.{after_esc, after_intermediate, after_bracket, right_after_bracket};
 ghost use Rattle.sequence.specs.Reading.{after_private_mark, sequence_read_on, inside_sequence, advance_of};
 
-// What is half read.
+// What is half read: numbers and no enum, since C's record keeps any byte there (`HalfRead.kind`).
 pub const NONE: u8 = 0;
 
 pub const AFTER_ESC: u8 = 1;
@@ -31,6 +31,7 @@ pub struct HalfRead {
     pub kind: u8,
     pub arguments: [u16; 8],
     pub count: u8,
+    // A flag of its own, as C's record keeps it; `valid_half_read` says with which kind it goes.
     pub spoilt: bool,
 }
 
@@ -49,6 +50,7 @@ pub enum Reason {
 // What a byte brings about.
 #[derive(Clone, Copy)]
 pub enum Event {
+    // No Option around the others: this too is an event with a step of its own (`event_step`, commands/specs/Host.antt).
     Nothing,
     Text(u8),
     Control(u8),
@@ -127,7 +129,7 @@ fn is_control(byte: u8) -> bool
     matches!(byte, 0x08 | 0x0D | 0x0A | 0x09)
 }
 
-// 18 and 1A, at which a sequence is forgotten.
+// 18 and 1A, at which a sequence is forgotten. (One line like commands::is_light_letter, of other bytes.)
 fn is_cancel(byte: u8) -> bool
     ensures { result ≡ is_cancel byte }
 {
@@ -161,7 +163,7 @@ fn refused(reason: Reason, byte: u8) -> Advanced
     ends(Event::Refused(reason, byte))
 }
 
-// Any byte where nothing is half read.
+// Any byte where nothing is half read. A match, as in after_bracket and inside_sequence: it is document 01's table.
 fn outside_sequence(byte: u8) -> Advanced
     ensures { result ≡ outside_sequence byte }
 {
@@ -224,6 +226,7 @@ fn arguments_fit(arguments: [u16; 8], reached: usize) -> bool
     true
 }
 
+// What the methods ask of a record stays in clauses: C lends damaged ones too, and `is_valid` tells which they are.
 impl HalfRead {
     // Document 01's number 2 asks this of the half-read record.
     pub fn is_valid(self) -> bool
@@ -261,7 +264,7 @@ impl HalfRead {
         if 9999 < value {
             return SPOILT;
         }
-        let mut half = self;
+        let mut half = self; // one element is replaced, for which struct update has no form
         half.arguments[last] = value as u16;
         half
     }
