@@ -10,7 +10,7 @@ ghost use Rattle.page.specs.Marks.{unprotected};
 ghost use Rattle.page.specs.Page.{page_of};
 ghost use Rattle.fields.specs.Fields.{joined, starts_field, field_start, field_end};
 ghost use Rattle.fields.specs.Fields.{field_from, fields_of, fields_from};
-ghost use Rattle.fields.specs.Searches.{first_field, last_field, next_field, previous_field};
+ghost use Rattle.fields.specs.Searches.{last_field, next_field, previous_field};
 ghost use Rattle.fields.specs.Searches.{first_unprotected_from, first_unprotected, next_unprotected};
 ghost use Rattle.fields.specs.Required.{is_left_blank, some_left_blank};
 
