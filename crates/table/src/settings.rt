@@ -71,7 +71,8 @@ pub fn rendition(state: State, letter: u8, values: &[u16]) -> Light
 fn is_area(pen: Mark, value: usize) -> bool
     ensures { result ≡ is_area pen value }
 {
-    matches!(value, 0 | 1 | 3 | 4) || (value == 20 && !page::has_attribute(pen, Attribute::Protected))
+    matches!(value, 0 | 1 | 3 | 4)
+        || (value == 20 && !page::has_attribute(pen, Attribute::Protected))
 }
 
 // The pen that one of them leaves. (A pen, not an `Option`: `set_area` promises `area_set` of any value.)
