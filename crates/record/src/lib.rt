@@ -49,7 +49,7 @@ const STOPS: usize = 35;
 // As many bytes as a record has.
 pub const LENGTH: usize = 195;
 
-// The lowest byte of a number.
+// The lowest byte of a number: `to_le_bytes` would give all eight.
 pub fn low_byte(number: usize) -> u8
     ensures { result ≡ number % 256 }
 {
