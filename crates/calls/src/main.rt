@@ -85,7 +85,7 @@ trait Hexadecimal: Copy {
         ensures { result ≤ 4096 };
 }
 
-// Two digits for each byte.
+// Two digits for each byte; the two bodies are of one shape, and name what writes an item.
 impl Hexadecimal for u8 {
     fn put(text: &mut [u8; 4096], items: &[u8]) -> usize {
         numerals::put_hex(text, 0, items)
@@ -170,7 +170,8 @@ fn print_call<W: Write>(
     }
 }
 
-// The terminal's entries, with as much of the characters, the marks and the output as is lent.
+// The terminal's entries, with as much of the characters, the marks and the output as is lent. A page is two slices, as
+// the entries take it.
 impl Held {
     fn start(
         self,
@@ -350,7 +351,7 @@ fn set_mark(parts: &mut Parts, frame: &[u8]) -> Result<(), Refused> {
     Ok(())
 }
 
-// Message, kind, count and the byte beside the message are bytes.
+// Message, kind, count and the byte beside the message are bytes; a part is a number, as the frames have it.
 fn largest(part: usize) -> u16 {
     match part {
         8 | 9 | 11 | 180 => 255,
@@ -370,7 +371,8 @@ fn with_part(state: State, frame: &[u8]) -> Result<State, Refused> {
     Ok(damage::with_part(state, part, value))
 }
 
-// Frames 24 to 28 set what the calls after them are made with.
+// Frames 24 to 28 set what the calls after them are made with. The first byte says what to do, here and in do_frame: a
+// match.
 fn set(held: Held, frame: &[u8], parts: &mut Parts) -> Result<Held, Refused> {
     match frame {
         [0x24, ..] => Ok(Held {
@@ -454,6 +456,7 @@ fn take_byte<W: Write>(
     }
 }
 
+// As in transcript, but of other types: one function for both would take a closure, and be no plainer.
 fn take_bytes<W: Write>(
     printing: &mut Printing<W>,
     reading: Reading,

@@ -1,7 +1,7 @@
 // The state's parts by number, so that a test can read and set any of them; see specs/Parts.antt.
 #![tactic(auto)]
 
-ghost use Rattle.std.specs.Prelude.{◌≡◌, ◌%◌};
+ghost use Rattle.std.specs.Prelude.{◌≡◌};
 ghost use Rattle.damage.specs.Parts.{first_parts, part_of};
 ghost use Rattle.damage.specs.Parts.{chosen, arguments_with, stops_with, with_part};
 
@@ -31,7 +31,8 @@ fn first_parts(state: State) -> [usize; 12]
     ]
 }
 
-// A part's value; past the last part, 0.
+// A part's value; past the last part, 0. A part is a number, as `part_of` of specs/Parts.antt and the frames of `calls`
+// have it.
 pub fn part_of(state: State, part: usize) -> usize
     ensures { result ≡ part_of state part }
 {
@@ -74,7 +75,7 @@ fn stops_with(mut stops: [bool; 160], part: usize, value: u16) -> [bool; 160]
 pub fn with_part(state: State, part: usize, value: u16) -> State
     ensures { result ≡ with_part state part value }
 {
-    let low = (value % 256) as u8;
+    let [low, _] = value.to_le_bytes();
     let on = 0 < value;
     State {
         size: Size {

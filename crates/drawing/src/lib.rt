@@ -13,6 +13,7 @@ use page::Mark;
 use sequence::HalfRead;
 use state::{Locks, Modes, State};
 
+// A function, since the contracts of two callers name this choice.
 fn byte_if(test: bool, yes: u8, no: u8) -> u8
     ensures { result ≡ (If test then yes else no) }
 {
@@ -75,6 +76,7 @@ fn put_stop(text: &mut [u8], at: usize, stop: bool) -> usize
     output::put_byte(text, at, byte_if(stop, b'T', b'.'))
 }
 
+// This one, put_arguments and record::put_stops are each one call, and name what writes an item.
 fn put_each_stop(text: &mut [u8], at: usize, stops: [bool; 160]) -> usize
     requires { at + 160 ≤ length text.old }
     ensures { Wrote at (all_stops stops) text.old result text.new }
@@ -145,7 +147,7 @@ trait Cell: Copy {
         ensures { Wrote at (line row.now) text.old result text.new };
 }
 
-// A character, as it is.
+// A character, as it is. The two rows differ in their ends, and in what writes the cells.
 impl Cell for u8 {
     ghost line = { character_line };
 
@@ -184,7 +186,7 @@ fn put_rows<C: Cell>(text: &mut [u8], at: usize, cells: &[C], rows: usize, colum
     next
 }
 
-// A terminal's state and page, whose size the lent cells have.
+// A terminal's state and page, whose size the lent cells have: two slices, as the entries take them.
 pub fn draw(state: State, characters: &[u8], marks: &[Mark], text: &mut [u8], at: usize) -> usize
     requires five_digits_each { FiveDigitsEach state }
     requires characters_len { (length characters.now ≡ state.size.rows * state.size.columns)

@@ -101,7 +101,7 @@ fn put_line(text: &mut [u8], head: &[u8], sent: &[u8]) -> usize
     output::put_byte(text, end, b'\n')
 }
 
-// The line of a call that was answered so.
+// The line of a call that was answered so. Here and below the text stays a slice: it may be longer than a line needs.
 fn print(text: &mut [u8], reply: Reply, out: &[u8; 65536]) -> usize
     requires { (reply.sent ≤ 65536) × (131087 ≤ length text.old) }
     ensures { (page : Page) → Wrote 0 (printed (given reply page out.now))
@@ -160,6 +160,7 @@ fn no_call(held: Option<Held>, text: &mut [u8]) -> Printed
     }
 }
 
+// Characters and marks are two parameters here and below, as the entries take them.
 fn start_call(
     rows: u8,
     columns: u8,
@@ -259,7 +260,7 @@ fn key_call(
     }
 }
 
-// One call of a frame, if the line is one, whose host bytes before `from` are taken.
+// One call of a frame, if the line is one, whose host bytes before `from` are taken. A kind has its own call: a match.
 pub fn call(
     held: Option<Held>,
     kind: Option<Kind>,

@@ -17,6 +17,7 @@ fn is_digit(byte: u8) -> bool
     matches!(byte, b'0'..=b'9' | b'A'..=b'F')
 }
 
+// Two ranges, each with its own offset: here and in digit_of an `if` is the plain form.
 fn value_of(digit: u8) -> u8
     requires { is_digit digit ≡ true }
     ensures { (result ≡ digit_value digit) × (result ≤ 15) }
@@ -46,7 +47,8 @@ pub fn is_hexadecimal(text: &[u8]) -> bool
     text.len() % 2 == 0 && text.iter().all(|digit| is_digit(*digit))
 }
 
-// The bytes that digits say, left in their place: a byte never stands past the digits still to be read.
+// The bytes that digits say, left in their place: a byte never stands past the digits still to be read. The text may be
+// longer than its digits, and the rest stays, as the contract has it: so their count stands beside it.
 pub fn decode(text: &mut [u8], digits: usize) -> usize
     requires digits_in_bounds { digits ≤ length text.old }
     requires text_value { every is_digit (take digits text.old) ≡ true }
@@ -71,7 +73,8 @@ pub fn put_hex_byte(text: &mut [u8], at: usize, byte: u8) -> usize
     output::put_byte(text, next, low)
 }
 
-// Two digits for each byte.
+// Two digits for each byte. This one, put_hex_pairs and record::put_numbers are each one call, and name what writes an
+// item.
 pub fn put_hex(text: &mut [u8], at: usize, bytes: &[u8]) -> usize
     requires { at + 2 * length bytes.now ≤ length text.old }
     ensures { Wrote at (hex_of bytes.now) text.old result text.new }

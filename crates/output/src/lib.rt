@@ -1,4 +1,6 @@
 // Bytes and decimal numbers, written into a lent output from a place on; each function gives the place after.
+// Output and place stay two parameters, here, in numerals, in drawing and in record: a struct that held the output by
+// reference would be no plainer, since its contracts would speak of what that borrow ends as.
 #![tactic(auto)]
 
 ghost use mathlib.Core.List.{flat_map};

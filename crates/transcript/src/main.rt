@@ -64,7 +64,8 @@ fn show<W: Write>(printing: &mut Printing<W>, held: Option<Held>, rooms: &mut Ro
     printing.print(&rooms.text[..end]);
 }
 
-// A finished line: its frame's calls, and what each prints. The session is then the definition's.
+// A finished line: its frame's calls, and what each prints. The session is then the definition's. The clause on the
+// line's length, here and in do_line: the type alone tells it to a caller only where the field is read again.
 fn do_calls<W: Write>(
     printing: &mut Printing<W>,
     held: Option<Held>,

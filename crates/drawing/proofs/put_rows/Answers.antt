@@ -14,9 +14,6 @@ loop-init g c =
     let all : c.args.rows - 0 ≡ c.args.rows = omega arith in
     (rw all c.requires.cells_len, refl, [], wrote_none _ _, ap (λ (n : ℕ). row_lines g.C.Cell.line n c.args.columns c.args.cells.now) all)
 
-pub split_at-requires : goal.split_at-requires
-split_at-requires g c = omega (arith, row_taken c.args.rows c.loop.counter c.args.columns c.loop-test.true)
-
 pub put_row-next-requires : goal.put_row-next-requires
 put_row-next-requires g c =
     let line = g.C.Cell.line in

@@ -1,14 +1,12 @@
-use mathlib.Core.Path.{◌≡◌, sym, ap, ◌∙◌}
+use mathlib.Core.Path.{◌≡◌, ap, ◌∙◌}
 use mathlib.Core.List.{List}
 use Prim.Native.Nat.{ℕ}
 use native.Mathlib.Omega.{arith}
 use lib.ListN.{length, take}
-use lib.Seq.{length-take-le}
 use Rattle.words.proofs.Output.{placed_before}
 use Rattle.numerals.specs.Hexadecimal.{bytes_in}
 use Rattle.frames.specs.Frames.{frame_in, frame_of}
 use Rattle.frames.specs.Held.{line_in, kind_of}
-use Rattle.frames.proofs.Lending.{wrote_inside}
 use Rattle.frames.proofs.frame.Goals as goal
 
 pub returns : goal.returns

@@ -1,4 +1,4 @@
-use mathlib.Core.Path.{sym, ap, ◌∙◌}
+use mathlib.Core.Path.{ap, ◌∙◌}
 use Prim.Native.Nat.{ℕ, ◌*◌, ◌≤◌, min}
 use lib.Dec.{eqb}
 use lib.ListN.{take}
@@ -8,7 +8,6 @@ use Rattle.page.specs.Page.{page_of}
 use Rattle.terminal.specs.Calls.{start_call}
 use native.Mathlib.Nat.{mul-le-mul_right}
 use native.Mathlib.Omega.{arith}
-use lib.Seq.{length-take-le}
 use Rattle.terminal.specs.Answers.{Outcome}
 use Rattle.frames.specs.Held.{lent, Enough}
 use Rattle.frames.proofs.Starting.{start_sends_nothing, start_did}

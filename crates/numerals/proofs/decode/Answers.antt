@@ -29,12 +29,6 @@ value_of-low-requires c =
     let past : c.loop-i.i ≤ 2 * c.loop-i.i + 1 = omega arith in
     rw (read_later c.loop-i.invariant.1 _ _ past here) (passes is_digit digits c.requires.text_value _ inside)
 
-pub overflow_mul-text : goal.overflow_mul-text
-overflow_mul-text c = omega (arith, c.value_of-high.ensures.1)
-
-pub overflow_add-text : goal.overflow_add-text
-overflow_add-text c = omega (arith, c.value_of-high.ensures.1, c.value_of-low.ensures.1)
-
 pub loop-i-preserved : goal.loop-i-preserved
 loop-i-preserved c =
     let digits = take c.args.digits c.args.text.now in

@@ -13,10 +13,6 @@ pub returns-then-digit-le57 : goal.returns-then-digit-le57
 unfolding digit_value
 returns-then-digit-le57 c = (rw (then_case _ _ _ (le-leb _ _ c.if-digit-le57.true)), omega arith)
 
-pub overflow_sub-result-2 : goal.overflow_sub-result-2
-unfolding digit_value
-overflow_sub-result-2 c = omega arith
-
 pub returns : goal.returns
 unfolding digit_value
 returns c = (rw (else_case _ _ _ (lt-leb _ _ c.if-digit-le57.false)), omega (arith, (is_digit_lem _ c.requires).most))

@@ -13,9 +13,6 @@ turn done unit some =
     let same : 9 - (done + 1) + 1 ≡ 9 - done = omega arith in
     rw same at (once_more (9 - (done + 1)) unit)
 
-pub loop-init : goal.loop-init
-loop-init c = omega (arith, zero-mul c.args.unit)
-
 pub loop-preserved : goal.loop-preserved
 loop-preserved c =
     let here : c.loop.counter < 9 = omega arith in

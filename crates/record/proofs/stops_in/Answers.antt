@@ -6,9 +6,6 @@ use Rattle.record.specs.Bytes.{flag_at}
 use Rattle.record.proofs.Made.{made_each}
 use Rattle.record.proofs.stops_in.Goals as goal
 
-pub returns-then-bytes-ge-LENGTH : goal.returns-then-bytes-ge-LENGTH
-returns-then-bytes-ge-LENGTH c = c.stops_there.ensures
-
 pub returns : goal.returns
 returns c =
     made_each false (flag_at c.args.bytes.now) 1 35 (λ (k : ℕ). 35 + k) (λ k. omega arith)

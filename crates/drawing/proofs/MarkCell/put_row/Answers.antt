@@ -2,15 +2,11 @@ use Prim.Native.Nat.{◌≤◌}
 use native.Mathlib.Omega.{arith}
 use lib.ListN.{length}
 use Rattle.words.proofs.Output.{wrote_then}
-use Rattle.numerals.proofs.Digits.{pairs_length}
 use Rattle.drawing.proofs.Lengths.{mark_line_length}
 use Rattle.drawing.proofs.MarkCell.put_row.Goals as goal
 
 pub put_hex_pairs-end-requires : goal.put_hex_pairs-end-requires
 put_hex_pairs-end-requires c = omega (arith, c.requires, mark_line_length c.args.row.now)
-
-pub put_byte-requires : goal.put_byte-requires
-put_byte-requires c = omega (arith, c.requires, mark_line_length c.args.row.now, pairs_length c.args.row.now)
 
 pub returns : goal.returns
 returns c =

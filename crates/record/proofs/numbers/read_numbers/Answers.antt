@@ -1,4 +1,4 @@
-use mathlib.Core.Path.{◌≡◌, refl, sym, ◌∙◌}
+use mathlib.Core.Path.{◌≡◌, sym, ◌∙◌}
 use Prim.Native.Nat.{◌+◌, ◌*◌, ◌<◌}
 use native.Mathlib.Omega.{arith}
 use borrow.Author.Rules.{rules}
@@ -7,9 +7,6 @@ use Rattle.words.proofs.Writing.{next_put, all_written}
 use Rattle.record.specs.Bytes.{number_at, read_each}
 use Rattle.record.proofs.Reading.{length-each, each_there}
 use Rattle.record.proofs.numbers.read_numbers.Goals as goal
-
-pub loop-i-init : goal.loop-i-init
-loop-i-init c = (omega arith, refl, refl)
 
 pub loop-i-preserved : goal.loop-i-preserved
 loop-i-preserved c =
