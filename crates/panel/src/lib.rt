@@ -147,7 +147,7 @@ fn admit(
     tested
 }
 
-// The three work on marks of our own, as the bytes lent say them. They take C's slices side by side, as the tests above do.
+// The three work on marks of our own, as the bytes lent say them; C's slices stand side by side.
 
 // A fresh page of so many rows and columns.
 pub fn panel_start(
