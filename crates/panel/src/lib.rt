@@ -175,6 +175,7 @@ pub fn panel_start(
 }
 
 // Host bytes, at most 65,536. What is sent is written from the output's start on.
+// (panel_key has this shape too: both are what C calls, and what they share is in admit, hand_on and pack_marks.)
 pub fn panel_host(
     packed: &mut [u8],
     characters: &mut [u8],
