@@ -147,7 +147,7 @@ fn admit(
     tested
 }
 
-// The three work on marks of our own, as the bytes lent say them. They take C's slices side by side, as the tests above do.
+// The three work on marks of our own, as the bytes lent say them; C's slices stand side by side.
 
 // A fresh page of so many rows and columns.
 pub fn panel_start(
@@ -175,6 +175,7 @@ pub fn panel_start(
 }
 
 // Host bytes, at most 65,536. What is sent is written from the output's start on.
+// (panel_key has this shape too: both are what C calls, and what they share is in admit, hand_on and pack_marks.)
 pub fn panel_host(
     packed: &mut [u8],
     characters: &mut [u8],

@@ -6,7 +6,9 @@ use Rattle.sequence.specs.declared.Event.{Event}
 use Rattle.sequence.specs.declared.Event.TheVariants.{Nothing, Text, Control, EscCommand}
 use Rattle.sequence.specs.declared.Event.TheVariants.{BracketCommand, PrivateCommand, Refused}
 use Rattle.sequence.specs.Reading.{advance_of}
+use Rattle.sequence.specs.Record.{nothing_read}
 use Rattle.reading.specs.declared.Reading.{Reading}
+use Rattle.reading.specs.declared.Whole.{Whole}
 
 unfoldable pub is_nothing : Event → Bool
 is_nothing Nothing = true
@@ -31,8 +33,12 @@ read_from half (byte ∷ next ∷ later) at =
     If is_nothing (advance_of half byte).event then further
     else read_to half byte at
 
+-- After a whole command nothing is half read.
+abbrev pub reading_of : Whole → Reading
+reading_of whole = record { before = whole.before; after = nothing_read; event = whole.event; end = whole.end }
+
 -- What was read of bytes from a place on, where a record is: it brought something about, and reading on gives the same.
-pub record ReadWhole (half : HalfRead) (bytes : List ℕ) (at : ℕ) (reading : Reading) : Type 0 where
-  pub something : is_nothing reading.event ≡ false
+pub record ReadWhole (half : HalfRead) (bytes : List ℕ) (at : ℕ) (whole : Whole) : Type 0 where
+  pub something : is_nothing whole.event ≡ false
   pub here : at < length bytes
-  pub same : reading ≡ read_from half (drop at bytes) at
+  pub same : reading_of whole ≡ read_from half (drop at bytes) at

@@ -7,7 +7,7 @@ ghost use Rattle.std.specs.Prelude.{◌≡◌, true, ◌<◌, ◌+◌, ◌-◌, 
 ghost use Rattle.words.specs.Choice.{◌and◌, ◌is◌to◌};
 ghost use Rattle.sequence.specs.declared.HalfRead.{HalfRead};
 ghost use Rattle.sequence.specs.Record.{argument_read, bracket_read, valid_half_read};
-ghost use Rattle.reading.specs.Ahead.{is_nothing, read_from, ReadWhole};
+ghost use Rattle.reading.specs.Ahead.{is_nothing, read_from, reading_of, ReadWhole};
 
 use sequence::{Advanced, Event, HalfRead};
 
@@ -18,6 +18,14 @@ pub struct Reading {
     pub after: HalfRead,
     pub event: Event,
     pub end: usize,
+}
+
+// A whole command: the record before its last byte, its event, and where it ends. After it nothing is half read.
+#[derive(Clone, Copy)]
+struct Whole {
+    before: HalfRead,
+    event: Event,
+    end: usize,
 }
 
 // Nothing happens yet.
@@ -72,7 +80,7 @@ fn with_digit(argument: u16, digit: u8) -> u32
 }
 
 // Arguments: digits and semicolons up to the final byte; anything else, or their end, is left to `read_on`.
-fn read_arguments(bytes: &[u8], from: usize) -> Option<Reading>
+fn read_arguments(bytes: &[u8], from: usize) -> Option<Whole>
     ensures { IfSome result (ReadWhole argument_read bytes.now from) }
 {
     let mut arguments: [u16; 8] = [0; 8];
@@ -94,14 +102,13 @@ fn read_arguments(bytes: &[u8], from: usize) -> Option<Reading>
                 last += 1;
             }
             0x40..=0x7E => {
-                return Some(Reading {
+                return Some(Whole {
                     before: HalfRead {
                         kind: sequence::AFTER_BRACKET,
                         arguments,
                         count: (last + 1) as u8,
                         spoilt: false,
                     },
-                    after: sequence::NOTHING_READ,
                     event: Event::BracketCommand(byte),
                     end: at + 1,
                 });
@@ -113,15 +120,14 @@ fn read_arguments(bytes: &[u8], from: usize) -> Option<Reading>
 }
 
 // After ESC [: arguments, or the final byte at once; anything else, as >, is left to `read_on`.
-fn read_bracket(bytes: &[u8], from: usize) -> Option<Reading>
+fn read_bracket(bytes: &[u8], from: usize) -> Option<Whole>
     ensures { IfSome result (ReadWhole bracket_read bytes.now from) }
 {
     let byte = *bytes.get(from)?;
     match byte {
         b'0'..=b';' => read_arguments(bytes, from),
-        0x40..=0x7E => Some(Reading {
+        0x40..=0x7E => Some(Whole {
             before: sequence::BRACKET_READ,
-            after: sequence::NOTHING_READ,
             event: Event::BracketCommand(byte),
             end: from + 1,
         }),
@@ -130,19 +136,18 @@ fn read_bracket(bytes: &[u8], from: usize) -> Option<Reading>
 }
 
 // From an ESC outside a sequence on, where its command is whole.
-fn read_command(bytes: &[u8], from: usize) -> Option<Reading>
+fn read_command(bytes: &[u8], from: usize) -> Option<Whole>
     requires from_in_bounds { from < length bytes.now }
     requires from_value { get_or bytes.now from 0 ≡ 0x1B }
-    ensures { IfSome result (λ reading. (half : HalfRead) → half.kind ≡ 0 →
-        reading ≡ read_from half (drop from bytes.now) from) }
+    ensures { IfSome result (λ whole. (half : HalfRead) → half.kind ≡ 0 →
+        reading_of whole ≡ read_from half (drop from bytes.now) from) }
 {
     let next = from + 1;
     let byte = *bytes.get(next)?;
     match byte {
         b'[' => read_bracket(bytes, next + 1),
-        0x30..=0x7E => Some(Reading {
+        0x30..=0x7E => Some(Whole {
             before: sequence::ESC_READ,
-            after: sequence::NOTHING_READ,
             event: Event::EscCommand(byte),
             end: next + 1,
         }),
@@ -158,7 +163,12 @@ pub fn read(half: HalfRead, bytes: &[u8], from: usize) -> Reading
 {
     if bytes[from] == 0x1B && half.kind == sequence::NONE {
         if let Some(whole) = read_command(bytes, from) {
-            return whole;
+            return Reading {
+                before: whole.before,
+                after: sequence::NOTHING_READ,
+                event: whole.event,
+                end: whole.end,
+            };
         }
     }
     read_on(half, bytes, from)

@@ -50,7 +50,7 @@ pub enum Reason {
 // What a byte brings about.
 #[derive(Clone, Copy)]
 pub enum Event {
-    // No Option around the others: this too is an event with a step of its own (`event_step`, commands/specs/Host.antt).
+    // No Option around the others: this too has a step of its own (`event_step` of commands/specs/Host.antt).
     Nothing,
     Text(u8),
     Control(u8),
@@ -218,12 +218,10 @@ fn largest_argument(i: usize, reached: usize) -> u16
 fn arguments_fit(arguments: [u16; 8], reached: usize) -> bool
     ensures { result ≡ arguments_fit reached 0 arguments }
 {
-    for (i, argument) in arguments.iter().enumerate() {
-        if largest_argument(i, reached) < *argument {
-            return false;
-        }
-    }
-    true
+    arguments
+        .iter()
+        .enumerate()
+        .all(|(i, argument)| *argument <= largest_argument(i, reached))
 }
 
 // What the methods ask of a record stays in clauses: C lends damaged ones too, and `is_valid` tells which they are.

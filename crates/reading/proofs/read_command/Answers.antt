@@ -9,7 +9,7 @@ use Rattle.words.specs.Choice.{◌is◌to◌}
 use Rattle.words.proofs.Choosing.{range_is}
 use Rattle.sequence.specs.declared.HalfRead.{HalfRead}
 use Rattle.sequence.specs.Record.{bracket_read}
-use Rattle.reading.specs.Ahead.{read_from, ReadWhole}
+use Rattle.reading.specs.Ahead.{read_from, reading_of, ReadWhole}
 use Rattle.reading.proofs.Laws.{over_bracket, to_command}
 use Rattle.reading.proofs.read_command.Goals as goal
 
@@ -17,7 +17,7 @@ pub returns-in-91 : goal.returns-in-91
 returns-in-91 c =
     let bytes : List ℕ = c.args.bytes.now in
     let read = c.in_ok-byte.ensures.lookup.3 in
-    IfSome_then _ {P = ReadWhole bracket_read bytes (c.args.from + 1 + 1)} {Q = λ r. (half : HalfRead) → half.kind ≡ 0 → r ≡ read_from half (drop c.args.from bytes) c.args.from} c.read_bracket.ensures
+    IfSome_then _ {P = ReadWhole bracket_read bytes (c.args.from + 1 + 1)} {Q = λ r. (half : HalfRead) → half.kind ≡ 0 → reading_of r ≡ read_from half (drop c.args.from bytes) c.args.from} c.read_bracket.ensures
     (λ r told half outside. told.same ∙ sym (over_bracket half outside bytes _ c.requires.from_value told.here (sym (read.1 0) ∙ c.in-91.is)))
 
 pub returns-in-48-to-126 : goal.returns-in-48-to-126
