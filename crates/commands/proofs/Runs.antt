@@ -1,5 +1,5 @@
 -- What a run of host bytes is made of: text that follows on text, and events that are light.
-use mathlib.Core.Path.{◌≡◌, refl, sym, ap, ◌∙◌}
+use mathlib.Core.Path.{◌≡◌, refl, sym, ap, ◌∙◌, subst}
 use mathlib.Core.Bool.{true, false}
 use mathlib.Core.List.{List, [], ◌∷◌}
 use Prim.Native.Nat.{ℕ, zero, suc, ◌+◌, ◌-◌, ◌<◌, ◌≤◌}
@@ -14,9 +14,12 @@ use Rattle.words.proofs.Choosing.{then_case, else_case, either_line, either_way,
 use Rattle.words.proofs.Walking.{once_more}
 use Rattle.sequence.specs.declared.HalfRead.{HalfRead}
 use Rattle.sequence.specs.Record.{nothing_read, largest_argument, arguments_fit, valid_half_read}
+use Rattle.sequence.specs.declared.Advanced.{Advanced}
 use Rattle.sequence.specs.declared.Event.TheVariants.{Text}
 use Rattle.sequence.specs.Reading.{ends, outside_sequence, advance_of}
 use Rattle.sequence.proofs.Cases.{one_of_five}
+use Rattle.sequence.proofs.Events.{Tells, event_tells}
+use Rattle.sequence.proofs.Keeping.{eight_at_most}
 use Rattle.page.specs.Page.{Page, text_stored}
 use Rattle.state.specs.declared.State.{State}
 use Rattle.places.specs.Places.{cell_at}
@@ -29,7 +32,7 @@ use Rattle.steps.specs.Steps.{Terminal, silent, cursor_cell, Valid}
 use Rattle.steps.specs.Light.{light_step}
 use Rattle.commands.specs.Text.{text_step, text_length, after_text}
 use Rattle.commands.specs.declared.texts.TextRun.{TextRun}
-use Rattle.commands.specs.Host.{event_step, host_step}
+use Rattle.commands.specs.Host.{FinalInTable, event_step, host_step}
 use Rattle.commands.proofs.Stepping.{host_is}
 use Rattle.commands.proofs.Tables.{text_holds}
 
@@ -271,6 +274,16 @@ module _ (s : State) (row column : ℕ) where
     pub round_the_page : s.size.rows ≤ row → with_cursor s (cursor_at 1 1) ≡ to_next_cell at_cursor
     unfolding to_next_cell
     round_the_page last = sym (else_case _ _ _ (le-ltb column s.size.columns edge) ∙ else_case _ _ _ (le-ltb row s.size.rows last))
+
+-- What the functions for events ask of a byte's event: its final byte, and the count of the record before it.
+pub final_in_table : (half : HalfRead) (byte : ℕ) (advanced : Advanced) → advanced ≡ advance_of half byte → FinalInTable advanced.event
+unfolding Tells
+final_in_table half byte advanced told final gives =
+    let tells = subst (Tells half byte) (ap (λ (a : Advanced). a.event) (sym told) ∙ gives) (event_tells half byte) in
+    (tells.0, tells.1)
+
+pub eight_arguments : (t : Terminal) → Valid t → t.state.half.count ≤ 8
+eight_arguments t valid = eight_at_most t.state.half (parts t.state valid.state).half
 
 -- Whichever a light step is, it sends nothing, names no cell, and leaves protection.
 module _ (t : Terminal) where

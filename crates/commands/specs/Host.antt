@@ -1,5 +1,5 @@
 -- The step of a host byte.
-use Rattle.std.specs.Prelude.{ℕ}
+use Rattle.std.specs.Prelude.{◌≡◌, ℕ, ◌≤◌}
 use Rattle.sequence.specs.declared.HalfRead.{HalfRead}
 use Rattle.sequence.specs.declared.Event.{Event}
 use Rattle.sequence.specs.declared.Event.TheVariants.{Nothing, Text, Control, EscCommand}
@@ -21,6 +21,10 @@ event_step half (EscCommand byte) t = esc_step byte t
 event_step half (BracketCommand final) t = bracket_step final half t
 event_step half (PrivateCommand final) t = private_step final (argument_of half 0) t
 event_step half (Refused reason byte) t = refusing reason byte t
+
+-- The final byte of a command of ESC [ is one that the table by final byte has.
+abbrev pub FinalInTable : Event → Type 0
+FinalInTable event = (final : ℕ) → event ≡ BracketCommand final → (0x40 ≤ final) × (final ≤ 0x7E)
 
 -- The half-read record is advanced, and the event acts on the terminal that has it.
 unfoldable pub host_step : ℕ → Terminal → Stepped

@@ -83,7 +83,7 @@ fn light_letter(state: State, letter: u8) -> Light
     }
 }
 
-// SGR, SM and RM, which look at every argument. (Apart from `light_final`, which would lay out the record for moves too.)
+// SGR, SM and RM, which look at every argument. Apart from `light_final`, which would lay out the record for moves too.
 fn light_values(state: State, half: HalfRead, letter: u8) -> Light
     requires { (letter ≡ 0x6D → ⊥) → (letter ≡ 0x68 → ⊥) → letter ≡ 0x6C }
     ensures { (page : Page) →

@@ -28,9 +28,9 @@ use Rattle.steps.specs.Steps.{Terminal, Valid, bytes_of, with_state}
 use Rattle.steps.specs.declared.Light.{Light}
 use Rattle.steps.specs.Light.{light_step}
 use Rattle.commands.specs.Text.{text_step, text_length, after_text}
-use Rattle.commands.specs.Host.{event_step, host_step}
+use Rattle.commands.specs.Host.{FinalInTable, event_step, host_step}
 use Rattle.commands.proofs.Stepping.{next_valid}
-use Rattle.commands.proofs.Runs.{text_keeps_half, text_sends_nothing, text_names_one, text_not_refused, along_text, text_goes_on, length_goes_on, run_goes_on, light_sends_nothing, light_names_none, light_protects_none}
+use Rattle.commands.proofs.Runs.{text_keeps_half, text_sends_nothing, text_names_one, text_not_refused, along_text, text_goes_on, length_goes_on, run_goes_on, final_in_table, eight_arguments, light_sends_nothing, light_names_none, light_protects_none}
 use Rattle.terminal.specs.declared.Answer.TheVariants as answer
 use Rattle.terminal.specs.Runs.{count_of}
 use Rattle.terminal.specs.Answers.{number_of}
@@ -106,12 +106,18 @@ module _ (start : Terminal) (bytes before : List ℕ) (sent stored refused : ℕ
     pub arrived_step : host_step (get_or bytes arrives.last 0) (reading here read.before) ≡ event_step read.before read.event (reading here read.after)
     arrived_step = host_is (get_or bytes arrives.last 0) (reading here read.before) read.after read.event arrives.advances
 
+    -- What the event's step asks for.
     abbrev last_byte : ℕ
     last_byte = get_or bytes arrives.last 0
 
-    -- What the event's step asks for.
     pub arrived_valid : Valid (reading here read.after)
     arrived_valid = next_valid (reading here read.before) last_byte (record { half = read.after; event = read.event }) (with_half here.state read.after) (sym arrives.advances) refl arrives.going.valid
+
+    pub arrived_final : FinalInTable read.event
+    arrived_final = final_in_table read.before last_byte (record { half = read.after; event = read.event }) (sym arrives.advances)
+
+    pub arrived_count : read.before.count ≤ 8
+    arrived_count = eight_arguments (reading here read.before) arrives.going.valid
 
     pub arrived_past : taken < read.end
     arrived_past = omega (arith, arrives.past, arrives.ends)
