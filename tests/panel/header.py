@@ -34,6 +34,13 @@ def arms(text, function, enum):
     return {re.sub(r"(?<!^)(?=[A-Z])", "_", case).upper(): int(number) for case, number in cases}
 
 
+def variants(text, enum):
+    """The number that stands at each case of an enum, the case in the header's letters."""
+    found = re.search(rf"enum {enum} \{{(.*?)\n}}", text, re.DOTALL)
+    cases = re.findall(r"(\w+) = (\d+),", found[1]) if found else []
+    return {re.sub(r"(?<!^)(?=[A-Z])", "_", case).upper(): int(number) for case, number in cases}
+
+
 with open("include/panel.h", encoding="utf-8") as file:
     header = re.sub(r"/\*.*?\*/", "", file.read(), flags=re.DOTALL)
 ours = {name: int(value, 0) for name, value in re.findall(r"#define PANEL_(\w+) (\w+)", header)}
@@ -42,7 +49,7 @@ wanted = {"RECORD_" + name: value for name, value in constants(record).items()
           if name in ("LENGTH", "ROWS", "COLUMNS", "ROW", "COLUMN", "PEN", "ERASURE", "FULL", "MANUAL", "SOFT",
                       "MESSAGE", "BYTE", "KIND", "SPOILT", "COUNT", "ARGUMENTS", "STOPS")}
 wanted.update({name: value for name, value in constants(panel).items() if name == "RESULT_LENGTH"})
-numbers = arms(source("crates/terminal/src/lib.rt"), "number_of", "Answer")
+numbers = variants(source("crates/terminal/src/lib.rt"), "Answer")
 reasons = arms(source("crates/state/src/lib.rt"), "message_of", "Reason")
 kinds = constants(source("crates/sequence/src/lib.rt"))
 wanted.update(numbers)
