@@ -41,7 +41,7 @@ found=$(find crates -path '*/out' -prune -o \( -name '*.antt' -o -name '*.rt' \)
             while (sub(/^ *(pub|abbrev|unfoldable|record|data) /, "", text)) ;
             split(text, words, " ")
             if (line ~ /^ *(pub )?(record|data) /) { own = words[1]; type = 1 }
-            else if (words[2] == ":" || text ~ /^([^{]* )?=( |$)/) { own = words[1]; type = 0 }
+            else if (words[2] == ":" || text ~ /^([^{=]|\{[^{}=]*\})* =( |$)/) { own = words[1]; type = 0 }
             # an answer or an invariant is what the prover asks for by its name
             if (FILENAME ~ /\/(Answers|Invariants)\.antt$/ && words[3] == "goal." own) own_goal = 1; else own_goal = 0
             if (own != "" && !own_goal && !inside && line ~ /^(  )?[^ ]/ && (type || words[2] == ":") && !(own in place)) place[own] = FILENAME

@@ -87,7 +87,9 @@ pub fn put_hex_pair(text: &mut [u8], at: usize, number: u16) -> usize
     requires { at + 4 ≤ length text.old }
     ensures { Wrote at (hex_pair number) text.old result text.new }
 {
-    put_hex(text, at, &number.to_be_bytes())
+    let [high, low] = number.to_be_bytes();
+    let next = put_hex_byte(text, at, high);
+    put_hex_byte(text, next, low)
 }
 
 // Four digits for each number.

@@ -169,9 +169,9 @@ pub fn panel_start(
     let mut room = [0; MOST_CELLS];
     let own = &mut room[..cells];
     record::read_numbers(marks, own);
-    let number = hand_on(terminal::start(rows, columns, characters, own), packed, res);
+    let reply = terminal::start(rows, columns, characters, own);
     pack_marks(marks, own);
-    number
+    hand_on(reply, packed, res)
 }
 
 // Host bytes, at most 65,536. What is sent is written from the output's start on.
@@ -197,13 +197,9 @@ pub fn panel_host(
     if let Err(refusal) = admit(packed, characters, marks, own, res) {
         return terminal::number_of(refusal);
     }
-    let number = hand_on(
-        terminal::host(record::state_in(packed), characters, own, bytes, out),
-        packed,
-        res,
-    );
+    let reply = terminal::host(record::state_in(packed), characters, own, bytes, out);
     pack_marks(marks, own);
-    number
+    hand_on(reply, packed, res)
 }
 
 // A key, by its number. What is sent is written from the output's start on.
@@ -228,11 +224,7 @@ pub fn panel_key(
     if let Err(refusal) = admit(packed, characters, marks, own, res) {
         return terminal::number_of(refusal);
     }
-    let number = hand_on(
-        terminal::key(record::state_in(packed), characters, own, key, out),
-        packed,
-        res,
-    );
+    let reply = terminal::key(record::state_in(packed), characters, own, key, out);
     pack_marks(marks, own);
-    number
+    hand_on(reply, packed, res)
 }

@@ -72,11 +72,11 @@ module _ (stops : List Bool) where
       let here : suc column - 1 ≡ column = omega arith in
       else_case _ _ _ (rw here (none column (omega arith))) ∙ left_none (suc column) (λ k l. none k (omega arith))
 
-  right_end : (last at : ℕ) → last ≤ at → stop_right stops at (last - at) ≡ at
+  pub right_end : (last at : ℕ) → last ≤ at → stop_right stops at (last - at) ≡ at
   unfolding stop_right
   right_end last at h = let none : last - at ≡ 0 = omega arith in rw none
 
-  left_end : (at : ℕ) → at ≤ 1 → stop_left stops at ≡ 1
+  pub left_end : (at : ℕ) → at ≤ 1 → stop_left stops at ≡ 1
   left_end at h = left_none at (λ k l. absurd (omega arith))
 
   -- One stop on, and one back, where i of n are done.

@@ -22,24 +22,24 @@ pub returns-in-Err : goal.returns-in-Err
 unfolding panel_key
 returns-in-Err c = rw c.number_of.ensures (c.in-Err.ensures c.args.out.now (λ (t : Terminal). key_call t c.args.key c.args.out.now))
 
-pub hand_on-number-requires-clause-packed_len : goal.hand_on-number-requires-clause-packed_len
-hand_on-number-requires-clause-packed_len c =
+pub hand_on-requires-clause-packed_len : goal.hand_on-requires-clause-packed_len
+hand_on-requires-clause-packed_len c =
     (right_lengths c.args.packed.now c.args.res.now (omega (arith, c.in_default.ensures.0.right_lengths))).0
 
-pub hand_on-number-requires-clause-res_len : goal.hand_on-number-requires-clause-res_len
-hand_on-number-requires-clause-res_len c =
+pub hand_on-requires-clause-res_len : goal.hand_on-requires-clause-res_len
+hand_on-requires-clause-res_len c =
     rw c.in_default.ensures.1 (right_lengths c.args.packed.now c.args.res.now (omega (arith, c.in_default.ensures.0.right_lengths))).1
 
 pub pack_marks-requires : goal.pack_marks-requires
 pack_marks-requires c =
-    omega (arith, read_there (length c.args.characters.now) c.args.marks.now c.in_default.ensures.0.marks_read, c.key.auto)
+    omega (arith, read_there (length c.args.characters.now) c.args.marks.now c.in_default.ensures.0.marks_read, c.key-reply.auto)
 
 pub returns : goal.returns
 unfolding panel_key
 returns c =
     let lent = lent_of c.args.packed.now c.args.characters.now c.args.marks.now c.args.out.now c.args.res.now in
     let call = λ (t : Terminal). key_call t c.args.key c.args.out.now in
-    let told = c.hand_on-number.ensures in
-    admitted_call lent c.in_default.ensures.0 call c.key.result _ _
-    (c.key.ensures ∙ ap (λ (s : State). call (terminal_of s c.args.characters.now c.admit.new.own)) c.state_in.ensures)
+    let told = c.hand_on.ensures in
+    admitted_call lent c.in_default.ensures.0 call c.key-reply.result _ _
+    (c.key-reply.ensures ∙ ap (λ (s : State). call (terminal_of s c.args.characters.now c.admit.new.own)) c.state_in.ensures)
     told.value told.packed_after c.pack_marks.ensures told.res_after

@@ -29,16 +29,16 @@ read_numbers-requires c =
     let said = c.marks_said-cells.ensures in
     omega (arith, own_length _ _ _ said, said, said_there (length c.args.characters.now) (length c.args.marks.now))
 
-pub hand_on-number-requires-clause-packed_len : goal.hand_on-number-requires-clause-packed_len
-hand_on-number-requires-clause-packed_len c = (right_lengths c.args.packed.now c.args.res.now (omega (arith, c.in_default.ensures))).0
+pub hand_on-requires-clause-packed_len : goal.hand_on-requires-clause-packed_len
+hand_on-requires-clause-packed_len c = (right_lengths c.args.packed.now c.args.res.now (omega (arith, c.in_default.ensures))).0
 
-pub hand_on-number-requires-clause-res_len : goal.hand_on-number-requires-clause-res_len
-hand_on-number-requires-clause-res_len c = (right_lengths c.args.packed.now c.args.res.now (omega (arith, c.in_default.ensures))).1
+pub hand_on-requires-clause-res_len : goal.hand_on-requires-clause-res_len
+hand_on-requires-clause-res_len c = (right_lengths c.args.packed.now c.args.res.now (omega (arith, c.in_default.ensures))).1
 
 pub pack_marks-requires : goal.pack_marks-requires
 pack_marks-requires c =
     let said = c.marks_said-cells.ensures in
-    omega (arith, own_length _ _ _ said, said, said_there (length c.args.characters.now) (length c.args.marks.now), c.start.auto, c.read_numbers.auto)
+    omega (arith, own_length _ _ _ said, said, said_there (length c.args.characters.now) (length c.args.marks.now), c.start-reply.auto, c.read_numbers.auto)
 
 pub returns : goal.returns
 returns c =
@@ -47,7 +47,7 @@ returns c =
     let lent = lent_of c.args.packed.now c.args.characters.now marks [] c.args.res.now in
     let said = c.marks_said-cells.ensures in
     let own = c.read_numbers.ensures ∙ ap (read_each (number_at 2 marks) 2 0) (own_length _ _ _ said ∙ said) in
-    let told = c.hand_on-number.ensures in
-    handed_on lent c.start.result _ _ told.value told.packed_after c.pack_marks.ensures told.res_after
+    let told = c.hand_on.ensures in
+    handed_on lent c.start-reply.result _ _ told.value told.packed_after c.pack_marks.ensures told.res_after
     ∙ start_done lent 0 (sym c.in_default.ensures) c.args.rows c.args.columns (omega arith) _
-    (c.start.ensures ∙ ap (λ (l : List ℕ). start_call size (page_of c.args.characters.now l)) own)
+    (c.start-reply.ensures ∙ ap (λ (l : List ℕ). start_call size (page_of c.args.characters.now l)) own)

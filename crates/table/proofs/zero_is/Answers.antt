@@ -3,13 +3,13 @@ use Prim.Native.Nat.{ℕ}
 use borrow.Author.Rules.{rules}
 use Rattle.words.specs.Choice.{If◌then◌else◌, ◌and◌, ◌or◌, ◌is◌to◌}
 use Rattle.table.specs.Table.{allowed}
-use Rattle.table.proofs.Tables.{digits_of, is_digit, digit_is}
+use Rattle.table.proofs.Tables.{digits_of, is_digit_at, digit_at}
 use Rattle.table.proofs.zero_is.Goals as goal
 
 pub digit-requires : goal.digit-requires
 unfolding digits_of allowed If◌then◌else◌ ◌and◌ ◌or◌ ◌is◌to◌
-digit-requires c = is_digit (λ (final : ℕ). (allowed final).zero_is) 256 c.args.letter (search rules)
+digit-requires c = is_digit_at (λ (final : ℕ). (allowed final).zero_is) 256 c.args.letter (search rules)
 
 pub returns : goal.returns
 unfolding digits_of allowed If◌then◌else◌ ◌and◌ ◌or◌ ◌is◌to◌
-returns c = c.digit.ensures ∙ digit_is (λ (final : ℕ). (allowed final).zero_is) 256 c.args.letter (search rules)
+returns c = c.digit.ensures ∙ digit_at (λ (final : ℕ). (allowed final).zero_is) 256 c.args.letter (search rules)
