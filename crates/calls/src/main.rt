@@ -221,6 +221,7 @@ impl Held {
     }
 }
 
+// Here and in the next two the output is filled before the call, and so only on lines that make one.
 fn start_call<W: Write>(
     printing: &mut Printing<W>,
     held: Held,
@@ -232,6 +233,7 @@ fn start_call<W: Write>(
     }
     let rows = two(frame, 1);
     let columns = two(frame, 3);
+    parts.out.fill(FILLED);
     let reply = held.start(rows, columns, &mut parts.characters, &mut parts.marks);
     Ok(print_call(printing, held.lent, reply, parts))
 }
@@ -242,6 +244,7 @@ fn host_call<W: Write>(
     bytes: &[u8],
     parts: &mut Parts,
 ) -> Held {
+    parts.out.fill(FILLED);
     let reply = held.host(
         &mut parts.characters,
         &mut parts.marks,
@@ -261,6 +264,7 @@ fn key_call<W: Write>(
         return Err(Refused);
     }
     let number = four(frame, 1);
+    parts.out.fill(FILLED);
     let reply = held.key(
         &mut parts.characters,
         &mut parts.marks,
@@ -406,7 +410,6 @@ fn do_frame<W: Write>(
     frame: &[u8],
     parts: &mut Parts,
 ) -> Result<Held, Refused> {
-    parts.out.fill(FILLED);
     match frame {
         [0x20, ..] => start_call(printing, held, frame, parts),
         [0x21, bytes @ ..] => Ok(host_call(printing, held, bytes, parts)),

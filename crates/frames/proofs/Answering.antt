@@ -82,9 +82,9 @@ module _ (one : Outcome) (reply : Reply) (characters marks out text : List ℕ) 
     (alike : Alike one (given reply (page_of characters marks) out) before.out)
     (as_many : length characters ≡ cells) (marks-too : length marks ≡ cells)
     (wrote : Wrote 0 (printed (given reply (page_of characters marks) out)) before.text end text) where
-  pub answered : (taken : ℕ) (more : Bool) (rest : Option ℕ) → rest ≡ (If more then Some (from + taken) else None) → CallDone (called_with one taken more) from before (record { held = Some (record { cells = cells; state = reply.state }); end = end; rest = rest }) (lent (characters ++ drop cells before.characters) (marks ++ drop cells before.marks) out text)
+  pub answered : (taken on : ℕ) (more : Bool) (rest : Option ℕ) → on ≡ from + taken → rest ≡ (If more then Some (from + taken) else None) → CallDone (called_with one taken more) from before (record { held = Some (record { cells = cells; state = reply.state }); end = end; from = on; rest = rest }) (lent (characters ++ drop cells before.characters) (marks ++ drop cells before.marks) out text)
   unfolding kept characters_of marks_of
-  answered taken more rest carries-on =
+  answered taken on more rest is-on carries-on =
       let cells_are = sym as_many ∙ ap (λ (t : Terminal). length t.page.characters) alike.terminal in
       let held : Some (record { cells = cells; state = reply.state }) ≡ kept (session one.terminal) = λ i. Some (record { cells = cells_are i; state = (alike.terminal i).state }) in
       let all-characters = placed_front characters before.characters cells as_many ∙ (λ i. placed 0 (alike.terminal i).page.characters before.characters) in
@@ -95,6 +95,7 @@ module _ (one : Outcome) (reply : Reply) (characters marks out text : List ℕ) 
         marks = all-marks;
         out = alike.output;
         text = subst (λ (bytes : List ℕ). Wrote 0 bytes before.text end text) (printed_same (given reply (page_of characters marks) out) one alike.number (ap (λ (t : Terminal). t.state) alike.terminal) alike.stored alike.sends) wrote;
+        from_on = is-on;
         rest = carries-on;
         going =
             (λ i. session_in (held i) (all-characters i) (all-marks i))
@@ -121,6 +122,7 @@ rest_inside true fits is = rw is fits
 rest_inside false fits is = rw is tt
 
 -- The call of a kind of frame that was told.
-pub called : {kind is : Option Kind} (line : List ℕ) (from : ℕ) (s : Session) {before after : Lent} {r : Printed} → length line ≡ 512 → from ≤ 512 → kind ≡ is → CallDone (call_of (frame_at is line from) s) from before r after → CallDone (call_of (frame_at kind line from) s) from before r after × IfSome r.rest (λ rest. rest ≤ 512)
+pub called : {kind is : Option Kind} (line : List ℕ) (from : ℕ) (s : Session) {before after : Lent} {r : Printed} → length line ≡ 512 → from ≤ 512 → kind ≡ is → CallDone (call_of (frame_at is line from) s) from before r after → CallDone (call_of (frame_at kind line from) s) from before r after × (r.from ≤ 512) × IfSome r.rest (λ rest. rest ≤ 512)
 called {is = is} line from s {r = r} long here told did =
-    (did_as (ap (λ (kind : Option Kind). call_of (frame_at kind line from) s) told) did, rest_inside _ (inside is line from s long here) did.rest)
+    let fits = inside is line from s long here in
+    (did_as (ap (λ (kind : Option Kind). call_of (frame_at kind line from) s) told) did, omega (arith, did.from_on, fits), rest_inside _ fits did.rest)

@@ -127,7 +127,7 @@ module _ (rows columns cells from end : ℕ) (before : Lent) (enough : Enough be
       (printed_same (given reply (page_of [] []) before.out) one number state stored (ap (λ (n : ℕ). take n before.out) sent ∙ sym none))
       (wrote (page_of [] []))
 
-  good_did : listed_size size ≡ true → CallDone (started (fresh size)) from before (record { held = Some (record { cells = cells; state = reply.state }); end = end; rest = None }) whole
+  good_did : listed_size size ≡ true → CallDone (started (fresh size)) from before (record { held = Some (record { cells = cells; state = reply.state }); end = end; from = from; rest = None }) whole
   unfolding started kept characters_of marks_of If◌then◌else◌
   good_did listed =
       let told = is ∙ good_start size _ sizes listed in
@@ -147,11 +147,12 @@ module _ (rows columns cells from end : ℕ) (before : Lent) (enough : Enough be
         marks = all-marks;
         out = (wrote_none 0 before.out).left;
         text = line_of (fresh size) (ap (λ (o : Outcome). o.number) told) (ap (λ (o : Outcome). o.terminal.state) told) (ap (λ (o : Outcome). o.stored) told) (ap (λ (o : Outcome). o.sent) told) refl;
+        from_on = omega arith;
         rest = refl;
         going = (λ i. session_in (held i) (all-characters i) (all-marks i)) ∙ held_again (fresh size).terminal before.characters before.marks (marks-long ∙ sym long);
       }
 
-  refused_did : listed_size size ≡ false → CallDone (started (unchanged WrongSize (unstarted (lent_page rows columns)) [])) from before (record { held = None; end = end; rest = None }) whole
+  refused_did : listed_size size ≡ false → CallDone (started (unchanged WrongSize (unstarted (lent_page rows columns)) [])) from before (record { held = None; end = end; from = from; rest = None }) whole
   unfolding started kept characters_of marks_of If◌then◌else◌ unchanged number_of
   refused_did unlisted =
       let told = is ∙ refused_start size _ sizes unlisted in
@@ -163,6 +164,7 @@ module _ (rows columns cells from end : ℕ) (before : Lent) (enough : Enough be
         marks = ap (λ (l : List ℕ). l ++ drop cells before.marks) marks-are ∙ take-append-drop cells before.marks ∙ (wrote_none 0 before.marks).left;
         out = (wrote_none 0 before.out).left;
         text = line_of (unchanged WrongSize (unstarted (lent_page rows columns)) []) (ap (λ (o : Outcome). o.number) told) (ap (λ (o : Outcome). o.terminal.state) told) (ap (λ (o : Outcome). o.stored) told) (ap (λ (o : Outcome). o.sent) told) refl;
+        from_on = omega arith;
         rest = refl;
         going = none_in _ _ refl;
       }
@@ -174,7 +176,7 @@ module _ (rows columns cells from end : ℕ) (before : Lent) (enough : Enough be
   unfolding unchanged number_of
   refused_number unlisted = ap (λ (o : Outcome). o.number) (is ∙ refused_start size _ sizes unlisted)
 
-  pub start_did : {held : Option Held} → held ≡ then_some (eqb (number_of reply.answer) 0) (record { cells = cells; state = reply.state }) → CallDone (call_of (start rows columns) s) from before (record { held = held; end = end; rest = None }) whole
+  pub start_did : {held : Option Held} → held ≡ then_some (eqb (number_of reply.answer) 0) (record { cells = cells; state = reply.state }) → CallDone (call_of (start rows columns) s) from before (record { held = held; end = end; from = from; rest = None }) whole
   unfolding call_of
   start_did held_is =
       rw held_is
@@ -183,8 +185,8 @@ module _ (rows columns cells from end : ℕ) (before : Lent) (enough : Enough be
       (λ unlisted. rw (refused_number unlisted) (did_as (ap started (refused_start size (lent_page rows columns) (lent_sizes rows columns) unlisted)) (refused_did unlisted))))
 
   -- The same, of a start that was answered 0, and of one that was not.
-  pub started_well : number_of reply.answer ≡ 0 → CallDone (call_of (start rows columns) s) from before (record { held = Some (record { cells = cells; state = reply.state }); end = end; rest = None }) whole
+  pub started_well : number_of reply.answer ≡ 0 → CallDone (call_of (start rows columns) s) from before (record { held = Some (record { cells = cells; state = reply.state }); end = end; from = from; rest = None }) whole
   started_well good = start_did (rw good refl)
 
-  pub started_badly : (number_of reply.answer ≡ 0 → ⊥) → CallDone (call_of (start rows columns) s) from before (record { held = None; end = end; rest = None }) whole
+  pub started_badly : (number_of reply.answer ≡ 0 → ⊥) → CallDone (call_of (start rows columns) s) from before (record { held = None; end = end; from = from; rest = None }) whole
   started_badly bad = start_did (rw (ne_eqb _ _ bad) refl)

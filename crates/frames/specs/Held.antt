@@ -90,6 +90,7 @@ pub record CallDone (call : FrameCall) (from : ℕ) (before : Lent) (r : Printed
   pub marks : after.marks ≡ placed 0 (marks_of call.after) before.marks
   pub out : after.out ≡ placed 0 call.bytes_sent before.out
   pub text : Wrote 0 call.text before.text r.end after.text
+  pub from_on : r.from ≡ from + call.taken
   pub rest : r.rest ≡ (If call.more then Some (from + call.taken) else None)
   pub going : session_in r.held after.characters after.marks ≡ call.after
 

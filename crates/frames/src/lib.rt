@@ -11,7 +11,7 @@ ghost use Rattle.frames.specs.Frames.{frame_in, frame_of, start, host, key};
 ghost use Rattle.frames.specs.Printing.{line_of, printed, refusal};
 ghost use Rattle.frames.specs.Sessions.{Session, call_of, uncalled};
 ghost use Rattle.frames.specs.Held.{longer, line_in, kind_of, frame_at, kept, session_in};
-ghost use Rattle.frames.specs.Held.{lent, CallDone, CallMade};
+ghost use Rattle.frames.specs.Held.{lent, Enough, CallDone, CallMade};
 
 mod printing;
 
@@ -35,11 +35,13 @@ pub struct Held {
     pub state: State,
 }
 
-// After a call: the session, where the line printed ends, and the place in the line to carry on from, if there is more.
+// After a call: the session, where the line printed ends, the place in the line that the call came to, and the place to
+// carry on from, if there is more. So of every call `from` tells how many host bytes were taken, of the last one too.
 #[derive(Clone, Copy)]
 pub struct Printed {
     pub held: Option<Held>,
     pub end: usize,
+    pub from: usize,
     pub rest: Option<usize>,
 }
 
@@ -56,8 +58,10 @@ fn kind_of(bytes: &[u8]) -> Option<Kind>
 }
 
 // A byte of a line, which has so many already: how many it has then. The count is a number beside the line, as the
-// definitions `longer` and `line_in` have it: a struct of both would be no plainer.
-pub fn collect(line: &mut [u8; 512], digits: usize, byte: u8) -> usize
+// definitions `longer` and `line_in` have it: a struct of both would be no plainer. The line is a slice, as are the
+// page and the output below: a caller's may be parts of a larger room.
+pub fn collect(line: &mut [u8], digits: usize, byte: u8) -> usize
+    requires { length line.old ≡ 512 }
     ensures { (result ≡ longer digits) × (line.new ≡ set line.old digits byte) }
 {
     if digits < 512 {
@@ -68,7 +72,8 @@ pub fn collect(line: &mut [u8; 512], digits: usize, byte: u8) -> usize
 }
 
 // The bytes that a finished line says, left in the place of their digits.
-pub fn bytes(line: &mut [u8; 512], digits: usize) -> usize
+pub fn bytes(line: &mut [u8], digits: usize) -> usize
+    requires { length line.old ≡ 512 }
     ensures { Wrote 0 (bytes_in (line_in line.old digits)) line.old result line.new
         × (result ≤ 256) }
 {
@@ -82,7 +87,8 @@ pub fn bytes(line: &mut [u8; 512], digits: usize) -> usize
 }
 
 // The frame that a finished line says; its bytes are left in the place of their digits.
-pub fn frame(line: &mut [u8; 512], digits: usize) -> Option<Kind>
+pub fn frame(line: &mut [u8], digits: usize) -> Option<Kind>
+    requires { length line.old ≡ 512 }
     ensures { (result ≡ kind_of (frame_of (line_in line.old digits)))
         × (line.new ≡ placed 0 (bytes_in (line_in line.old digits)) line.old) }
 {
@@ -101,9 +107,9 @@ fn put_line(text: &mut [u8], head: &[u8], sent: &[u8]) -> usize
     output::put_byte(text, end, b'\n')
 }
 
-// The line of a call that was answered so. Here and below the text stays a slice: it may be longer than a line needs.
-fn print(text: &mut [u8], reply: Reply, out: &[u8; 65536]) -> usize
-    requires { (reply.sent ≤ 65536) × (131087 ≤ length text.old) }
+// The line of a call that was answered so. Here and below the text may be longer than a line needs.
+fn print(text: &mut [u8], reply: Reply, out: &[u8]) -> usize
+    requires { (reply.sent ≤ length out.now) × (reply.sent ≤ 65536) × (131087 ≤ length text.old) }
     ensures { (page : Page) → Wrote 0 (printed (given reply page out.now))
         text.old result text.new }
 {
@@ -145,9 +151,9 @@ fn settled(held: Option<Held>) -> Option<Held>
 }
 
 // No call is made, and the session stays.
-fn no_call(held: Option<Held>, text: &mut [u8]) -> Printed
+fn no_call(held: Option<Held>, from: usize, text: &mut [u8]) -> Printed
     requires { 131087 ≤ length text.old }
-    ensures { (characters marks out : List ℕ) → (from : ℕ) → length characters ≡ 7680 → length marks ≡ 7680 →
+    ensures { (characters marks out : List ℕ) → length characters ≡ 7680 → length marks ≡ 7680 →
         CallDone (uncalled (session_in held characters marks)) from
         (lent characters marks out text.old)
         result (lent characters marks out text.new) }
@@ -156,6 +162,7 @@ fn no_call(held: Option<Held>, text: &mut [u8]) -> Printed
     Printed {
         held: settled(held),
         end,
+        from,
         rest: None,
     }
 }
@@ -164,13 +171,14 @@ fn no_call(held: Option<Held>, text: &mut [u8]) -> Printed
 fn start_call(
     rows: u8,
     columns: u8,
-    characters: &mut [u8; 7680],
-    marks: &mut [Mark; 7680],
-    out: &[u8; 65536],
+    from: usize,
+    characters: &mut [u8],
+    marks: &mut [Mark],
+    out: &[u8],
     text: &mut [u8],
 ) -> Printed
-    requires { 131087 ≤ length text.old }
-    ensures { (before : Session) → (from : ℕ) → CallDone (call_of (start rows columns) before) from
+    requires { Enough (lent characters.old marks.old out.now text.old) }
+    ensures { (before : Session) → CallDone (call_of (start rows columns) before) from
         (lent characters.old marks.old out.now text.old)
         result (lent characters.new marks.new out.now text.new) }
 {
@@ -184,6 +192,7 @@ fn start_call(
     Printed {
         held: good.then_some(Held { cells, state }),
         end,
+        from,
         rest: None,
     }
 }
@@ -191,21 +200,22 @@ fn start_call(
 // The host bytes of the line from place `from` to before `to`.
 fn host_call(
     held: Option<Held>,
-    line: &[u8; 512],
+    line: &[u8],
     from: usize,
     to: usize,
-    characters: &mut [u8; 7680],
-    marks: &mut [Mark; 7680],
-    out: &mut [u8; 65536],
+    characters: &mut [u8],
+    marks: &mut [Mark],
+    out: &mut [u8],
     text: &mut [u8],
 ) -> Printed
-    requires { (from ≤ 512) × (131087 ≤ length text.old) }
+    requires enough { Enough (lent characters.old marks.old out.old text.old) }
+    requires line_len { (length line.now ≡ 512) × (from ≤ 512) }
     ensures { CallMade (host (drop from (take to line.now))) held from
         (lent characters.old marks.old out.old text.old)
         result (lent characters.new marks.new out.new text.new) }
 {
     let Some(going) = held else {
-        return no_call(held, text);
+        return no_call(held, from, text);
     };
     let cells = going.cells.min(7680);
     let last = to.min(512);
@@ -219,29 +229,32 @@ fn host_call(
     );
     let end = print(text, reply, out);
     let state = reply.state;
+    let on = from + reply.taken;
     let more = terminal::number_of(reply.answer) == 3;
     Printed {
         held: Some(Held { cells, state }),
         end,
-        rest: more.then_some(from + reply.taken),
+        from: on,
+        rest: more.then_some(on),
     }
 }
 
 fn key_call(
     held: Option<Held>,
     number: u16,
-    characters: &mut [u8; 7680],
-    marks: &mut [Mark; 7680],
-    out: &mut [u8; 65536],
+    from: usize,
+    characters: &mut [u8],
+    marks: &mut [Mark],
+    out: &mut [u8],
     text: &mut [u8],
 ) -> Printed
-    requires { 131087 ≤ length text.old }
-    ensures { (from : ℕ) → CallMade (key number) held from
+    requires { Enough (lent characters.old marks.old out.old text.old) }
+    ensures { CallMade (key number) held from
         (lent characters.old marks.old out.old text.old)
         result (lent characters.new marks.new out.new text.new) }
 {
     let Some(going) = held else {
-        return no_call(held, text);
+        return no_call(held, from, text);
     };
     let cells = going.cells.min(7680);
     let reply = terminal::key(
@@ -256,6 +269,7 @@ fn key_call(
     Printed {
         held: Some(Held { cells, state }),
         end,
+        from,
         rest: None,
     }
 }
@@ -264,23 +278,27 @@ fn key_call(
 pub fn call(
     held: Option<Held>,
     kind: Option<Kind>,
-    line: &[u8; 512],
+    line: &[u8],
     from: usize,
-    characters: &mut [u8; 7680],
-    marks: &mut [Mark; 7680],
-    out: &mut [u8; 65536],
+    characters: &mut [u8],
+    marks: &mut [Mark],
+    out: &mut [u8],
     text: &mut [u8],
 ) -> Printed
-    requires { (from ≤ 512) × (131087 ≤ length text.old) }
+    requires enough { Enough (lent characters.old marks.old out.old text.old) }
+    requires line_len { (length line.now ≡ 512) × (from ≤ 512) }
     ensures call_made { CallMade (frame_at kind line.now from) held from
         (lent characters.old marks.old out.old text.old)
         result (lent characters.new marks.new out.new text.new) }
+    ensures from_bound { result.from ≤ 512 }
     ensures rest_bound { IfSome result.rest (λ rest. rest ≤ 512) }
 {
     match kind {
-        Some(Kind::Start(rows, columns)) => start_call(rows, columns, characters, marks, out, text),
+        Some(Kind::Start(rows, columns)) => start_call(
+            rows, columns, from, characters, marks, out, text,
+        ),
         Some(Kind::Host(to)) => host_call(held, line, from, to, characters, marks, out, text),
-        Some(Kind::Key(number)) => key_call(held, number, characters, marks, out, text),
-        None => no_call(held, text),
+        Some(Kind::Key(number)) => key_call(held, number, from, characters, marks, out, text),
+        None => no_call(held, from, text),
     }
 }

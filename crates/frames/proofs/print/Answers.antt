@@ -1,19 +1,11 @@
-use mathlib.Core.Path.{◌≡◌, ap, ◌∙◌, subst}
+use mathlib.Core.Path.{ap, ◌∙◌, subst}
 use mathlib.Core.List.{List, ◌∷◌, ◌++◌}
 use Prim.Native.Nat.{ℕ}
-use native.Mathlib.Omega.{arith}
-use lib.ListN.{length, take}
-use lib.Seq.{length-take-le}
-use borrow.Author.Rules.{rules}
+use lib.ListN.{take}
 use Rattle.words.specs.Output.{Wrote}
 use Rattle.frames.specs.Printing.{high_first, line_of, printed}
 use Rattle.frames.proofs.Calling.{one_byte, last_byte, last_four, four_told}
 use Rattle.frames.proofs.print.Goals as goal
-
-pub put_line-requires : goal.put_line-requires
-put_line-requires c =
-    let out : length c.args.out.now ≡ 65536 = search rules in
-    omega (arith, length-take-le c.args.reply.sent c.args.out.now (omega arith))
 
 pub returns : goal.returns
 unfolding printed high_first
