@@ -78,37 +78,45 @@ fn four(frame: &[u8], at: usize) -> u32
     u32::from_be_bytes([frame[at], frame[at + 1], frame[at + 2], frame[at + 3]])
 }
 
-// What a line has in hexadecimal, bytes or marks: at most 1,024 of them at a time.
-trait Hexadecimal: Copy {
+// What a line has in hexadecimal, bytes or marks: at a time as many as 4,096 digits are.
+trait Hexadecimal<const PIECE: usize>: Copy {
     fn put(text: &mut [u8; 4096], items: &[Self]) -> usize
-        requires { length items.now ≤ 1024 }
+        requires { length items.now ≤ PIECE }
         ensures { result ≤ 4096 };
 }
 
 // Two digits for each byte; the two bodies are of one shape, and name what writes an item.
-impl Hexadecimal for u8 {
+impl Hexadecimal<2048> for u8 {
     fn put(text: &mut [u8; 4096], items: &[u8]) -> usize {
         numerals::put_hex(text, 0, items)
     }
 }
 
 // Four for each mark.
-impl Hexadecimal for Mark {
+impl Hexadecimal<1024> for Mark {
     fn put(text: &mut [u8; 4096], items: &[Mark]) -> usize {
         numerals::put_hex_pairs(text, 0, items)
     }
 }
 
-fn print_piece<W: Write, T: Hexadecimal>(printing: &mut Printing<W>, items: &[T])
-    requires { length items.now ≤ 1024 }
+fn print_piece<W: Write, T: Hexadecimal<PIECE>, const PIECE: usize>(
+    printing: &mut Printing<W>,
+    items: &[T],
+)
+    requires { length items.now ≤ PIECE }
 {
     let mut text = [0u8; 4096];
     let end = T::put(&mut text, items);
     printing.print(&text[..end]);
 }
 
-fn print_line<W: Write, T: Hexadecimal>(printing: &mut Printing<W>, items: &[T]) {
-    for piece in items.chunks(1024) {
+fn print_line<W: Write, T: Hexadecimal<PIECE>, const PIECE: usize>(
+    printing: &mut Printing<W>,
+    items: &[T],
+)
+    requires { 0 < PIECE }
+{
+    for piece in items.chunks(PIECE) {
         print_piece(printing, piece);
     }
     printing.print(b"\n");
@@ -274,10 +282,13 @@ fn key_call<W: Write>(
     Ok(print_call(printing, held.lent, reply, parts))
 }
 
-// The pattern over and over.
-fn fill(bytes: &mut [u8], pattern: &[u8]) {
-    for (byte, from) in bytes.iter_mut().zip(pattern.iter().cycle()) {
-        *byte = *from;
+// The pattern over and over: a copy for each time, since one byte after another through `cycle` takes longer.
+fn fill(bytes: &mut [u8], pattern: &[u8])
+    requires { 0 < length pattern.now }
+{
+    for part in bytes.chunks_mut(pattern.len()) {
+        let count = part.len().min(pattern.len());
+        part[..count].copy_from_slice(&pattern[..count]);
     }
 }
 

@@ -87,9 +87,7 @@ pub fn put_hex_pair(text: &mut [u8], at: usize, number: u16) -> usize
     requires { at + 4 ≤ length text.old }
     ensures { Wrote at (hex_pair number) text.old result text.new }
 {
-    let [high, low] = number.to_be_bytes();
-    let next = put_hex_byte(text, at, high);
-    put_hex_byte(text, next, low)
+    put_hex(text, at, &number.to_be_bytes())
 }
 
 // Four digits for each number.

@@ -29,21 +29,27 @@ struct Reading {
     digits: usize,
 }
 
-// The rooms that a session is held and printed in: the line being read, the page, the output and the text of a call.
+// The rooms that a session is held in: the line being read, the page and the output. (The text of a call or a dump is
+// lent beside them: out of one struct into the same one the compiler writes digit by digit, and else many at a time.)
 #[derive(Drop)]
 struct Rooms {
     line: [u8; 512],
     characters: [u8; 7680],
     marks: [Mark; 7680],
     out: [u8; 65536],
-    text: [u8; 131087],
 }
+
+// The room for the text of a call or a dump.
+type Text = [u8; 131087];
 
 // The session's terminal, drawn as text; nothing without a session. The two tests give what `draw` asks for, and the
 // state of every session passes them.
-fn show<W: Write>(printing: &mut Printing<W>, held: Option<Held>, rooms: &mut Rooms)
-    ensures { rooms.new ≡ record rooms.old { text = rooms.new.text } }
-{
+fn show<W: Write>(
+    printing: &mut Printing<W>,
+    held: Option<Held>,
+    rooms: &Rooms,
+    text: &mut Text,
+) {
     let Some(Held { state, .. }) = held else {
         return;
     };
@@ -58,10 +64,10 @@ fn show<W: Write>(printing: &mut Printing<W>, held: Option<Held>, rooms: &mut Ro
         state,
         &rooms.characters[..cells],
         &rooms.marks[..cells],
-        &mut rooms.text,
+        text,
         0,
     );
-    printing.print(&rooms.text[..end]);
+    printing.print(&text[..end]);
 }
 
 // A finished line: its frame's calls, and what each prints. The session is then the definition's. The clause on the
@@ -70,6 +76,7 @@ fn do_calls<W: Write>(
     printing: &mut Printing<W>,
     held: Option<Held>,
     rooms: &mut Rooms,
+    text: &mut Text,
     digits: usize,
 ) -> Option<Held>
     ensures line_len { length rooms.new.line ≡ 512 }
@@ -89,9 +96,9 @@ fn do_calls<W: Write>(
             &mut rooms.characters,
             &mut rooms.marks,
             &mut rooms.out,
-            &mut rooms.text,
+            text,
         );
-        printing.print(&rooms.text[..printed.end]);
+        printing.print(&text[..printed.end]);
         here = printed.held;
         let Some(rest) = printed.rest else {
             return here;
@@ -106,6 +113,7 @@ fn do_line<W: Write>(
     printing: &mut Printing<W>,
     held: Option<Held>,
     rooms: &mut Rooms,
+    text: &mut Text,
     digits: usize,
     dumping: bool,
 ) -> Option<Held>
@@ -114,58 +122,54 @@ fn do_line<W: Write>(
         ≡ (line_done (line_in rooms.old.line digits)
         (session_in held rooms.old.characters rooms.old.marks)).after }
 {
-    let after = do_calls(printing, held, rooms, digits);
+    let after = do_calls(printing, held, rooms, text, digits);
     if dumping {
-        show(printing, after, rooms);
+        show(printing, after, rooms, text);
     }
     after
 }
 
-// Where the line so far and the session are held, they are held after the byte too.
+// Where the line so far and the session are held, they are held after the byte too. (What is read is lent, here and
+// below: handed over for each byte, the session would be copied for each.)
 fn take_byte<W: Write>(
     printing: &mut Printing<W>,
-    reading: Reading,
+    reading: &mut Reading,
     byte: u8,
     rooms: &mut Rooms,
+    text: &mut Text,
     dumping: bool,
-) -> Reading
+)
     ensures { (read : SoFar) →
-        Holds read reading.held reading.digits
+        Holds read reading.old.held reading.old.digits
         rooms.old.line rooms.old.characters rooms.old.marks →
-        Holds (after_byte byte read) result.held result.digits
+        Holds (after_byte byte read) reading.new.held reading.new.digits
         rooms.new.line rooms.new.characters rooms.new.marks }
 {
-    let Reading { held, digits } = reading;
     if byte != NEW_LINE {
-        return Reading {
-            held,
-            digits: frames::collect(&mut rooms.line, digits, byte),
-        };
+        reading.digits = frames::collect(&mut rooms.line, reading.digits, byte);
+        return;
     }
-    Reading {
-        held: do_line(printing, held, rooms, digits, dumping),
-        digits: 0,
-    }
+    reading.held = do_line(printing, reading.held, rooms, text, reading.digits, dumping);
+    reading.digits = 0;
 }
 
 fn take_bytes<W: Write>(
     printing: &mut Printing<W>,
-    reading: Reading,
+    reading: &mut Reading,
     bytes: &[u8],
     rooms: &mut Rooms,
+    text: &mut Text,
     dumping: bool,
-) -> Reading
+)
     ensures { (read : SoFar) →
-        Holds read reading.held reading.digits
+        Holds read reading.old.held reading.old.digits
         rooms.old.line rooms.old.characters rooms.old.marks →
-        Holds (after_bytes bytes.now read) result.held result.digits
+        Holds (after_bytes bytes.now read) reading.new.held reading.new.digits
         rooms.new.line rooms.new.characters rooms.new.marks }
 {
-    let mut here = reading;
     for &byte in bytes {
-        here = take_byte(printing, here, byte, rooms, dumping);
+        take_byte(printing, reading, byte, rooms, text, dumping);
     }
-    here
 }
 
 // A last line that lacks its 0A counts.
@@ -173,10 +177,11 @@ fn end_input<W: Write>(
     printing: &mut Printing<W>,
     reading: Reading,
     rooms: &mut Rooms,
+    text: &mut Text,
     dumping: bool,
 ) {
     if reading.digits != 0 {
-        do_line(printing, reading.held, rooms, reading.digits, dumping);
+        do_line(printing, reading.held, rooms, text, reading.digits, dumping);
     }
 }
 
@@ -185,6 +190,7 @@ fn read_all<R: Read, W: Write>(
     printing: &mut Printing<W>,
     input: &mut [u8],
     rooms: &mut Rooms,
+    text: &mut Text,
     dumping: bool,
 ) -> io::Result<()> {
     let mut here = Reading {
@@ -194,10 +200,10 @@ fn read_all<R: Read, W: Write>(
     for _ in 0..MOST_READS {
         let count = from.read(input)?;
         if count == 0 {
-            end_input(printing, here, rooms, dumping);
+            end_input(printing, here, rooms, text, dumping);
             return printing.done;
         }
-        here = take_bytes(printing, here, &input[..count], rooms, dumping);
+        take_bytes(printing, &mut here, &input[..count], rooms, text, dumping);
         printing.done?;
     }
     Ok(())
@@ -210,8 +216,8 @@ fn main(rt: HostRuntime) -> io::Result<()> {
         characters: [0; 7680],
         marks: [0; 7680],
         out: [0; 65536],
-        text: [0; 131087],
     };
+    let mut text = [0u8; 131087];
     let mut word = [0u8; 4096];
     let dumping = rt.arg(1, &mut word).is_ok();
     let mut printing = Printing {
@@ -223,6 +229,7 @@ fn main(rt: HostRuntime) -> io::Result<()> {
         &mut printing,
         &mut input,
         &mut rooms,
+        &mut text,
         dumping,
     )
 }

@@ -13,4 +13,4 @@ pub loop-preserved : goal.loop-preserved
 loop-preserved g c =
     let part = take c.in_ok-count.count c.read.new.buf in
     let same = c.loop.invariant in
-    (same.0 ++ part, rw (read_in_parts same.0 part none_so_far) (c.take_bytes-here.ensures _ same.1))
+    (same.0 ++ part, rw (read_in_parts same.0 part none_so_far) (c.take_bytes.ensures _ same.1))

@@ -23,7 +23,7 @@ draw-end-requires g c =
     let cells = state.size.rows * state.size.columns in
     let characters = page_length state listed is c.args.rooms.now.characters (search rules) in
     let marks = page_length state listed is c.args.rooms.now.marks (search rules) in
-    let long : length c.args.rooms.now.text ≡ 131087 = search rules in
+    let long : length c.args.text.now ≡ 131087 = search rules in
     let text = text_fits state listed is (take cells c.args.rooms.now.characters) (take cells c.args.rooms.now.marks) characters marks in
     record { five_digits_each = five_digits state listed is; characters_len = (characters, marks); marks_in_bounds = omega (arith, text, long) }
 

@@ -9,7 +9,7 @@ loop-byte-init g c = λ read holds. holds
 
 pub loop-byte-preserved : goal.loop-byte-preserved
 loop-byte-preserved g c = λ read holds.
-    rw (next_byte c.args.bytes.now c.loop-byte.byte-index read c.loop-byte-test.true) (c.take_byte-here.ensures _ (c.loop-byte.invariant read holds))
+    rw (next_byte c.args.bytes.now c.loop-byte.byte-index read c.loop-byte-test.true) (c.take_byte.ensures _ (c.loop-byte.invariant read holds))
 
 pub returns : goal.returns
 returns g c = λ read holds.

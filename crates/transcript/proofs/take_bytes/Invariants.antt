@@ -7,7 +7,7 @@ use Rattle.transcript.proofs.take_bytes.Given as goal
 abbrev pub invariant-loop-byte : goal.invariant-loop-byte
 invariant-loop-byte g l =
     (read : SoFar) →
-    Holds read l.initial.here.held l.initial.here.digits
+    Holds read l.initial.reading.held l.initial.reading.digits
     l.initial.rooms.line l.initial.rooms.characters l.initial.rooms.marks →
-    Holds (after_bytes (take l.byte-index l.bytes) read) l.here.held l.here.digits
+    Holds (after_bytes (take l.byte-index l.bytes) read) l.reading.held l.reading.digits
     l.rooms.line l.rooms.characters l.rooms.marks
