@@ -55,12 +55,11 @@ struct Reading {
     digits: usize,
 }
 
-// The characters and marks that are kept, and the room for an output.
+// The characters and marks that are kept.
 #[derive(Drop)]
 struct Parts {
     characters: [u8; 8192],
     marks: [Mark; 8192],
-    out: [u8; 65536],
 }
 
 // Two bytes of a frame, and four, the high byte first.
@@ -131,7 +130,11 @@ fn print_number<W: Write>(printing: &mut Printing<W>, number: usize) {
 fn count_changed(past: &[u8]) -> usize
     ensures { result ≤ length past.now }
 {
-    past.iter().filter(|byte| **byte != FILLED).count()
+    let mut changed = 0;
+    for byte in past {
+        changed += usize::from(*byte != FILLED);
+    }
+    changed
 }
 
 fn print_changed<W: Write>(printing: &mut Printing<W>, changed: usize)
@@ -160,8 +163,9 @@ fn print_call<W: Write>(
     lent: Lent,
     reply: Reply,
     parts: &Parts,
+    out: &[u8; MOST_ROOM],
 ) -> Held {
-    let out = &parts.out[..lent.room];
+    let out = &out[..lent.room];
     let sent = reply.sent.min(out.len());
     print_piece(printing, &[terminal::number_of(reply.answer)]);
     print_number(printing, reply.taken);
@@ -201,7 +205,7 @@ impl Held {
         characters: &mut [u8; 8192],
         marks: &mut [Mark; 8192],
         bytes: &[u8],
-        out: &mut [u8; 65536],
+        out: &mut [u8; MOST_ROOM],
     ) -> Reply {
         terminal::host(
             self.state,
@@ -217,7 +221,7 @@ impl Held {
         characters: &mut [u8; 8192],
         marks: &mut [Mark; 8192],
         number: u32,
-        out: &mut [u8; 65536],
+        out: &mut [u8; MOST_ROOM],
     ) -> Reply {
         terminal::key(
             self.state,
@@ -229,7 +233,7 @@ impl Held {
     }
 }
 
-// Here and in the next two the output is filled before the call, and so only on lines that make one.
+// Here and in the next two the output is made for the call: other lines have none.
 fn start_call<W: Write>(
     printing: &mut Printing<W>,
     held: Held,
@@ -241,9 +245,8 @@ fn start_call<W: Write>(
     }
     let rows = two(frame, 1);
     let columns = two(frame, 3);
-    parts.out.fill(FILLED);
     let reply = held.start(rows, columns, &mut parts.characters, &mut parts.marks);
-    Ok(print_call(printing, held.lent, reply, parts))
+    Ok(print_call(printing, held.lent, reply, parts, &[FILLED; MOST_ROOM]))
 }
 
 fn host_call<W: Write>(
@@ -252,14 +255,9 @@ fn host_call<W: Write>(
     bytes: &[u8],
     parts: &mut Parts,
 ) -> Held {
-    parts.out.fill(FILLED);
-    let reply = held.host(
-        &mut parts.characters,
-        &mut parts.marks,
-        bytes,
-        &mut parts.out,
-    );
-    print_call(printing, held.lent, reply, parts)
+    let mut out = [FILLED; MOST_ROOM];
+    let reply = held.host(&mut parts.characters, &mut parts.marks, bytes, &mut out);
+    print_call(printing, held.lent, reply, parts, &out)
 }
 
 fn key_call<W: Write>(
@@ -272,14 +270,9 @@ fn key_call<W: Write>(
         return Err(Refused);
     }
     let number = four(frame, 1);
-    parts.out.fill(FILLED);
-    let reply = held.key(
-        &mut parts.characters,
-        &mut parts.marks,
-        number,
-        &mut parts.out,
-    );
-    Ok(print_call(printing, held.lent, reply, parts))
+    let mut out = [FILLED; MOST_ROOM];
+    let reply = held.key(&mut parts.characters, &mut parts.marks, number, &mut out);
+    Ok(print_call(printing, held.lent, reply, parts, &out))
 }
 
 // The pattern over and over: a copy for each time, since one byte after another through `cycle` takes longer.
@@ -524,7 +517,6 @@ fn main(rt: HostRuntime) -> io::Result<()> {
     let mut parts = Parts {
         characters: [0; 8192],
         marks: [0; 8192],
-        out: [FILLED; 65536],
     };
     let mut printing = Printing {
         to: rt.stdout(),

@@ -53,7 +53,8 @@ pub const LENGTH: usize = 195;
 fn two_bytes(number: usize) -> u16
     ensures { result ≡ number % 65536 }
 {
-    (number % 65536) as u16
+    let [low, high, ..] = number.to_le_bytes();
+    u16::from_le_bytes([low, high])
 }
 
 // The bytes before the arguments and the tab stops.
