@@ -5,7 +5,9 @@ set -u
 named=$(mktemp) || exit 2
 trap 'rm -f "$named"' EXIT
 grep -ohE '`[^` ]+`' docs/*.md README.md | tr -d '`' | sort -u >"$named"
-found=$(find crates -path '*/out' -prune -o \( -name '*.antt' -o -name '*.rt' \) -print | sort | xargs awk -v named="$named" '
+# unused FOLDER: what stands unused in its crates
+unused() (
+cd "$1" && find crates -path '*/out' -prune -o \( -name '*.antt' -o -name '*.rt' \) -print | sort | xargs awk -v named="$named" '
     BEGIN { while ((getline name < named) > 0) told[name] = 1 }
     # a name stands in a text if it does as a whole, or all the words of an operator do
     function stands(name, text,    parts, n, i) {
@@ -64,5 +66,17 @@ found=$(find crates -path '*/out' -prune -o \( -name '*.antt' -o -name '*.rt' \)
         for (name in place)
             if (!stands(name, "") && !(name in told) && name !~ /_spec$/ && place[name] !~ /(Examples|Worked|Wrong[A-Za-z]*)\.antt$/)
                 printf "%s: %s is used nowhere\n", place[name], name
-    }' | sort)
+    }' | sort
+)
+
+# the look itself: a law is no use of itself, also by a clause with an argument in braces; `{page = ..}` defines nothing
+made=$(mktemp -d) || exit 2
+trap 'rm -rf "$named" "$made"' EXIT
+mkdir -p "$made/crates/made/proofs"
+printf '%s\n' 'pub nobody_asks : {n : ℕ} → n ≡ n' 'nobody_asks {n} = refl' '' 'pub asked : (n : ℕ) → n ≡ n' 'asked n = refl' '' \
+    'made_spec : ℕ → Type 0' 'made_spec n =' '    asked _ {page = n}' >"$made/crates/made/proofs/Laws.antt"
+told=$(unused "$made")
+[ "$told" = 'crates/made/proofs/Laws.antt: nobody_asks is used nowhere' ] || { printf 'this test no longer sees what it is for: %s\n' "$told"; exit 1; }
+
+found=$(unused .)
 [ -z "$found" ] || { printf '%s\n' "$found"; exit 1; }
