@@ -1,5 +1,6 @@
-use mathlib.Core.Path.{◌≡◌, sym, ◌∙◌}
-use mathlib.Core.Bool.{false, not}
+use mathlib.Core.Path.{sym, ap, ◌∙◌}
+use mathlib.Core.Bool.{not}
+use Prim.Native.Nat.{ℕ}
 use lib.Dec.{eqb}
 use mathlib.Core.Logic.{inl, inr}
 use native.Mathlib.Omega.{arith}
@@ -14,7 +15,7 @@ returns-then-is_unprotected c =
       | then-cell-ne0 w ↦
           c.is_unprotected-then-is_unprotected.ensures
           ∙ sym (joined_if_unprotected _ _ (omega arith) (sym w.is_unprotected.ensures ∙ sym w.value-is ∙ c.if-is_unprotected.true))
-      | else-cell-ne0 w ↦ let first : not (eqb c.args.cell 0) ≡ false = rw w.if-cell-ne0.false in
+      | else-cell-ne0 w ↦ let first = ap (λ (k : ℕ). not (eqb k 0)) w.if-cell-ne0.false in
           absurd (not_both c.if-is_unprotected.true (w.value-is ∙ first))
     ]
 
@@ -24,5 +25,5 @@ returns-else-is_unprotected c =
       | then-cell-ne0 w ↦
           c.if-is_unprotected.false
           ∙ sym (are_apart _ _ (inr (inl (sym w.is_unprotected.ensures ∙ sym w.value-is ∙ c.if-is_unprotected.false))))
-      | else-cell-ne0 w ↦ c.if-is_unprotected.false ∙ sym (are_apart _ _ (inl w.if-cell-ne0.false))
+      | else-cell-ne0 w ↦ c.if-is_unprotected.false ∙ sym (are_apart _ _ (inl (omega arith)))
     ]

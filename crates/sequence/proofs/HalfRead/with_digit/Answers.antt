@@ -1,3 +1,4 @@
+use native.Mathlib.Omega.{arith}
 use Rattle.words.proofs.Choosing.{tests}
 use Rattle.sequence.specs.Record.{with_digit}
 use Rattle.sequence.proofs.HalfRead.with_digit.Goals as goal
@@ -8,8 +9,8 @@ returns-then-self c = search tests
 
 pub returns-then-value-gt9999 : goal.returns-then-value-gt9999
 unfolding with_digit
-returns-then-value-gt9999 c = let large = rw (c.from.ensures, c.from-2.ensures, c.from-last.ensures) at c.if-value-gt9999.true in search tests
+returns-then-value-gt9999 c = search (arith, tests)
 
 pub returns : goal.returns
 unfolding with_digit
-returns c = let small = rw (c.from.ensures, c.from-2.ensures, c.from-last.ensures) at c.if-value-gt9999.false in rw (c.from.ensures, c.from-2.ensures, c.from-last.ensures) (search tests)
+returns c = rw (c.from.ensures, c.from-2.ensures, c.from-last.ensures) (search (arith, tests))
