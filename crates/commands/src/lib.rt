@@ -262,13 +262,16 @@ pub fn heavy_step(
         (terminal_of before characters.old marks.old)
         (event_step half event (terminal_of state characters.old marks.old)) }
 {
-    match event {
-        Event::Text(character) => Ok(text(state, characters, marks, character)),
-        Event::Control(code) => Ok(control(state, characters, marks, code)),
-        Event::EscCommand(letter) => esc_step(state, characters, marks, out, at, letter),
-        Event::BracketCommand(letter) => bracket_step(
-            state, half, characters, marks, out, at, letter,
-        ),
+    let step = match event {
+        Event::Text(character) => text(state, characters, marks, character),
+        Event::Control(code) => control(state, characters, marks, code),
+        Event::EscCommand(letter) => {
+            return esc_step(state, characters, marks, out, at, letter);
+        }
+        Event::BracketCommand(letter) => {
+            return bracket_step(state, half, characters, marks, out, at, letter);
+        }
         Event::Nothing | Event::PrivateCommand(_) | Event::Refused(_, _) => unreachable!(), // these are light
-    }
+    };
+    Ok(step)
 }

@@ -60,14 +60,13 @@ pub fn put_byte(out: &mut [u8], at: usize, byte: u8) -> usize
     at + 1
 }
 
-// The bytes as they are.
+// The bytes as they are. Byte by byte, and not by copy_from_slice: that calls memmove, deep in what C has little stack
+// for.
 pub fn put_all(out: &mut [u8], at: usize, bytes: &[u8]) -> usize
     requires { at + length bytes.now ≤ length out.old }
     ensures { Wrote at bytes.now out.old result out.new }
 {
-    let next = at + bytes.len();
-    out[at..next].copy_from_slice(bytes);
-    next
+    put_each(out, at, bytes, put_byte)
 }
 
 // Each item in its turn, as `put` writes one.

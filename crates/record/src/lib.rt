@@ -201,10 +201,18 @@ pub fn same_bytes(one: &[u8], other: &[u8]) -> bool
     one == other
 }
 
+// Whether bytes are the record of a state. Never inlined: so the record takes no stack while `is_good` reads the state.
+#[inline(never)]
+fn is_record_of(bytes: &[u8], state: State) -> bool
+    ensures { result ≡ same_bytes bytes.now (record_of state) }
+{
+    let again = record_of(state);
+    same_bytes(bytes, &again)
+}
+
 // Whether bytes are the record of the state that they say: read, written again, compared.
 pub fn is_good(bytes: &[u8]) -> bool
     ensures { result ≡ is_good bytes.now }
 {
-    let again = record_of(state_in(bytes));
-    same_bytes(bytes, &again)
+    is_record_of(bytes, state_in(bytes))
 }

@@ -8,8 +8,8 @@ use Rattle.commands.proofs.Silent.{text_silent, control_silent}
 use Rattle.commands.proofs.heavy_step.Goals as goal
 
 -- What a called function asks of the byte: the event is not light.
-pub control-requires : goal.control-requires
-control-requires c = record { valid = c.requires.valid; byte_value = ap (is_light _ _) (sym c.in-Control.is) ∙ c.requires.at_in_bounds.1 }
+pub control-step-requires : goal.control-step-requires
+control-step-requires c = record { valid = c.requires.valid; byte_value = ap (is_light _ _) (sym c.in-Control.is) ∙ c.requires.at_in_bounds.1 }
 
 pub esc_step-requires : goal.esc_step-requires
 esc_step-requires c = record { valid = c.requires.valid; at_in_bounds = (c.requires.at_in_bounds.0, ap (is_light _ _) (sym c.in-EscCommand.is) ∙ c.requires.at_in_bounds.1) }
@@ -22,13 +22,13 @@ pub returns-in-Text : goal.returns-in-Text
 unfolding event_step
 returns-in-Text c =
     λ before. rw c.in-Text.is
-    (told_silent _ _ _ _ _ _ c.text.ensures (text_silent _ _))
+    (told_silent _ _ _ _ _ _ c.text-step.ensures (text_silent _ _))
 
 pub returns-in-Control : goal.returns-in-Control
 unfolding event_step
 returns-in-Control c =
     λ before. rw c.in-Control.is
-    (told_silent _ _ _ _ _ _ c.control.ensures (control_silent _ _))
+    (told_silent _ _ _ _ _ _ c.control-step.ensures (control_silent _ _))
 
 pub returns-in-EscCommand : goal.returns-in-EscCommand
 unfolding event_step

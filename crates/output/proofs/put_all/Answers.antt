@@ -1,16 +1,8 @@
-use mathlib.Core.Path.{refl}
-use Prim.Native.Nat.{◌+◌, ◌≤◌}
-use native.Mathlib.Omega.{arith}
-use borrow.Rule.Slice.PartMut.{Post-is}
-use lib.ListN.{length}
-use Rattle.words.specs.Output.{placed}
+use mathlib.Core.List.{flat_map}
+use Rattle.std.proofs.lemmas.List.Concat.{flat_map_single}
+use Rattle.std.proofs.lemmas.List.{map-id}
 use Rattle.output.proofs.put_all.Goals as goal
 
 pub returns : goal.returns
-unfolding placed
-returns c =
-    let ends : c.args.at ≤ c.args.at + length c.args.bytes.now = omega arith in
-    record {
-      next_is = refl;
-      left = rw (c.copy_from_slice.ensures.after, Post-is c.args.at (c.args.at + length c.args.bytes.now) c.args.out.now ends);
-    }
+unfolding flat_map
+returns c = rw (flat_map_single (λ byte. byte) c.args.bytes.now, map-id c.args.bytes.now) at c.put_each.ensures
