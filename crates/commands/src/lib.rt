@@ -262,6 +262,7 @@ pub fn heavy_step(
         (terminal_of before characters.old marks.old)
         (event_step half event (terminal_of state characters.old marks.old)) }
 {
+    // One `Ok` for what can't fail: each takes a state more of the stack.
     let step = match event {
         Event::Text(character) => text(state, characters, marks, character),
         Event::Control(code) => control(state, characters, marks, code),
