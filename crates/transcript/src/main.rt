@@ -44,12 +44,7 @@ type Text = [u8; 131087];
 
 // The session's terminal, drawn as text; nothing without a session. The two tests give what `draw` asks for, and the
 // state of every session passes them.
-fn show<W: Write>(
-    printing: &mut Printing<W>,
-    held: Option<Held>,
-    rooms: &Rooms,
-    text: &mut Text,
-) {
+fn show<W: Write>(printing: &mut Printing<W>, held: Option<Held>, rooms: &Rooms, text: &mut Text) {
     let Some(Held { state, .. }) = held else {
         return;
     };
